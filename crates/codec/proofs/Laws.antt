@@ -1,0 +1,79 @@
+-- Commands, dependencies and votes: what is written is read back, and what is read is written back. Assumes nothing.
+use mathlib.Core.Path.{_≡_, refl, sym, ap, _∙_}
+use mathlib.Core.List.{List, [], _∷_, _++_}
+use Prim.Native.Nat.{ℕ, zero, suc, _+_, _^_, _≤_, _<_}
+use native.Mathlib.Omega.{arith}
+use lib.ListN.{length, getD, take, drop}
+use Rattle.num.specs.Num.{numAt}
+use Rattle.num.specs.Fields.{sizeOf, fieldsAt, fieldsBytes, FieldsFit, entries}
+use Rattle.num.proofs.Fields.{fieldsAt-fieldsBytes, fieldsBytes-fieldsAt, entries-all}
+use Rattle.paper.specs.Command.{opNumber}
+use Rattle.paper.specs.declared.Op.{Op}
+use Rattle.paper.specs.declared.Op.the-variants.{Noop, Read, Write}
+use Rattle.paper.specs.declared.Command.{Command}
+use Rattle.paper.specs.declared.Vote.{Vote}
+use Rattle.codec.specs.Parts.{opOf, commandOf, commandNumbers, depsNumbers, voteOf, voteNumbers, voteWidths, voteAt, voteBytes}
+
+pub op-other : (b : ℕ) → (b ≡ 0 → ⊥) → (b ≡ 1 → ⊥) → Write ≡ opOf b
+op-other zero p q = absurd (p refl)
+op-other (suc zero) p q = absurd (q refl)
+op-other (suc (suc k)) p q = refl
+
+pub opOf-opNumber : (o : Op) → opOf (opNumber o) ≡ o
+opOf-opNumber Noop = refl
+opOf-opNumber Read = refl
+opOf-opNumber Write = refl
+
+pub opNumber-opOf : (x : ℕ) → x ≤ 2 → opNumber (opOf x) ≡ x
+opNumber-opOf zero h = refl
+opNumber-opOf (suc zero) h = refl
+opNumber-opOf (suc (suc zero)) h = refl
+opNumber-opOf (suc (suc (suc k))) h = absurd (omega arith)
+
+pub op-small : (o : Op) → opNumber o ≤ 2
+op-small Noop = omega arith
+op-small Read = omega arith
+op-small Write = omega arith
+
+-- what every command, list of dependencies and vote of the language's types satisfies
+pub record CommandFits (c : Command) : Type 0 where
+  pub key : c .key < 256 ^ 4
+  pub edit : c .edit < 256 ^ 8
+
+pub record DepsFit (d : List ℕ) : Type 0 where
+  pub seven : length d ≡ 7
+  pub each : (i : ℕ) → getD d i 0 < 256 ^ 2
+
+pub record VoteFits (v : Vote) : Type 0 where
+  pub voted : v .voted < 256 ^ 4
+  pub status : v .status < 256
+  pub command : CommandFits (v .command)
+  pub deps : DepsFit (v .deps)
+
+-- a command is made of its numbers, and so are a list of dependencies and a vote
+pub command-is : (c : Command) → commandOf (commandNumbers c) ≡ c
+command-is c = rw (opOf-opNumber (c .op))
+
+pub deps-are : (d : List ℕ) → DepsFit d → depsNumbers d ≡ d
+deps-are d f = entries-all 7 d (f .seven)
+
+pub vote-is : (v : Vote) → VoteFits v → voteOf (voteNumbers v) ≡ v
+vote-is v f = rw (opOf-opNumber (v .command .op), deps-are (v .deps) (f .deps))
+
+pub voteNumbers-fit : (v : Vote) → VoteFits v → FieldsFit voteWidths (voteNumbers v)
+voteNumbers-fit v f =
+    let e = f .deps .each in
+    (f .voted, (omega (arith, f .status), (omega (arith, op-small (v .command .op)), (f .command .key, (f .command .edit, (e 0, (e 1, (e 2, (e 3, (e 4, (e 5, (e 6, tt))))))))))))
+
+-- a vote that was written is read back, wherever it stands
+pub voteAt-voteBytes : (v : Vote) (p q : List ℕ) (at : ℕ) → length p ≡ at → VoteFits v → voteAt (p ++ (voteBytes v ++ q)) at ≡ v
+unfolding voteAt voteBytes
+voteAt-voteBytes v p q at e f = ap voteOf (fieldsAt-fieldsBytes voteWidths (voteNumbers v) p q at e (voteNumbers-fit v f)) ∙ vote-is v f
+
+-- a vote that was read is written back, where its op byte is a number of an op
+pub voteBytes-voteAt : (s : List ℕ) (at : ℕ) → ((i : ℕ) → getD s i 0 < 256) → at + 32 ≤ length s → numAt 1 s (at + 5) ≤ 2
+    → voteBytes (voteAt s at) ≡ take 32 (drop at s)
+unfolding voteAt voteBytes
+voteBytes-voteAt s at b h o =
+    let e : at + 5 ≡ at + 4 + 1 = omega arith in
+    rw (opNumber-opOf (numAt 1 s (at + 4 + 1)) (rw e at o)) (fieldsBytes-fieldsAt voteWidths s at b h)

@@ -1,0 +1,117 @@
+// A command, dependencies and a vote in lent bytes, at an offset.
+use paper::Command;
+use paper::Op;
+use paper::Vote;
+ghost use mathlib.Core.Path.{_≡_};
+ghost use Prim.Native.Nat.{_+_, _≤_};
+ghost use lib.ListN.{length};
+ghost use Rattle.num.specs.Num.{splice};
+ghost use Rattle.paper.specs.Command.{opNumber};
+ghost use Rattle.codec.specs.Parts.{opOf, commandAt, depsAt, voteAt, commandBytes, depsBytes, voteBytes};
+
+pub fn op_of(b: u8) -> Op
+    ensures { λ r. ⌜ r ≡ opOf b ⌝ }
+{
+    match b {
+        0 => Op::Noop,
+        1 => Op::Read,
+        _ => Op::Write,
+    }
+}
+
+pub fn op_byte(op: Op) -> u8
+    ensures { λ r. ⌜ r ≡ opNumber op ⌝ }
+{
+    match op {
+        Op::Noop => 0,
+        Op::Read => 1,
+        Op::Write => 2,
+    }
+}
+
+pub fn read_command(s: &[u8], at: usize) -> Command
+    requires { ⌜ at + 13 ≤ length (now s) ⌝ }
+    ensures { λ r. ⌜ r ≡ commandAt (now (s .entry)) at ⌝ }
+{
+    let a1 = at + 1;
+    let a2 = a1 + 4;
+    let op = op_of(num::get_u8(s, at));
+    let key = num::get_u32(s, a1);
+    let edit = num::get_u64(s, a2);
+    Command { op, key, edit }
+}
+
+pub fn read_deps(s: &[u8], at: usize) -> [u16; 7]
+    requires { ⌜ at + 14 ≤ length (now s) ⌝ }
+    ensures { λ r. ⌜ r ≡ depsAt (now (s .entry)) at ⌝ }
+{
+    let a1 = at + 2;
+    let a2 = a1 + 2;
+    let a3 = a2 + 2;
+    let a4 = a3 + 2;
+    let a5 = a4 + 2;
+    let a6 = a5 + 2;
+    let d0 = num::get_u16(s, at);
+    let d1 = num::get_u16(s, a1);
+    let d2 = num::get_u16(s, a2);
+    let d3 = num::get_u16(s, a3);
+    let d4 = num::get_u16(s, a4);
+    let d5 = num::get_u16(s, a5);
+    let d6 = num::get_u16(s, a6);
+    [d0, d1, d2, d3, d4, d5, d6]
+}
+
+pub fn read_vote(s: &[u8], at: usize) -> Vote
+    requires { ⌜ at + 32 ≤ length (now s) ⌝ }
+    ensures { λ r. ⌜ r ≡ voteAt (now (s .entry)) at ⌝ }
+{
+    let a1 = at + 4;
+    let a2 = a1 + 1;
+    let a3 = a2 + 13;
+    let voted = num::get_u32(s, at);
+    let status = num::get_u8(s, a1);
+    let command = read_command(s, a2);
+    let deps = read_deps(s, a3);
+    Vote {
+        voted,
+        status,
+        command,
+        deps,
+    }
+}
+
+pub fn write_command(s: &mut [u8], at: usize, c: Command)
+    requires { ⌜ at + 13 ≤ length (now s) ⌝ }
+    ensures { λ _. ⌜ now (s .exit) ≡ splice (now (s .entry)) at (commandBytes c) ⌝ }
+{
+    let op = c.op;
+    let b = op_byte(op);
+    num::put_u8(&mut *s, at, b);
+    num::put_u32(&mut *s, at + 1, c.key);
+    num::put_u64(&mut *s, at + 5, c.edit);
+}
+
+pub fn write_deps(s: &mut [u8], at: usize, d: [u16; 7])
+    requires { ⌜ at + 14 ≤ length (now s) ⌝ }
+    ensures { λ _. ⌜ now (s .exit) ≡ splice (now (s .entry)) at (depsBytes d) ⌝ }
+{
+    num::put_u16(&mut *s, at, d[0]);
+    num::put_u16(&mut *s, at + 2, d[1]);
+    num::put_u16(&mut *s, at + 4, d[2]);
+    num::put_u16(&mut *s, at + 6, d[3]);
+    num::put_u16(&mut *s, at + 8, d[4]);
+    num::put_u16(&mut *s, at + 10, d[5]);
+    num::put_u16(&mut *s, at + 12, d[6]);
+}
+
+pub fn write_vote(s: &mut [u8], at: usize, v: Vote)
+    requires { ⌜ at + 32 ≤ length (now s) ⌝ }
+    ensures { λ _. ⌜ now (s .exit) ≡ splice (now (s .entry)) at (voteBytes v) ⌝ }
+{
+    let command = v.command;
+    let deps = v.deps;
+    num::put_u32(&mut *s, at, v.voted);
+    num::put_u8(&mut *s, at + 4, v.status);
+    write_command(&mut *s, at + 5, command);
+    write_deps(&mut *s, at + 18, deps);
+}

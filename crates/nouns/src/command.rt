@@ -1,0 +1,43 @@
+use crate::logic::both;
+use crate::logic::equal;
+use crate::logic::equal64;
+use crate::logic::implied;
+use crate::logic::wide32;
+use paper::Command;
+use paper::Op;
+ghost use mathlib.Core.Path.{_≡_};
+ghost use Rattle.paper.specs.Command.{opNumber, isNoop, sameCommand, commandOk};
+
+pub fn op_number(op: Op) -> usize
+    ensures { λ r. ⌜ r ≡ opNumber op ⌝ }
+{
+    match op {
+        Op::Noop => 0,
+        Op::Read => 1,
+        Op::Write => 2,
+    }
+}
+
+pub fn is_noop(c: Command) -> bool
+    ensures { λ r. ⌜ r ≡ isNoop c ⌝ }
+{
+    let op = c.op;
+    equal(op_number(op), 0)
+}
+
+pub fn same_command(a: Command, b: Command) -> bool
+    ensures { λ r. ⌜ r ≡ sameCommand a b ⌝ }
+{
+    let x = a.op;
+    let y = b.op;
+    let op = equal(op_number(x), op_number(y));
+    let key = equal(wide32(a.key), wide32(b.key));
+    both(both(op, key), equal64(a.edit, b.edit))
+}
+
+pub fn command_ok(c: Command) -> bool
+    ensures { λ r. ⌜ r ≡ commandOk c ⌝ }
+{
+    let zero = both(equal(wide32(c.key), 0), equal64(c.edit, 0));
+    implied(is_noop(c), zero)
+}

@@ -1,0 +1,11 @@
+pub mod Logic
+pub mod Setup
+pub mod Instance
+pub mod Command
+pub mod Deps
+pub mod Ballot
+pub mod Vote
+pub mod Sound
+pub mod Message
+pub mod Valid
+pub mod Refusal

@@ -1,0 +1,75 @@
+// The paper's nouns as types. Their rules are the definitions under specs/; no code stands here.
+
+// What a command does.
+pub enum Op {
+    Noop,
+    Read,
+    Write,
+}
+
+pub struct Command {
+    pub op: Op,
+    pub key: u32,
+    pub edit: u64,
+}
+
+// What a copy voted for: the ballot it voted in, its status there, the command and its dependencies.
+// A record holds its copy's own vote; a collected reply is another copy's.
+pub struct Vote {
+    pub voted: u32,
+    pub status: u8,
+    pub command: Command,
+    pub deps: [u16; 7],
+}
+
+// The record of one instance.
+pub struct Record {
+    pub joined: u32,
+    pub vote: Vote,
+    pub mark: u8,
+    pub phase: u8,
+    pub set: u8,
+    pub replies: [Vote; 7],
+}
+
+// The eight kinds of message, each with its own body.
+pub enum Body {
+    PreAccept(Command),
+    PreAcceptOk,
+    Accept(Command),
+    AcceptOk,
+    Commit(Command),
+    Prepare,
+    PrepareOk {
+        voted: u32,
+        status: u8,
+        command: Command,
+    },
+    Nack(u32),
+}
+
+// A message. The dependencies stand beside the body, zero where the body carries none.
+pub struct Message {
+    pub from: u8,
+    pub to: u8,
+    pub owner: u8,
+    pub number: u16,
+    pub ballot: u32,
+    pub body: Body,
+    pub deps: [u16; 7],
+}
+
+// Why a call is refused, in the order in which the reasons are tried.
+pub enum Refusal {
+    Setup,
+    Unsound,
+    Room,
+    Message,
+    Op,
+    Instance,
+    Committed,
+    Idle,
+    Ballots,
+    Full,
+    Differs,
+}
