@@ -1,0 +1,212 @@
+//! Replays recorded runs from blank tables and compares every answer, every
+//! outgoing byte and every list; also that nothing else was touched.
+
+use second::{
+    blank_table, hand_out, judge_table, message, nudge, record_part, recover, request, settled,
+    table_len, Event, Settled,
+};
+use std::path::{Path, PathBuf};
+use std::process::ExitCode;
+
+/// Contents of lent memory before a call, to see what the call leaves alone.
+const UNTOUCHED: u8 = 0xa5;
+const ROOM: usize = 256;
+
+/// The copies of one run.
+struct Run {
+    n: usize,
+    s: usize,
+    tables: Vec<Vec<u8>>,
+}
+
+impl Run {
+    fn start(n: usize, s: usize) -> Result<Run, String> {
+        let mut tables = Vec::new();
+        for copy in 0..n {
+            let mut t = vec![UNTOUCHED; table_len(n, s)];
+            blank_table(&mut t, n, s, copy).map_err(|r| format!("no blank table: refused {r}"))?;
+            tables.push(t);
+        }
+        Ok(Run { n, s, tables })
+    }
+
+    /// The answer as the vectors write it, or what the call did wrong besides.
+    fn call(&mut self, words: &[&str]) -> Result<String, String> {
+        let copy: usize = number(words, 0)?;
+        let (n, s) = (self.n, self.s);
+        let t = self.tables.get_mut(copy).ok_or("no such copy")?;
+        let before = t.clone();
+        let mut out = [UNTOUCHED; ROOM];
+        let what = *words.get(1).ok_or("no call")?;
+        let wanted_words = if what == "request" { 5 } else if matches!(what, "message" | "handout") { 3 } else { 4 };
+        if words.len() != wanted_words {
+            return Err("wrong number of words".into());
+        }
+        let event = match what {
+            "request" => {
+                let (op, key, edit) = (number(words, 2)?, number(words, 3)?, number(words, 4)?);
+                request(t, n, s, copy, &mut out, op, key, edit)
+            }
+            "message" => message(t, n, s, copy, &mut out, &from_hex(words[2])?),
+            "recover" => recover(t, n, s, copy, &mut out, number(words, 2)?, number(words, 3)?),
+            "nudge" => nudge(t, n, s, copy, &mut out, number(words, 2)?, number(words, 3)?),
+            "settled" => {
+                return Ok(match settled(t, n, s, copy, number(words, 2)?, number(words, 3)?) {
+                    Ok(Settled::Command { op, key, edit }) => format!("settled {op} {key} {edit}"),
+                    Ok(Settled::Waits { owner, number }) => format!("waits {owner} {number}"),
+                    Err(r) => format!("refused {r}"),
+                })
+            }
+            "handout" => return handed_out(t, &before, n, s, copy, number(words, 2)?),
+            _ => return Err("unknown call".into()),
+        };
+        match event {
+            Err(r) => {
+                if *t != before || out != [UNTOUCHED; ROOM] {
+                    return Err(format!("refused {r} but lent memory changed"));
+                }
+                Ok(format!("refused {r}"))
+            }
+            Ok(Event { owner, number, written }) => {
+                let (at, len) = record_part(t, n, s, copy, owner, number);
+                if len == 0 || t[..at] != before[..at] || t[at + len..] != before[at + len..] {
+                    return Err("changed more than its record".into());
+                }
+                if out[written..].iter().any(|&b| b != UNTOUCHED) {
+                    return Err("wrote beyond what it says".into());
+                }
+                judge_table(t, n, s, copy).map_err(|r| format!("table then refused {r}"))?;
+                Ok(format!("event {owner} {number} {}", to_hex(&out[..written])))
+            }
+        }
+    }
+}
+
+fn handed_out(
+    t: &mut [u8],
+    before: &[u8],
+    n: usize,
+    s: usize,
+    copy: usize,
+    room: usize,
+) -> Result<String, String> {
+    let untouched = u16::from_le_bytes([UNTOUCHED, UNTOUCHED]);
+    let mut list = vec![untouched; room];
+    let count = match hand_out(t, n, s, copy, &mut list) {
+        Ok(count) => count,
+        Err(r) => return Ok(format!("refused {r}")),
+    };
+    if list[count..].iter().any(|&code| code != untouched) {
+        return Err("wrote beyond the listed codes".into());
+    }
+    let mut marked = before.to_vec();
+    for &code in &list[..count] {
+        let (at, _) = record_part(t, n, s, copy, (code / 256) as usize, (code % 256) as usize);
+        marked[at + 36] = 1;
+    }
+    if t != marked {
+        return Err("changed more than the marks".into());
+    }
+    judge_table(t, n, s, copy).map_err(|r| format!("table then refused {r}"))?;
+    let codes: String = list[..count].iter().map(|code| format!(" {code}")).collect();
+    Ok(format!("codes{codes}"))
+}
+
+fn number<T: std::str::FromStr>(words: &[&str], at: usize) -> Result<T, String> {
+    words.get(at).and_then(|w| w.parse().ok()).ok_or_else(|| format!("word {at} is no such number"))
+}
+
+fn from_hex(text: &str) -> Result<Vec<u8>, String> {
+    if text == "-" {
+        return Ok(Vec::new());
+    }
+    if !text.is_ascii() || text.len() % 2 != 0 {
+        return Err("bad hex".into());
+    }
+    (0..text.len())
+        .step_by(2)
+        .map(|i| u8::from_str_radix(&text[i..i + 2], 16).map_err(|_| "bad hex".to_string()))
+        .collect()
+}
+
+fn to_hex(bytes: &[u8]) -> String {
+    if bytes.is_empty() {
+        return "-".into();
+    }
+    bytes.iter().map(|b| format!("{b:02x}")).collect()
+}
+
+/// Calls compared and mismatches found in one file.
+fn replay(path: &Path) -> Result<(usize, usize), String> {
+    let text = std::fs::read_to_string(path).map_err(|e| e.to_string())?;
+    let (mut calls, mut mismatches) = (0, 0);
+    let mut run: Option<Run> = None;
+    let mut lines = text.lines().enumerate().map(|(i, line)| (i + 1, line.trim()));
+    while let Some((at, line)) = lines.next() {
+        if line.is_empty() {
+            continue;
+        }
+        let words: Vec<&str> = line.split_whitespace().collect();
+        if words[0] == "run" {
+            let started = number(&words, 1).and_then(|n| Run::start(n, number(&words, 2)?));
+            if let Err(wrong) = &started {
+                println!("{}:{at}: {line}: {wrong}", path.display());
+                mismatches += 1;
+            }
+            run = started.ok();
+            continue;
+        }
+        let wanted = lines.next().and_then(|(_, answer)| answer.strip_prefix('=')).map(str::trim);
+        let got = match &mut run {
+            Some(run) => run.call(&words),
+            None => Err("no run was started".into()),
+        };
+        calls += 1;
+        match (wanted, got) {
+            (Some(wanted), Ok(got)) if wanted == got => {}
+            (wanted, got) => {
+                mismatches += 1;
+                let wanted = wanted.unwrap_or("no answer line");
+                let got = got.unwrap_or_else(|wrong| format!("[{wrong}]"));
+                println!("{}:{at}: {line}\n  vector: {wanted}\n  second: {got}", path.display());
+            }
+        }
+    }
+    Ok((calls, mismatches))
+}
+
+fn main() -> ExitCode {
+    let Some(dir) = std::env::args().nth(1) else {
+        eprintln!("usage: replay DIR");
+        return ExitCode::from(2);
+    };
+    let mut files: Vec<PathBuf> = match std::fs::read_dir(&dir) {
+        Ok(entries) => entries.filter_map(|e| e.ok().map(|e| e.path())).collect(),
+        Err(e) => {
+            eprintln!("{dir}: {e}");
+            return ExitCode::from(2);
+        }
+    };
+    files.retain(|p| p.extension().is_some_and(|e| e == "txt"));
+    files.sort();
+    let (mut calls, mut mismatches) = (0, 0);
+    for path in &files {
+        match replay(path) {
+            Ok((c, m)) => {
+                println!("{}: {c} calls, {m} mismatches", path.display());
+                calls += c;
+                mismatches += m;
+            }
+            Err(e) => {
+                println!("{}: {e}", path.display());
+                mismatches += 1;
+            }
+        }
+    }
+    println!("{calls} calls, {mismatches} mismatches");
+    if mismatches > 0 {
+        ExitCode::FAILURE
+    } else {
+        ExitCode::SUCCESS
+    }
+}

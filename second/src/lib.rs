@@ -1,0 +1,21 @@
+//! One copy of a replicated edit log by basic Egalitarian Paxos, working in
+//! place on lent bytes. Written from the paper alone, to be compared with the
+//! proved library call by call.
+//!
+//! Without `std` there is no heap to reach for.
+#![no_std]
+#![forbid(unsafe_code)]
+
+mod bytes;
+pub mod events;
+pub mod message;
+pub mod order;
+pub mod refusal;
+pub mod rules;
+pub mod setup;
+pub mod table;
+
+pub use events::{message, nudge, recover, request, Event};
+pub use message::{read_message, write_message, Message};
+pub use order::{hand_out, settled, Settled};
+pub use table::{blank_table, judge_table, record_part, table_len};

@@ -1,0 +1,105 @@
+//! Commands, dependencies, ballots, and the small rules over them.
+
+use crate::bytes::{part_mut, u16_at, u32_at, u64_at};
+use crate::setup::{Setup, MAX_COPIES};
+use crate::table::{record_bytes, vote_bytes};
+
+pub type Deps = [u16; MAX_COPIES];
+
+pub const NO_OP: u8 = 0;
+pub const READ: u8 = 1;
+pub const WRITE: u8 = 2;
+
+pub const COMMAND_LEN: usize = 13;
+pub const DEPS_LEN: usize = 14;
+
+/// The default is the no-op.
+#[derive(Clone, Copy, Debug, Default, PartialEq, Eq)]
+pub struct Command {
+    pub op: u8,
+    pub key: u32,
+    pub edit: u64,
+}
+
+impl Command {
+    #[inline]
+    pub fn in_range(&self) -> bool {
+        self.op <= WRITE && (self.op != NO_OP || (self.key == 0 && self.edit == 0))
+    }
+
+    #[inline]
+    pub fn read(bytes: &[u8; COMMAND_LEN]) -> Command {
+        Command { op: bytes[0], key: u32_at(bytes, 1), edit: u64_at(bytes, 5) }
+    }
+
+    pub fn write(&self, bytes: &mut [u8; COMMAND_LEN]) {
+        bytes[0] = self.op;
+        *part_mut(bytes, 1) = self.key.to_le_bytes();
+        *part_mut(bytes, 5) = self.edit.to_le_bytes();
+    }
+}
+
+#[inline]
+pub fn read_deps(bytes: &[u8; DEPS_LEN]) -> Deps {
+    let mut deps = [0; MAX_COPIES];
+    for q in 0..MAX_COPIES {
+        deps[q] = u16_at(bytes, 2 * q);
+    }
+    deps
+}
+
+pub fn write_deps(deps: &Deps, bytes: &mut [u8; DEPS_LEN]) {
+    for q in 0..MAX_COPIES {
+        *part_mut(bytes, 2 * q) = deps[q].to_le_bytes();
+    }
+}
+
+/// Two commands interfere if neither is a no-op and their keys are equal.
+#[inline]
+pub fn interfere(a: &Command, b: &Command) -> bool {
+    a.op != NO_OP && b.op != NO_OP && a.key == b.key
+}
+
+/// Instance o.j with these dependencies covers p.i.
+pub fn covers(deps: &Deps, o: usize, j: usize, p: usize, i: usize) -> bool {
+    (o, j) != (p, i) && 1 <= i && i <= deps[p] as usize
+}
+
+/// The larger entry at each place.
+pub fn join(a: &Deps, b: &Deps) -> Deps {
+    let mut joined = *a;
+    for q in 0..MAX_COPIES {
+        joined[q] = joined[q].max(b[q]);
+    }
+    joined
+}
+
+/// The copy that leads a ballot of an instance of this owner.
+#[inline]
+pub fn lead(ballot: u32, owner: usize) -> usize {
+    if ballot == 0 {
+        owner
+    } else {
+        (ballot % 8) as usize
+    }
+}
+
+/// For each owner, the highest number of a record other than o.j with status
+/// at least 1 whose command interferes with this one.
+pub fn seen(setup: &Setup, table: &[u8], command: &Command, o: usize, j: usize) -> Deps {
+    let mut highest = [0; MAX_COPIES];
+    if command.op == NO_OP {
+        return highest;
+    }
+    for p in 0..setup.n {
+        for i in (1..=setup.s).rev() {
+            let vote = vote_bytes(record_bytes(table, setup, p, i));
+            let other = Command::read(crate::bytes::part(vote, 5));
+            if vote[4] >= 1 && interfere(command, &other) && (p, i) != (o, j) {
+                highest[p] = i as u16;
+                break;
+            }
+        }
+    }
+    highest
+}
