@@ -164,10 +164,8 @@ fn ballots() {
                     && (m.kind == 5 || leads == lead)
                     && (!matches!(m.kind, 6 | 7) || ballot >= 8)
                     && (m.kind != 7 || 8 < ballot)
-                    && (m.kind != 8 || ballot < u32::MAX - 7);
-                // The highest ballots leave no Nack above them but in their round.
-                let joined = if m.kind == 8 { ballot.max(8) / 8 * 8 + 8 } else { 0 };
-                let joined = if m.kind == 8 && ballot >= 0xffff_fff8 { 0xffff_fff8 } else { joined };
+                    && (m.kind != 8 || ballot < 0xffff_fffa);
+                let joined = if m.kind == 8 { 0xffff_fffa } else { 0 };
                 let voted = if m.kind == 7 { 8 } else { 0 };
                 check(n, s, &Message { ballot, owner, joined, voted, ..m }, wanted);
             }

@@ -3,5 +3,6 @@ pub mod ballot;
 pub mod command;
 pub mod deps;
 pub mod logic;
+pub mod message;
 pub mod setup;
 pub mod vote;
