@@ -40,9 +40,8 @@ pub fn request(
     if !matches!(op, READ | WRITE) {
         return Err(refusal::OP);
     }
-    let number = (1..=s)
-        .find(|&j| is_blank(record_bytes(t, &setup, copy, j)))
-        .ok_or(refusal::NO_BLANK)?;
+    let number =
+        (1..=s).find(|&j| is_blank(record_bytes(t, &setup, copy, j))).ok_or(refusal::NO_BLANK)?;
     let mut step = Step::open(setup, t, out, copy, number);
     step.pre_accept_afresh(&Command { op, key, edit });
     Ok(step.close())
@@ -260,8 +259,7 @@ impl<'a> Step<'a> {
         if !self.awaits(PREPARING, m) {
             return;
         }
-        let reply =
-            Vote { voted: m.voted, status: m.status, command: m.command(), deps: m.deps };
+        let reply = Vote { voted: m.voted, status: m.status, command: m.command(), deps: m.deps };
         self.collect(m.from, reply);
         if self.replied() > self.setup.f() {
             self.decide();
@@ -358,7 +356,12 @@ impl<'a> Step<'a> {
     /// The collected replies by rising copy.
     fn collected(&self) -> impl Iterator<Item = &Vote> + Clone {
         let set = self.record.set;
-        self.record.replies.iter().enumerate().filter(move |(q, _)| set >> q & 1 == 1).map(|(_, r)| r)
+        self.record
+            .replies
+            .iter()
+            .enumerate()
+            .filter(move |(q, _)| set >> q & 1 == 1)
+            .map(|(_, r)| r)
     }
 
     fn equal_to_sent(&self) -> u32 {

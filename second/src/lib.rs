@@ -5,6 +5,8 @@
 //! Without `std` there is no heap to reach for.
 #![no_std]
 #![forbid(unsafe_code)]
+// An index is a copy's or an instance's number here, and reads best as one.
+#![allow(clippy::needless_range_loop)]
 
 mod bytes;
 pub mod events;

@@ -176,8 +176,8 @@ impl Waiting {
         for j in 1..=setup.s {
             for o in 0..setup.n {
                 let at = setup.index(o, j);
-                let open = status_of(record_bytes(t, &setup, o, j)) == COMMITTED;
-                if !open || waiting.marked[at] {
+                let chosen = status_of(record_bytes(t, &setup, o, j)) == COMMITTED;
+                if !chosen || waiting.marked[at] {
                     continue;
                 }
                 let reached = search.reached(o, j);
@@ -215,9 +215,9 @@ impl Waiting {
                 continue;
             }
             let at = self.setup.index(row, x.at_number as usize);
-            let itself = (row, x.at_number) == (o, x.number);
+            // Standing in its own marks, the instance itself passes here too.
             let reaches_back = self.reached[at][o] as usize >= j;
-            if !(self.marked[at] || itself || reaches_back) {
+            if !(self.marked[at] || reaches_back) {
                 return false;
             }
             x.at_number += 1;

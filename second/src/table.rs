@@ -99,7 +99,12 @@ pub(crate) fn record_at(setup: &Setup, o: usize, j: usize) -> usize {
 }
 
 #[inline]
-pub(crate) fn record_bytes<'a>(t: &'a [u8], setup: &Setup, o: usize, j: usize) -> &'a [u8; RECORD_LEN] {
+pub(crate) fn record_bytes<'a>(
+    t: &'a [u8],
+    setup: &Setup,
+    o: usize,
+    j: usize,
+) -> &'a [u8; RECORD_LEN] {
     part(t, record_at(setup, o, j))
 }
 
@@ -165,7 +170,14 @@ pub fn judge_table(t: &[u8], n: usize, s: usize, copy: usize) -> Result<(), u8> 
 }
 
 /// Offset and length of the record's bytes; both 0 where there is none.
-pub fn record_part(t: &[u8], n: usize, s: usize, copy: usize, o: usize, j: usize) -> (usize, usize) {
+pub fn record_part(
+    t: &[u8],
+    n: usize,
+    s: usize,
+    copy: usize,
+    o: usize,
+    j: usize,
+) -> (usize, usize) {
     match fitting(t, n, s, copy) {
         Ok(setup) if setup.has_instance(o, j) => (record_at(&setup, o, j), RECORD_LEN),
         _ => (0, 0),
@@ -204,9 +216,8 @@ fn sound_record(setup: &Setup, owner: usize, r: &[u8; RECORD_LEN]) -> bool {
 fn sound_phase(setup: &Setup, owner: usize, r: &[u8; RECORD_LEN], joined: u32, own: &Vote) -> bool {
     let (phase, set) = (r[PHASE_AT], r[SET_AT]);
     let this_in_set = set >> setup.copy & 1 == 1;
-    let leading = own.status < COMMITTED
-        && lead(joined, owner) == setup.copy
-        && set >> setup.n == 0;
+    let leading =
+        own.status < COMMITTED && lead(joined, owner) == setup.copy && set >> setup.n == 0;
     let fits = match phase {
         PREPARING => {
             joined >= 8

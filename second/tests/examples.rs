@@ -48,7 +48,14 @@ fn w3_a_different_answer_waits() {
     let mut one = Copy::blank(3, 4, 1);
     one.request(2, 7, 5).unwrap();
     let pre_accept = Message {
-        kind: 1, from: 0, to: 1, owner: 0, number: 1, op: 2, key: 7, edit: 100,
+        kind: 1,
+        from: 0,
+        to: 1,
+        owner: 0,
+        number: 1,
+        op: 2,
+        key: 7,
+        edit: 100,
         ..Message::default()
     };
     let (_, sent) = one.message(&pre_accept).unwrap();
@@ -103,8 +110,18 @@ fn recovered(own: Vote, replies: [(u8, Vote); 2]) -> (Rec, Vec<Message>) {
         assert_eq!(last, []);
         last = c
             .message(&Message {
-                kind: 7, from, to: 1, owner: 0, number: 1, ballot, voted: v.voted,
-                status: v.status, op: v.op, key: v.key, edit: v.edit, deps: v.deps,
+                kind: 7,
+                from,
+                to: 1,
+                owner: 0,
+                number: 1,
+                ballot,
+                voted: v.voted,
+                status: v.status,
+                op: v.op,
+                key: v.key,
+                edit: v.edit,
+                deps: v.deps,
                 ..Message::default()
             })
             .unwrap()
@@ -136,6 +153,33 @@ fn w6_recovery_at_ballot_0() {
     assert!(sent.iter().all(|m| m.kind == 1 && m.op == 0));
 }
 
+/// Of several candidates the lowest copy's reply counts; copy 1 is the own.
+#[test]
+fn the_lowest_copy_counts() {
+    let v = |voted, status, edit| vote(voted, status, 2, 7, edit, &[edit as u16]);
+    let none = Vote::default();
+    // Accepted at one ballot.
+    let (r, _) = recovered(v(8, 3, 1), [(3, v(8, 3, 3)), (2, v(8, 3, 2))]);
+    assert_eq!(r.own, v(17, 3, 1));
+    let (r, _) = recovered(v(8, 2, 1), [(3, v(8, 3, 3)), (2, v(8, 3, 2))]);
+    assert_eq!(r.own, v(17, 3, 2));
+    let (r, _) = recovered(v(8, 3, 1), [(3, v(8, 3, 3)), (0, v(8, 3, 4))]);
+    assert_eq!(r.own, v(17, 3, 4));
+    // Pre-accepted as received at ballot 0; a lower one with status 1 is none.
+    let (r, _) = recovered(none, [(3, v(0, 2, 3)), (2, v(0, 2, 2))]);
+    assert_eq!(r.own, v(9, 3, 2));
+    let (r, _) = recovered(v(0, 1, 1), [(3, v(0, 2, 3)), (2, v(0, 2, 2))]);
+    assert_eq!(r.own, v(9, 3, 2));
+    // Afresh: any status at the highest ballot.
+    let (r, _) = recovered(none, [(3, v(0, 2, 3)), (2, v(0, 1, 2))]);
+    assert_eq!((r.own, r.phase), (vote(9, 2, 2, 7, 2, &[]), 2));
+    let (r, _) = recovered(v(8, 2, 1), [(3, v(0, 2, 3)), (2, v(0, 3, 2))]);
+    assert_eq!((r.own, r.phase), (vote(17, 2, 2, 7, 1, &[]), 2));
+    // F of status 2 count at ballot 0 only.
+    let (r, _) = recovered(v(8, 2, 1), [(3, v(8, 2, 3)), (2, v(8, 2, 2))]);
+    assert_eq!((r.own, r.phase), (vote(17, 2, 2, 7, 1, &[]), 2));
+}
+
 #[test]
 fn w7_the_highest_voted_ballot() {
     let low = vote(10, 3, 2, 7, 100, &[1]);
@@ -148,8 +192,18 @@ fn w7_the_highest_voted_ballot() {
         c.recover(0, 1).unwrap();
         for (from, v) in replies {
             let m = Message {
-                kind: 7, from, to: 1, owner: 0, number: 1, ballot: 25, voted: v.voted,
-                status: v.status, op: v.op, key: v.key, edit: v.edit, deps: v.deps,
+                kind: 7,
+                from,
+                to: 1,
+                owner: 0,
+                number: 1,
+                ballot: 25,
+                voted: v.voted,
+                status: v.status,
+                op: v.op,
+                key: v.key,
+                edit: v.edit,
+                deps: v.deps,
                 ..Message::default()
             };
             c.message(&m).unwrap();

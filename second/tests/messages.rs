@@ -84,15 +84,21 @@ fn each(mut f: impl FnMut(usize, usize, Message)) {
 fn lengths_and_kinds() {
     for (n, s) in SIZES {
         for kind in 0..=255u8 {
-            let base = if (1..=8).contains(&kind) { bytes_of(&valid(kind)) } else { bytes_of(&valid(7)) };
+            let base =
+                if (1..=8).contains(&kind) { bytes_of(&valid(kind)) } else { bytes_of(&valid(7)) };
             for length in 0..=64 {
                 let mut b = base.clone();
                 b.resize(length, 0);
                 if length > 0 {
                     b[0] = kind;
                 }
-                let wanted = length > 0 && (1..=8).contains(&kind) && length == LENGTHS[kind as usize];
-                assert_eq!(read_message(n, s, 1, &b).is_ok(), wanted, "kind {kind} length {length}");
+                let wanted =
+                    length > 0 && (1..=8).contains(&kind) && length == LENGTHS[kind as usize];
+                assert_eq!(
+                    read_message(n, s, 1, &b).is_ok(),
+                    wanted,
+                    "kind {kind} length {length}"
+                );
                 if !wanted {
                     assert_eq!(read_message(n, s, 1, &b), Err(3));
                 }
@@ -156,7 +162,23 @@ fn owner_and_number() {
 fn ballots() {
     each(|n, s, m| {
         let lead = (m.ballot % 8) as u8;
-        for ballot in [0, 1, 2, 3, 6, 7, 8, 9, 10, 8 + n as u32 - 1, 8 + n as u32, 15, 0xffff_fff8, 0xffff_fff9, u32::MAX] {
+        for ballot in [
+            0,
+            1,
+            2,
+            3,
+            6,
+            7,
+            8,
+            9,
+            10,
+            8 + n as u32 - 1,
+            8 + n as u32,
+            15,
+            0xffff_fff8,
+            0xffff_fff9,
+            u32::MAX,
+        ] {
             let is_ballot = ballot == 0 || (ballot >= 8 && ballot % 8 < n as u32);
             for owner in 0..3u8 {
                 let leads = if ballot == 0 { owner } else { (ballot % 8) as u8 };
@@ -202,7 +224,9 @@ fn commands() {
             return;
         }
         for op in [0, 1, 2, 3, 4, 128, 255] {
-            for (key, edit) in [(0, 0), (1, 0), (0, 1), (u32::MAX, 0), (0, u64::MAX), (1 << 31, 1 << 63)] {
+            for (key, edit) in
+                [(0, 0), (1, 0), (0, 1), (u32::MAX, 0), (0, u64::MAX), (1 << 31, 1 << 63)]
+            {
                 let wanted = op <= 2 && (op != 0 || (key == 0 && edit == 0));
                 check(n, s, &Message { op, key, edit, ..m }, wanted);
             }
@@ -230,7 +254,8 @@ fn dependencies() {
 fn prepare_ok_fields() {
     for (n, s) in SIZES {
         let m = valid(7);
-        for voted in [0, 1, 7, 8, 8 + n as u32 - 1, 8 + n as u32, 15, 18, 24, 25, 26, 32, u32::MAX] {
+        for voted in [0, 1, 7, 8, 8 + n as u32 - 1, 8 + n as u32, 15, 18, 24, 25, 26, 32, u32::MAX]
+        {
             let wanted = voted == 0 || (voted >= 8 && voted % 8 < n as u32 && voted < m.ballot);
             check(n, s, &Message { voted, ..m }, wanted);
         }
@@ -257,7 +282,9 @@ fn prepare_ok_fields() {
 fn nack_joined() {
     for (n, s) in SIZES {
         let m = valid(8);
-        for joined in [0, 1, 8, 24, 25, 26, 24 + n as u32 - 1, 24 + n as u32, 31, 32, 0xffff_fff8, u32::MAX] {
+        for joined in
+            [0, 1, 8, 24, 25, 26, 24 + n as u32 - 1, 24 + n as u32, 31, 32, 0xffff_fff8, u32::MAX]
+        {
             let wanted = joined > 25 && joined % 8 < n as u32;
             check(n, s, &Message { joined, ..m }, wanted);
         }
@@ -299,9 +326,23 @@ fn setup_and_room() {
     let m = valid(5);
     let b = bytes_of(&m);
     for (n, s, copy) in [
-        (0, 4, 0), (1, 4, 0), (2, 4, 1), (4, 4, 1), (6, 4, 1), (8, 4, 1), (9, 4, 1),
-        (3, 0, 1), (3, 65, 1), (3, 4, 3), (7, 64, 7), (usize::MAX, 4, 1), (3, usize::MAX, 1),
-        (3, 4, usize::MAX), (3, 4, 257), (259, 4, 1), (3, 260, 1),
+        (0, 4, 0),
+        (1, 4, 0),
+        (2, 4, 1),
+        (4, 4, 1),
+        (6, 4, 1),
+        (8, 4, 1),
+        (9, 4, 1),
+        (3, 0, 1),
+        (3, 65, 1),
+        (3, 4, 3),
+        (7, 64, 7),
+        (usize::MAX, 4, 1),
+        (3, usize::MAX, 1),
+        (3, 4, usize::MAX),
+        (3, 4, 257),
+        (259, 4, 1),
+        (3, 260, 1),
     ] {
         assert_eq!(read_message(n, s, copy, &b), Err(1));
         assert_eq!(read_message(n, s, copy, &[]), Err(1));

@@ -53,9 +53,9 @@ fn hand_out_by_words(c: &mut Copy, room: usize) -> Vec<u16> {
             let settled = matches!(settled_by_words(c, x), Settled::Command { .. });
             settled
                 && c.get(x.0, x.1).mark == 0
-                && reached(x).iter().all(|&y| {
-                    y == x || reached(y).contains(&x) || c.get(y.0, y.1).mark == 1
-                })
+                && reached(x)
+                    .iter()
+                    .all(|&y| y == x || reached(y).contains(&x) || c.get(y.0, y.1).mark == 1)
         });
         let Some((o, j)) = next else { break };
         let r = c.get(o, j);

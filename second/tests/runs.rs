@@ -8,7 +8,11 @@ use second::*;
 fn ballot(random: &mut Random, n: usize, below: u32) -> u32 {
     let r = random.below(4) as u32;
     let b = if r == 0 { 0 } else { 8 * r + random.below(n as u64) as u32 };
-    if b < below { b } else { 0 }
+    if b < below {
+        b
+    } else {
+        0
+    }
 }
 
 fn some_vote(random: &mut Random, n: usize, s: usize, voted: u32, status: u8) -> Vote {
@@ -207,7 +211,16 @@ fn runs_agree() {
 
 fn pre_accept(from: u8, to: u8, ballot: u32, d: &[u16]) -> Message {
     Message {
-        kind: 1, from, to, owner: 0, number: 1, ballot, op: 2, key: 7, edit: 100, deps: deps(d),
+        kind: 1,
+        from,
+        to,
+        owner: 0,
+        number: 1,
+        ballot,
+        op: 2,
+        key: 7,
+        edit: 100,
+        deps: deps(d),
         ..Message::default()
     }
 }
@@ -235,9 +248,8 @@ fn a_repeated_pre_accept_is_answered_as_before() {
 fn prepare_ok_reports_the_voted_ballot() {
     let mut c = Copy::blank(3, 4, 1);
     c.message(&pre_accept(0, 1, 0, &[])).unwrap();
-    let prepare = Message {
-        kind: 6, from: 2, to: 1, owner: 0, number: 1, ballot: 10, ..Message::default()
-    };
+    let prepare =
+        Message { kind: 6, from: 2, to: 1, owner: 0, number: 1, ballot: 10, ..Message::default() };
     for _ in 0..2 {
         let sent = c.message(&prepare).unwrap().1;
         assert_eq!((sent[0].kind, sent[0].ballot, sent[0].voted, sent[0].status), (7, 10, 0, 2));
@@ -251,7 +263,13 @@ fn prepare_ok_reports_the_voted_ballot() {
 #[test]
 fn thresholds_at_ballot_0() {
     let ok = |from: u8, d: &[u16]| Message {
-        kind: 2, from, to: 0, owner: 0, number: 1, deps: deps(d), ..Message::default()
+        kind: 2,
+        from,
+        to: 0,
+        owner: 0,
+        number: 1,
+        deps: deps(d),
+        ..Message::default()
     };
     let mut c = Copy::blank(5, 4, 0);
     c.request(2, 7, 100).unwrap();
@@ -297,9 +315,8 @@ fn a_commit_that_differs() {
 fn a_nack_ends_the_phase() {
     let mut c = Copy::blank(3, 4, 0);
     c.request(2, 7, 100).unwrap();
-    let nack = Message {
-        kind: 8, from: 1, to: 0, owner: 0, number: 1, joined: 10, ..Message::default()
-    };
+    let nack =
+        Message { kind: 8, from: 1, to: 0, owner: 0, number: 1, joined: 10, ..Message::default() };
     assert_eq!(c.message(&nack).unwrap().1, []);
     let r = c.get(0, 1);
     assert_eq!((r.joined, r.phase, r.own.voted, r.own.status), (10, 0, 0, 2));
@@ -315,4 +332,35 @@ fn request_passes_over_joined_records() {
     c.put(0, 1, &Rec { joined: 9, ..Rec::default() });
     assert_eq!(c.request(2, 7, 1).unwrap().0.number, 2);
     assert_eq!(c.request(2, 7, 1), Err(5));
+}
+
+/// N=7: two that differ are not yet F.
+#[test]
+fn two_different_wait_for_f() {
+    let mut c = Copy::blank(7, 4, 0);
+    c.request(2, 7, 100).unwrap();
+    let mut kinds = Vec::new();
+    for from in 1..=3u8 {
+        let deps = deps(&[0, from as u16]);
+        let ok = Message { kind: 2, from, to: 0, owner: 0, number: 1, deps, ..Message::default() };
+        kinds.push(c.message(&ok).unwrap().1.iter().map(|m| m.kind).collect::<Vec<_>>());
+    }
+    assert_eq!(kinds, [vec![], vec![], vec![3; 6]]);
+    assert_eq!(c.get(0, 1).own.deps, deps(&[0, 3]));
+}
+
+/// Sound though no run reaches it: F replies at another ballot than 0. Nudge
+/// repeats the phase's message there.
+#[test]
+fn nudge_goes_to_accepting_at_ballot_0_only() {
+    let mut c = Copy::blank(3, 4, 0);
+    let own = vote(8, 2, 2, 7, 100, &[]);
+    c.put(0, 1, &Rec { joined: 8, own, phase: 2, set: 2, ..Rec::default() });
+    let sent = c.nudge(0, 1).unwrap().1;
+    assert_eq!(sent.iter().map(|m| (m.kind, m.to, m.ballot)).collect::<Vec<_>>(), [(1, 2, 8)]);
+    // At ballot 0 it goes on even where the replies would have committed.
+    let own = Vote { voted: 0, ..own };
+    c.put(0, 1, &Rec { joined: 0, own, phase: 2, set: 2, ..Rec::default() });
+    let sent = c.nudge(0, 1).unwrap().1;
+    assert_eq!(sent.iter().map(|m| (m.kind, m.to)).collect::<Vec<_>>(), [(3, 1), (3, 2)]);
 }

@@ -7,9 +7,22 @@ use second::*;
 const SIZES: [(usize, usize); 6] = [(3, 1), (3, 64), (5, 1), (5, 64), (7, 1), (7, 64)];
 
 const BAD_SETUPS: [(usize, usize, usize); 16] = [
-    (0, 4, 0), (1, 4, 0), (2, 4, 1), (4, 4, 1), (6, 4, 1), (8, 4, 1), (9, 4, 1), (3, 0, 1),
-    (3, 65, 1), (3, 4, 3), (7, 64, 7), (usize::MAX, 4, 1), (3, usize::MAX, 1),
-    (3, 4, usize::MAX), (259, 4, 1), (3, 260, 1),
+    (0, 4, 0),
+    (1, 4, 0),
+    (2, 4, 1),
+    (4, 4, 1),
+    (6, 4, 1),
+    (8, 4, 1),
+    (9, 4, 1),
+    (3, 0, 1),
+    (3, 65, 1),
+    (3, 4, 3),
+    (7, 64, 7),
+    (usize::MAX, 4, 1),
+    (3, usize::MAX, 1),
+    (3, 4, usize::MAX),
+    (259, 4, 1),
+    (3, 260, 1),
 ];
 
 #[test]
@@ -222,7 +235,10 @@ fn ranges() {
             for (key, edit) in [(0, 0), (1, 0), (0, 1)] {
                 let mut r = base;
                 (r.own.op, r.own.key, r.own.edit) = (op, key, edit);
-                assert_eq!(is_sound(n, s, 1, 1, &r), op <= 2 && (op != 0 || key as u64 + edit == 0));
+                assert_eq!(
+                    is_sound(n, s, 1, 1, &r),
+                    op <= 2 && (op != 0 || key as u64 + edit == 0)
+                );
             }
         }
         for status in 0..=255 {
@@ -259,8 +275,12 @@ fn status_0_is_empty() {
     let r = Rec { joined: 16, ..Rec::default() };
     assert!(is_sound(3, 4, 1, 1, &r));
     for own in [
-        vote(8, 0, 0, 0, 0, &[]), vote(0, 0, 1, 0, 0, &[]), vote(0, 0, 0, 1, 0, &[]),
-        vote(0, 0, 0, 0, 1, &[]), vote(0, 0, 0, 0, 0, &[1]), vote(0, 0, 0, 0, 0, &[0, 0, 1]),
+        vote(8, 0, 0, 0, 0, &[]),
+        vote(0, 0, 1, 0, 0, &[]),
+        vote(0, 0, 0, 1, 0, &[]),
+        vote(0, 0, 0, 0, 1, &[]),
+        vote(0, 0, 0, 0, 0, &[1]),
+        vote(0, 0, 0, 0, 0, &[0, 0, 1]),
     ] {
         assert!(!is_sound(3, 4, 1, 1, &Rec { own, ..r }));
     }
@@ -339,6 +359,9 @@ fn preparing() {
             }
             let wanted = set & 2 != 0 && set.count_ones() as usize <= f && set >> n == 0;
             assert_eq!(is_sound(n, 4, 1, 1, &r), wanted, "N={n} set {set}");
+            // Also where the own reply is all zero.
+            let r = Rec { joined: 17, phase: 1, set, ..Rec::default() };
+            assert_eq!(is_sound(n, 4, 1, 1, &r), wanted, "N={n} set {set}");
         }
         // The own reply is the record's.
         for at in 0..32 {
@@ -392,8 +415,11 @@ fn collected_prepare_ok() {
                 }
             }
             for v in [
-                vote(8, 0, 0, 0, 0, &[]), vote(0, 0, 1, 0, 0, &[]), vote(0, 0, 0, 1, 0, &[]),
-                vote(0, 0, 0, 0, 1, &[]), vote(0, 0, 0, 0, 0, &[1]),
+                vote(8, 0, 0, 0, 0, &[]),
+                vote(0, 0, 1, 0, 0, &[]),
+                vote(0, 0, 0, 1, 0, &[]),
+                vote(0, 0, 0, 0, 1, &[]),
+                vote(0, 0, 0, 0, 0, &[1]),
             ] {
                 judge(v, false);
             }

@@ -6,7 +6,7 @@ use paper::Command;
 ghost use mathlib.Core.Path.{_≡_};
 ghost use Rattle.paper.specs.Message.{kindOf, commandIn, votedIn, statusIn, joinedIn, carriesDeps};
 
-pub fn kind_of(b: Body) -> usize
+pub fn kind_of(b: Body) -> u8
     ensures { λ r. ⌜ r ≡ kindOf b ⌝ }
 {
     match b {

@@ -56,7 +56,7 @@ fn kind_in(m: Message) -> usize
     ensures { λ r. ⌜ r ≡ kind m ⌝ }
 {
     let body = m.body;
-    kind_of(body)
+    wide8(kind_of(body))
 }
 
 fn lead_in(m: Message) -> usize

@@ -38,8 +38,12 @@ impl Run {
         let before = t.clone();
         let mut out = [UNTOUCHED; ROOM];
         let what = *words.get(1).ok_or("no call")?;
-        let wanted_words = if what == "request" { 5 } else if matches!(what, "message" | "handout") { 3 } else { 4 };
-        if words.len() != wanted_words {
+        let length = match what {
+            "request" => 5,
+            "message" | "handout" => 3,
+            _ => 4,
+        };
+        if words.len() != length {
             return Err("wrong number of words".into());
         }
         let event = match what {
@@ -120,7 +124,7 @@ fn from_hex(text: &str) -> Result<Vec<u8>, String> {
     if text == "-" {
         return Ok(Vec::new());
     }
-    if !text.is_ascii() || text.len() % 2 != 0 {
+    if !text.is_ascii() || !text.len().is_multiple_of(2) {
         return Err("bad hex".into());
     }
     (0..text.len())

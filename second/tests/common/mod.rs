@@ -169,7 +169,7 @@ impl Copy {
             let to = out[2] as usize;
             let m = read_message(self.n, self.s, to, &out[..len]).expect("valid where it goes");
             assert_eq!(m.from as usize, self.copy);
-            assert!(all.last().map_or(true, |l| l.to < m.to), "rising destinations");
+            assert!(all.last().is_none_or(|l| l.to < m.to), "rising destinations");
             let mut again = [0xa5; 256];
             assert_eq!(write_message(self.n, self.s, self.copy, &mut again, &m), Ok(len));
             assert_eq!(again[..len], out[..len]);

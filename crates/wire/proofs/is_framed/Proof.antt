@@ -1,0 +1,42 @@
+use Rattle.wire.specs.Wire.{framed}
+use borrow.Author.Needs.{needs}
+use Rattle.wire.proofs.is_framed.Statement.{statement}
+use Rattle.wire.proofs.is_framed.Tie as tie
+
+kind-at-requires : tie.Need-kind-at-requires
+kind-at-requires c κs = search needs
+
+at-most-requires : tie.Need-at-most-requires
+at-most-requires c κs = search needs
+
+at-most-requires-2 : tie.Need-at-most-requires-2
+at-most-requires-2 c κs = search needs
+
+both-requires : tie.Need-both-requires
+both-requires c κs = search needs
+
+length-of-requires : tie.Need-length-of-requires
+length-of-requires c κs = search needs
+
+equal-requires : tie.Need-equal-requires
+equal-requires c κs = search needs
+
+both-requires-2 : tie.Need-both-requires-2
+both-requires-2 c κs = search needs
+
+returns : tie.Need-returns
+unfolding framed
+returns c = cc
+
+pub is-framed-spec : {M : Type 1} → statement M
+is-framed-spec =
+    tie.close
+    (tie.spec
+    kind-at-requires
+    at-most-requires
+    at-most-requires-2
+    both-requires
+    length-of-requires
+    equal-requires
+    both-requires-2
+    returns)
