@@ -1,0 +1,62 @@
+-- Laws of the tests on nouns: what a test that holds says of its arguments. Assumes nothing.
+use Prim.Native.Nat.{ℕ, zero, suc, _+_, _*_, _^_, _≤_, _<_}
+use mathlib.Core.Path.{_≡_, refl, sym, ap, _∙_}
+use mathlib.Core.Bool.{Bool, true, false, _&&_, not, and-eq-true-iff}
+use mathlib.Core.List.{List, [], _∷_}
+use mathlib.Core.Logic.{⊎-elim}
+use native.Mathlib.Omega.{arith}
+use native.Mathlib.Nat.{eq-or-lt-of-le}
+use lib.Dec.{leb, ltb, eqb}
+use lib.ListN.{length, getD}
+use lib.Seq.{ext-getD}
+use borrow.Author.Tests.{leb-true, ltb-true, eqb-true}
+use Rattle.paper.specs.Logic.{allBelow}
+use Rattle.paper.specs.Deps.{noDeps, depsOk, sameDeps}
+use Rattle.paper.specs.Command.{opNumber, sameCommand}
+use Rattle.paper.specs.declared.Op.{Op}
+use Rattle.paper.specs.declared.Op.the-variants.{Noop, Read, Write}
+use Rattle.paper.specs.declared.Command.{Command}
+
+pub and-true : (a b : Bool) → (a && b) ≡ true → (a ≡ true) × (b ≡ true)
+and-true a b = and-eq-true-iff a b .0
+
+-- a test that holds below n holds at each number below n
+pub allBelow-at : (n : ℕ) (f : ℕ → Bool) → allBelow n f ≡ true → (k : ℕ) → k < n → f k ≡ true
+unfolding allBelow
+allBelow-at zero f h k l = absurd (omega arith)
+allBelow-at (suc n) f h k l =
+    let p = and-true (f n) (allBelow n f) h in
+    ⊎-elim (λ (e : k ≡ n). rw e (p .0)) (λ (m : k < n). allBelow-at n f (p .1) k m) (eq-or-lt-of-le (let g : k ≤ n = omega arith in g))
+
+-- equal lists of dependencies are equal
+pub sameDeps-eq : (d e : List ℕ) → length d ≡ 7 → length e ≡ 7 → sameDeps d e ≡ true → d ≡ e
+unfolding sameDeps
+sameDeps-eq d e p q h =
+    ext-getD 0 d e (p ∙ sym q)
+    (λ i l. eqb-true _ _ (allBelow-at 7 (λ j. eqb (getD d j 0) (getD e j 0)) h i (omega arith)))
+
+-- the op of a number, to tell ops apart
+opFrom : ℕ → Op
+opFrom zero = Noop
+opFrom (suc zero) = Read
+opFrom (suc (suc k)) = Write
+
+op-back : (o : Op) → opFrom (opNumber o) ≡ o
+unfolding opFrom
+op-back Noop = refl
+op-back Read = refl
+op-back Write = refl
+
+pub opNumber-apart : (a b : Op) → opNumber a ≡ opNumber b → a ≡ b
+opNumber-apart a b e = sym (op-back a) ∙ ap opFrom e ∙ op-back b
+
+-- equal commands are equal
+pub sameCommand-eq : (a b : Command) → sameCommand a b ≡ true → a ≡ b
+unfolding sameCommand
+sameCommand-eq a b h =
+    let p = and-true (eqb (opNumber (a .op)) (opNumber (b .op)) && eqb (a .key) (b .key)) _ h in
+    let q = and-true (eqb (opNumber (a .op)) (opNumber (b .op))) _ (p .0) in
+    let o = opNumber-apart (a .op) (b .op) (eqb-true _ _ (q .0)) in
+    let k = eqb-true (a .key) (b .key) (q .1) in
+    let e = eqb-true (a .edit) (b .edit) (p .1) in
+    λ i. record { op = o i; key = k i; edit = e i }
