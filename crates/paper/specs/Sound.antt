@@ -111,8 +111,11 @@ preparingOk n c r = preparingBallot r && preparingVoted r && preparingSelf c r &
 unfoldable pub proposingOk : ℕ → Record → Bool
 proposingOk c r = preacceptingStatus r && preacceptingOp r && acceptingStatus r && proposingVoted r && proposingSelf c r
 
+unfoldable pub busyOk : ℕ → ℕ → Record → Bool
+busyOk c o r = idleEmpty r && busyOpen r && busyLeads c o r
+
 unfoldable pub phasesOk : ℕ → ℕ → ℕ → Record → Bool
-phasesOk n c o r = idleEmpty r && busyOpen r && busyLeads c o r && preparingOk n c r && proposingOk c r
+phasesOk n c o r = busyOk c o r && preparingOk n c r && proposingOk c r
 
 unfoldable pub soundRecord : ℕ → ℕ → ℕ → ℕ → Record → Bool
 soundRecord n s c o r = rangesOk n s r && votesOk r && phasesOk n c o r && repliesOk n s c r

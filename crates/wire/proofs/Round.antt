@@ -189,14 +189,15 @@ module _ (m : Message) (f : MessageFits m) where
   -- a written message reads as itself
   pub messageAt-messageBytes : depsCarried m ≡ true → messageAt (messageBytes m) ≡ m
   unfolding messageAt
-  messageAt-messageBytes h = λ i. record
-    { from = at-reads 1 i
-    ; to = at-reads 2 i
-    ; owner = at-reads 3 i
-    ; number = at-reads 4 i
-    ; ballot = at-reads 5 i
-    ; body = body-reads i
-    ; deps = deps-reads h i }
+  messageAt-messageBytes h = λ i. record {
+    from = at-reads 1 i;
+    to = at-reads 2 i;
+    owner = at-reads 3 i;
+    number = at-reads 4 i;
+    ballot = at-reads 5 i;
+    body = body-reads i;
+    deps = deps-reads h i;
+  }
 
   framed-written : framed (messageBytes m) ≡ true
   unfolding framed
@@ -294,7 +295,7 @@ write-then-read n s c out m f p q r v =
     let l = length-messageBytes m in
     let short : length (messageBytes m) ≤ 42 = long-enough m in
     let t : take (lengthOf (kindOf (m .body))) (splice out 0 (messageBytes m)) ≡ messageBytes m =
-        splice-same out 0 (messageBytes m) (lengthOf (kindOf (m .body))) l (omega arith) in
+    splice-same out 0 (messageBytes m) (lengthOf (kindOf (m .body))) l (omega arith) in
     rw (← w, t) (written-reads-back n s (m .to) m f q v)
 
 -- Accepted bytes write back equal: the message that the reader hands back is written as the bytes that were read.

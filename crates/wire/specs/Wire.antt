@@ -80,14 +80,15 @@ besideAt k b = depsOf k (fieldsAt (restWidths k) b 10)
 -- a message as read
 unfoldable pub messageAt : List ℕ → Message
 messageAt b =
-    record
-      { from = numAt 1 b 1
-      ; to = numAt 1 b 2
-      ; owner = numAt 1 b 3
-      ; number = numAt 2 b 4
-      ; ballot = numAt 4 b 6
-      ; body = bodyAt (kindAt b) b
-      ; deps = besideAt (kindAt b) b }
+    record {
+      from = numAt 1 b 1;
+      to = numAt 1 b 2;
+      owner = numAt 1 b 3;
+      number = numAt 2 b 4;
+      ballot = numAt 4 b 6;
+      body = bodyAt (kindAt b) b;
+      deps = besideAt (kindAt b) b;
+    }
 
 -- a known kind, at its exact length
 unfoldable pub framed : List ℕ → Bool

@@ -69,7 +69,10 @@ fn is_framed(b: &[u8]) -> bool
     ensures { λ r. ⌜ r ≡ framed (now (b .entry)) ⌝ }
 {
     let k = kind_at(b);
-    both(both(at_most(1, k), at_most(k, 8)), equal(b.len(), length_of(k)))
+    both(
+        both(at_most(1, k), at_most(k, 8)),
+        equal(b.len(), length_of(k)),
+    )
 }
 
 fn is_proposal(k: usize) -> bool

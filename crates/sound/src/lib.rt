@@ -1,0 +1,153 @@
+// Whether a record is sound, by value and a part at a time: each line is a clause of the paper, in the order of paper/specs/Sound.
+use nouns::ballot::ballot_ok;
+use nouns::ballot::lead_of;
+use nouns::command::is_noop;
+use nouns::logic::at_most;
+use nouns::logic::below;
+use nouns::logic::both;
+use nouns::logic::either;
+use nouns::logic::equal;
+use nouns::logic::implied;
+use nouns::logic::wide8;
+use nouns::logic::wide32;
+use nouns::setup::faults_of;
+use nouns::vote::added_ok;
+use nouns::vote::count_of;
+use nouns::vote::is_member;
+use nouns::vote::no_vote;
+use nouns::vote::none_is_blank;
+use nouns::vote::same_vote;
+use nouns::vote::told_ok;
+use nouns::vote::vote_ok;
+use paper::Vote;
+ghost use mathlib.Core.Path.{_≡_};
+ghost use Prim.Native.Nat.{_^_, _≤_, _<_};
+ghost use Rattle.paper.specs.Sound.{
+  rangesOk,
+  votesOk,
+  preparingOk,
+  preacceptingStatus,
+  preacceptingOp,
+  proposingOk,
+  busyOk,
+  phasesOk,
+  collectedOk,
+};
+ghost use Rattle.sound.specs.Front.{front};
+
+fn power(n: usize) -> usize
+    requires { ⌜ n ≤ 7 ⌝ }
+    ensures { λ r. ⌜ r ≡ 2 ^ n ⌝ }
+{
+    1 << n
+}
+
+pub fn ranges_ok(n: usize, s: usize, joined: u32, v: Vote, mark: u8, phase: u8, set: u8) -> bool
+    requires { ⌜ n ≤ 7 ⌝ }
+    ensures { λ r. ⌜ r ≡ rangesOk n s (front joined v mark phase set) ⌝ }
+{
+    let ballots = both(ballot_ok(n, joined), vote_ok(n, s, 4, v));
+    let marks = both(ballots, at_most(wide8(mark), 1));
+    let phases = both(marks, at_most(wide8(phase), 3));
+    both(phases, below(wide8(set), power(n)))
+}
+
+pub fn votes_ok(joined: u32, v: Vote, mark: u8) -> bool
+    ensures { λ r. ⌜ r ≡ votesOk (front joined v mark 0 0) ⌝ }
+{
+    let voted = at_most(wide32(v.voted), wide32(joined));
+    let marks = implied(equal(wide8(mark), 1), equal(wide8(v.status), 4));
+    both(both(voted, none_is_blank(v)), marks)
+}
+
+fn preparing_ok(n: usize, c: usize, joined: u32, v: Vote, phase: u8, set: u8) -> bool
+    requires { ⌜ (1 ≤ n) × (c < 8) ⌝ }
+    ensures { λ r. ⌜ r ≡ preparingOk n c (front joined v 0 phase set) ⌝ }
+{
+    let now = equal(wide8(phase), 1);
+    let ballot = implied(now, at_most(8, wide32(joined)));
+    let voted = implied(now, below(wide32(v.voted), wide32(joined)));
+    let own = implied(now, is_member(c, set));
+    let few = implied(now, at_most(count_of(set), faults_of(n)));
+    both(both(both(ballot, voted), own), few)
+}
+
+fn status_fits(v: Vote, phase: u8) -> bool
+    ensures { λ r. ⌜ r ≡ (preacceptingStatus (front 0 v 0 phase 0)) ⌝ }
+{
+    let status = wide8(v.status);
+    implied(
+        equal(wide8(phase), 2),
+        either(equal(status, 1), equal(status, 2)),
+    )
+}
+
+fn op_fits(joined: u32, v: Vote, phase: u8) -> bool
+    ensures { λ r. ⌜ r ≡ (preacceptingOp (front joined v 0 phase 0)) ⌝ }
+{
+    let command = v.command;
+    let first = implied(equal(wide32(joined), 0), !is_noop(command));
+    implied(equal(wide8(phase), 2), first)
+}
+
+fn proposing_ok(c: usize, joined: u32, v: Vote, phase: u8, set: u8) -> bool
+    requires { ⌜ c < 8 ⌝ }
+    ensures { λ r. ⌜ r ≡ proposingOk c (front joined v 0 phase set) ⌝ }
+{
+    let p = wide8(phase);
+    let accepting = implied(equal(p, 3), equal(wide8(v.status), 3));
+    let voted = implied(at_most(2, p), equal(wide32(v.voted), wide32(joined)));
+    let own = implied(at_most(2, p), !is_member(c, set));
+    let statuses = both(
+        both(status_fits(v, phase), op_fits(joined, v, phase)),
+        accepting,
+    );
+    both(both(statuses, voted), own)
+}
+
+fn busy_ok(c: usize, o: usize, joined: u32, v: Vote, phase: u8, set: u8) -> bool
+    ensures { λ r. ⌜ r ≡ busyOk c o (front joined v 0 phase set) ⌝ }
+{
+    let p = wide8(phase);
+    let empty = implied(equal(p, 0), equal(wide8(set), 0));
+    let open = implied(at_most(1, p), below(wide8(v.status), 4));
+    let leads = implied(at_most(1, p), equal(lead_of(o, joined), c));
+    both(both(empty, open), leads)
+}
+
+pub fn phases_ok(n: usize, c: usize, o: usize, joined: u32, v: Vote, phase: u8, set: u8) -> bool
+    requires { ⌜ (1 ≤ n) × (c < 8) ⌝ }
+    ensures { λ r. ⌜ r ≡ phasesOk n c o (front joined v 0 phase set) ⌝ }
+{
+    let busy = busy_ok(c, o, joined, v, phase, set);
+    let preparing = preparing_ok(n, c, joined, v, phase, set);
+    both(
+        both(busy, preparing),
+        proposing_ok(c, joined, v, phase, set),
+    )
+}
+
+// The reply v of copy q, in phase p at ballot b of a record with the vote own.
+pub fn collected_ok(
+    n: usize,
+    s: usize,
+    c: usize,
+    p: u8,
+    b: u32,
+    own: Vote,
+    q: usize,
+    v: Vote,
+) -> bool
+    ensures { λ r. ⌜ r ≡ collectedOk n s c p b own q v ⌝ }
+{
+    if p == 1 {
+        if q == c {
+            return same_vote(v, own);
+        }
+        return told_ok(n, s, b, v);
+    }
+    if p == 2 {
+        return added_ok(n, s, v);
+    }
+    same_vote(v, no_vote())
+}
