@@ -1,0 +1,144 @@
+-- Lengths of a record's bytes, one more reply written, and soundness as it is judged. Assumes nothing.
+use mathlib.Core.Path.{_≡_, refl, sym, ap, _∙_}
+use mathlib.Core.Bool.{Bool, true, false, _&&_}
+use mathlib.Core.List.{List, [], _∷_, _++_, append-assoc, append-nil}
+use Prim.Native.Nat.{ℕ, zero, suc, _+_, _*_, _-_, _≤_, _<_}
+use native.Mathlib.Omega.{arith}
+use native.Mathlib.Numerals.{add-one}
+use lib.ListN.{length, length-append, take, getD}
+use lib.Seq.{take-suc, length-take-le}
+use Rattle.num.specs.Num.{numAt, splice}
+use Rattle.num.proofs.Laws.{splice-step}
+use Rattle.codec.specs.Parts.{voteAt, voteBytes}
+use Rattle.paper.specs.Logic.{allBelow}
+use Rattle.paper.specs.Vote.{noVote, sameVote, member}
+use Rattle.paper.specs.Sound.{rangesOk, votesOk, phasesOk, preparingOk, proposingOk, busyOk, repliesOk, collectedOk, replyOk, soundRecord}
+use Rattle.sound.specs.Front.{front}
+use Rattle.paper.specs.declared.Vote.{Vote}
+use Rattle.paper.specs.declared.Record.{Record}
+use Rattle.record.specs.Layout.{votesAt, votesBytes, frontBytes, recordAt}
+use Rattle.record.specs.Part.{opFits, replyPlace, opsFit, soundPart, frontOk, replyPart}
+
+pub length-voteBytes : (v : Vote) → length (voteBytes v) ≡ 32
+unfolding voteBytes
+length-voteBytes v = refl
+
+pub length-votesBytes : (vs : List Vote) → length (votesBytes vs) ≡ 32 * length vs
+unfolding votesBytes
+length-votesBytes [] = refl
+length-votesBytes (v ∷ vs) = simp (length-append, length-voteBytes, length-votesBytes vs) (omega arith)
+
+pub length-frontBytes : (r : Record) → length (frontBytes r) ≡ 39
+unfolding frontBytes
+length-frontBytes r = simp (length-append, length-voteBytes)
+
+votesBytes-append : (vs ws : List Vote) → votesBytes (vs ++ ws) ≡ votesBytes vs ++ votesBytes ws
+unfolding votesBytes
+votesBytes-append [] ws = refl
+votesBytes-append (v ∷ vs) ws = rw (votesBytes-append vs ws, append-assoc)
+
+votesBytes-snoc : (vs : List Vote) (k : ℕ) (d : Vote) → k < length vs → votesBytes (take k vs) ++ voteBytes (getD vs k d) ≡ votesBytes (take (k + 1) vs)
+unfolding votesBytes
+votesBytes-snoc vs k d h =
+    sym (rw (add-one, take-suc vs k d h, votesBytes-append) (ap (λ (x : List ℕ). votesBytes (take k vs) ++ x) (append-nil (voteBytes (getD vs k d)))))
+
+-- one more reply is written after the first k
+pub votes-step : (l : List ℕ) (at : ℕ) (vs : List Vote) (k : ℕ) (d : Vote) {l₁ l₂ : List ℕ} → l₁ ≡ splice l at (votesBytes (take k vs))
+    → l₂ ≡ splice l₁ (at + 32 * k) (voteBytes (getD vs k d)) → k < length vs → at + 32 * k + 32 ≤ length l → l₂ ≡ splice l at (votesBytes (take (k + 1) vs))
+votes-step l at vs k d p q h r =
+    let n : length (take k vs) ≡ k = length-take-le k vs (omega arith) in
+    let m : length (votesBytes (take k vs)) ≡ 32 * k = length-votesBytes (take k vs) ∙ ap (λ (x : ℕ). 32 * x) n in
+    let o : length (voteBytes (getD vs k d)) ≡ 32 = length-voteBytes (getD vs k d) in
+    splice-step l at (votesBytes (take k vs)) (at + 32 * k) (voteBytes (getD vs k d)) p q (omega arith) (omega arith)
+    ∙ ap (λ (v : List ℕ). splice l at v) (votesBytes-snoc vs k d h)
+
+-- tests of each place that are asked one after the other
+pub allBelow-step : (k : ℕ) (f : ℕ → Bool) → 0 < k → allBelow k f ≡ (f (k - 1) && allBelow (k - 1) f)
+unfolding allBelow
+allBelow-step zero f h = absurd (omega arith)
+allBelow-step (suc k) f h = let e : suc k - 1 ≡ k = omega arith in rw e
+
+pub allBelow-none : (k : ℕ) (f : ℕ → Bool) → k ≡ 0 → allBelow k f ≡ true
+unfolding allBelow
+allBelow-none k f e = rw e
+
+pub allBelow-both : (k : ℕ) (f g : ℕ → Bool) → allBelow k (λ i. f i && g i) ≡ (allBelow k f && allBelow k g)
+unfolding allBelow
+allBelow-both zero f g = refl
+allBelow-both (suc k) f g = go (f k) (g k) (allBelow k f) (allBelow k g) (allBelow-both k f g)
+  where
+    go : (a b x y : Bool) {z : Bool} → z ≡ (x && y) → (a && b && z) ≡ (a && x && (b && y))
+    go true true x y e = e
+    go true false true y e = refl
+    go true false false y e = refl
+    go false b x y e = refl
+
+-- sound as the paper has it is sound as it is judged
+pub soundPart-is : (n s c o : ℕ) (b : List ℕ) → soundPart n s c o b ≡ (frontOk n s c o b && allBelow 7 (replyPart n s c b))
+unfolding soundPart frontOk replyPart opsFit soundRecord repliesOk
+soundPart-is n s c o b =
+    let f : ℕ → Bool = λ q. opFits b (replyPlace q) in
+    let g : ℕ → Bool = replyOk n s c (recordAt b) in
+    go (opFits b 4) (allBelow 7 f) (rangesOk n s (recordAt b) && votesOk (recordAt b) && phasesOk n c o (recordAt b)) (allBelow 7 g) (allBelow-both 7 f g)
+  where
+    go : (a x y z : Bool) {w : Bool} → w ≡ (x && z) → (a && x && (y && z)) ≡ (a && y && w)
+    go true true true z e = sym e
+    go true true false z e = refl
+    go true false true z e = sym e
+    go true false false z e = refl
+    go false x y z e = refl
+
+votesAt-at : (k : ℕ) (b : List ℕ) (at q : ℕ) (d : Vote) → q < k → getD (votesAt k b at) q d ≡ voteAt b (at + 32 * q)
+unfolding votesAt
+votesAt-at zero b at q d h = absurd (omega arith)
+votesAt-at (suc k) b at zero d h = let e : at ≡ at + 32 * 0 = omega arith in ap (voteAt b) e
+votesAt-at (suc k) b at (suc q) d h =
+    let e : at + 32 + 32 * q ≡ at + 32 * suc q = omega arith in
+    votesAt-at k b (at + 32) q d (omega arith) ∙ ap (voteAt b) e
+
+-- the reply of copy q stands at its place
+pub votesAt-place : (q : ℕ) (b : List ℕ) (d : Vote) → q < 7 → getD (votesAt 7 b 39) q d ≡ voteAt b (replyPlace q)
+votesAt-place q b d h = votesAt-at 7 b 39 q d h
+
+-- what is asked of a reply's place
+module _ (n s c : ℕ) (b : List ℕ) (q : ℕ) (h : q < 7) where
+  pub replyPart-op : opFits b (replyPlace q) ≡ false → false ≡ replyPart n s c b q
+  unfolding replyPart
+  replyPart-op p = rw p
+
+  pub replyPart-in : opFits b (replyPlace q) ≡ true → member q (numAt 1 b 38) ≡ true
+      → collectedOk n s c (numAt 1 b 37) (numAt 4 b 0) (voteAt b 4) q (voteAt b (replyPlace q)) ≡ replyPart n s c b q
+  unfolding replyPart replyOk recordAt
+  replyPart-in p m = rw (p, m, votesAt-place q b noVote h)
+
+  pub replyPart-out : opFits b (replyPlace q) ≡ true → member q (numAt 1 b 38) ≡ false → sameVote (voteAt b (replyPlace q)) noVote ≡ replyPart n s c b q
+  unfolding replyPart replyOk recordAt
+  replyPart-out p m = rw (p, m, votesAt-place q b noVote h)
+
+-- all but the replies, of the fields as they were read
+pub front-judged : (n s c o : ℕ) (b : List ℕ) {j : ℕ} {v : Vote} {m p t : ℕ} {a x y z u w r : Bool} → j ≡ numAt 4 b 0 → v ≡ voteAt b 4
+    → m ≡ numAt 1 b 36 → p ≡ numAt 1 b 37 → t ≡ numAt 1 b 38 → x ≡ rangesOk n s (front j v m p t) → y ≡ votesOk (front j v m 0 0)
+    → z ≡ phasesOk n c o (front j v 0 p t) → a ≡ opFits b 4 → u ≡ (x && y) → w ≡ (u && z) → r ≡ (a && w) → r ≡ frontOk n s c o b
+unfolding frontOk recordAt rangesOk votesOk phasesOk preparingOk proposingOk busyOk
+front-judged n s c o b ej ev em ep et ex ey ez ea eu ew er = rw (er, ew, eu, ea, ex, ey, ez, ej, ev, em, ep, et)
+
+-- the rest of the replies is judged after those above
+pub record Judged (n s c o : ℕ) (b : List ℕ) (left : ℕ) : Type 0 where
+  pub so : soundPart n s c o b ≡ allBelow left (replyPart n s c b)
+  pub few : left ≤ 7
+
+module _ (n s c o : ℕ) (b : List ℕ) where
+  pub judged-front : frontOk n s c o b ≡ true → Judged n s c o b 7
+  judged-front p = record { so = soundPart-is n s c o b ∙ rw p; few = omega arith }
+
+  pub unsound-front : frontOk n s c o b ≡ false → false ≡ soundPart n s c o b
+  unsound-front p = sym (soundPart-is n s c o b ∙ rw p)
+
+  pub judged-next : (left : ℕ) → 0 < left → Judged n s c o b left → replyPart n s c b (left - 1) ≡ true → Judged n s c o b (left - 1)
+  judged-next left h j p = record { so = j .so ∙ allBelow-step left (replyPart n s c b) h ∙ rw p; few = omega (arith, j .few) }
+
+  pub unsound-reply : (left : ℕ) → 0 < left → Judged n s c o b left → replyPart n s c b (left - 1) ≡ false → false ≡ soundPart n s c o b
+  unsound-reply left h j p = sym (j .so ∙ allBelow-step left (replyPart n s c b) h ∙ rw p)
+
+  pub judged-all : (left : ℕ) → left ≡ 0 → Judged n s c o b left → true ≡ soundPart n s c o b
+  judged-all left e j = sym (j .so ∙ allBelow-none left (replyPart n s c b) e)
