@@ -1,0 +1,122 @@
+-- Both round trips of a record: what was written is read back, and what was read from sound bytes is written back. Assumes nothing.
+use mathlib.Core.Path.{_≡_, refl, sym, ap, ap₂, _∙_}
+use mathlib.Core.Bool.{Bool, true, _&&_}
+use mathlib.Core.List.{List, [], _∷_, _++_, append-assoc, append-nil}
+use Prim.Native.Nat.{ℕ, zero, suc, _+_, _*_, _^_, _≤_, _<_}
+use native.Mathlib.Omega.{arith}
+use lib.Dec.{leb}
+use lib.ListN.{length, getD, take, drop, length-append}
+use lib.Seq.{take-all, take-add, drop-drop}
+use borrow.Author.Tests.{leb-true}
+use Rattle.num.specs.Num.{numAt, bytesOf}
+use Rattle.num.proofs.Laws.{numAt-bytesOf, bytesOf-numAt}
+use Rattle.codec.specs.Parts.{voteAt, voteBytes}
+use Rattle.codec.proofs.Laws.{VoteFits, voteAt-voteBytes, voteBytes-voteAt}
+use Rattle.paper.specs.Logic.{allBelow}
+use Rattle.paper.proofs.Laws.{and-true, allBelow-at}
+use Rattle.paper.specs.declared.Vote.{Vote}
+use Rattle.paper.specs.declared.Record.{Record}
+use Rattle.record.specs.Layout.{votesAt, votesBytes, recordAt, frontBytes, recordBytes}
+use Rattle.record.specs.Part.{opFits, opsFit, replyPlace}
+use Rattle.record.proofs.Laws.{length-voteBytes, length-votesBytes, length-frontBytes}
+
+-- what every vote of a list, and every record, of the language's types satisfies
+abbrev pub VotesFit : List Vote → Type 0
+VotesFit [] = Unit {0}
+VotesFit (v ∷ vs) = VoteFits v × VotesFit vs
+
+pub record RecordFits (r : Record) : Type 0 where
+  pub joined : r .joined < 256 ^ 4
+  pub vote : VoteFits (r .vote)
+  pub mark : r .mark < 256
+  pub phase : r .phase < 256
+  pub set : r .set < 256
+  pub seven : length (r .replies) ≡ 7
+  pub replies : VotesFit (r .replies)
+
+votesAt-votesBytes : (vs : List Vote) (p : List ℕ) (at : ℕ) → length p ≡ at → VotesFit vs → votesAt (length vs) (p ++ votesBytes vs) at ≡ vs
+unfolding votesAt votesBytes
+votesAt-votesBytes [] p at e f = refl
+votesAt-votesBytes (v ∷ vs) p at e f =
+    let one : voteAt (p ++ (voteBytes v ++ votesBytes vs)) at ≡ v = voteAt-voteBytes v p (votesBytes vs) at e (f .0) in
+    let l : length (p ++ voteBytes v) ≡ at + 32 = simp (length-append, length-voteBytes) (omega arith) in
+    let more : votesAt (length vs) (p ++ voteBytes v ++ votesBytes vs) (at + 32) ≡ vs = votesAt-votesBytes vs (p ++ voteBytes v) (at + 32) l (f .1) in
+    rw one (ap (λ (l : List Vote). v ∷ l) (rw (← append-assoc p (voteBytes v) (votesBytes vs)) more))
+
+-- what was written is read back
+module _ (r : Record) (f : RecordFits r) where
+  joined-reads : numAt 4 (recordBytes r) 0 ≡ r .joined
+  unfolding recordBytes frontBytes
+  joined-reads = numAt-bytesOf 4 (r .joined) [] [] 0 refl (f .joined)
+
+  vote-reads : voteAt (recordBytes r) 4 ≡ r .vote
+  unfolding recordBytes frontBytes voteAt voteBytes
+  vote-reads = voteAt-voteBytes (r .vote) [] [] 0 refl (f .vote)
+
+  mark-reads : numAt 1 (recordBytes r) 36 ≡ r .mark
+  unfolding recordBytes frontBytes voteBytes
+  mark-reads = omega (arith, f .mark)
+
+  phase-reads : numAt 1 (recordBytes r) 37 ≡ r .phase
+  unfolding recordBytes frontBytes voteBytes
+  phase-reads = omega (arith, f .phase)
+
+  set-reads : numAt 1 (recordBytes r) 38 ≡ r .set
+  unfolding recordBytes frontBytes voteBytes
+  set-reads = omega (arith, f .set)
+
+  replies-read : votesAt 7 (recordBytes r) 39 ≡ r .replies
+  unfolding recordBytes
+  replies-read =
+      ap (λ (k : ℕ). votesAt k (frontBytes r ++ votesBytes (r .replies)) 39) (sym (f .seven))
+      ∙ votesAt-votesBytes (r .replies) (frontBytes r) 39 (length-frontBytes r) (f .replies)
+
+  pub recordAt-recordBytes : recordAt (recordBytes r) ≡ r
+  unfolding recordAt
+  recordAt-recordBytes = λ i. record
+    { joined = joined-reads i
+    ; vote = vote-reads i
+    ; mark = mark-reads i
+    ; phase = phase-reads i
+    ; set = set-reads i
+    ; replies = replies-read i }
+
+-- what was read is written back, where each op byte is the number of an op
+module _ (b : List ℕ) (byte : (i : ℕ) → getD b i 0 < 256) (long : length b ≡ 263) where
+  votes-back : (k at : ℕ) → at + 32 * k ≤ 263 → ((q : ℕ) → q < k → numAt 1 b (at + 32 * q + 5) ≤ 2) → votesBytes (votesAt k b at) ≡ take (32 * k) (drop at b)
+  unfolding votesAt votesBytes
+  votes-back zero at h o = refl
+  votes-back (suc k) at h o =
+      let e : at + 32 * 0 + 5 ≡ at + 5 = omega arith in
+      let one : voteBytes (voteAt b at) ≡ take 32 (drop at b) = voteBytes-voteAt b at byte (omega arith) (rw e at (o 0 (omega arith))) in
+      let next : (q : ℕ) → q < k → numAt 1 b (at + 32 + 32 * q + 5) ≤ 2 =
+          λ q l. let g : at + 32 * suc q + 5 ≡ at + 32 + 32 * q + 5 = omega arith in rw g at (o (suc q) (omega arith)) in
+      let more : votesBytes (votesAt k b (at + 32)) ≡ take (32 * k) (drop (at + 32) b) = votes-back k (at + 32) (omega arith) next in
+      let n : 32 * suc k ≡ 32 + 32 * k = omega arith in
+      rw (one, more, n, take-add 32 (32 * k) (drop at b), drop-drop 32 at b)
+
+  ops-at : opsFit b ≡ true → (q : ℕ) → q < 7 → numAt 1 b (39 + 32 * q + 5) ≤ 2
+  unfolding opsFit
+  ops-at h q l =
+      leb-true _ 2 (allBelow-at 7 (λ k. opFits b (replyPlace k)) (and-true (opFits b 4) (allBelow 7 (λ k. opFits b (replyPlace k))) h .1) q l)
+
+  op-at : opsFit b ≡ true → numAt 1 b (4 + 5) ≤ 2
+  unfolding opsFit
+  op-at h = leb-true _ 2 (and-true (opFits b 4) (allBelow 7 (λ k. opFits b (replyPlace k))) h .0)
+
+  pub recordBytes-recordAt : opsFit b ≡ true → recordBytes (recordAt b) ≡ b
+  unfolding recordBytes frontBytes recordAt
+  recordBytes-recordAt h =
+      let j = bytesOf-numAt 4 b 0 byte (omega arith) in
+      let v = voteBytes-voteAt b 4 byte (omega arith) (op-at h) in
+      let m = bytesOf-numAt 1 b 36 byte (omega arith) in
+      let p = bytesOf-numAt 1 b 37 byte (omega arith) in
+      let s = bytesOf-numAt 1 b 38 byte (omega arith) in
+      let w = votes-back 7 39 (omega arith) (ops-at h) in
+      whole j v m p s w
+    where
+      whole : {j v m p s w : List ℕ} → j ≡ take 4 (drop 0 b) → v ≡ take 32 (drop 4 b) → m ≡ take 1 (drop 36 b) → p ≡ take 1 (drop 37 b) → s ≡ take 1 (drop 38 b)
+          → w ≡ take 224 (drop 39 b) → (j ++ v ++ m ++ p ++ s ++ w) ≡ b
+      whole ej ev em ep es ew =
+          rw (ej, ev, em, ep, es, ew, ← take-add 4 32 b, ← take-add 36 1 b, ← take-add 37 1 b, ← take-add 38 1 b, ← take-add 39 224 b)
+          (take-all 263 b (omega arith))
