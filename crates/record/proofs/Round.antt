@@ -73,13 +73,14 @@ module _ (r : Record) (f : RecordFits r) where
 
   pub recordAt-recordBytes : recordAt (recordBytes r) ≡ r
   unfolding recordAt
-  recordAt-recordBytes = λ i. record
-    { joined = joined-reads i
-    ; vote = vote-reads i
-    ; mark = mark-reads i
-    ; phase = phase-reads i
-    ; set = set-reads i
-    ; replies = replies-read i }
+  recordAt-recordBytes = λ i. record {
+    joined = joined-reads i;
+    vote = vote-reads i;
+    mark = mark-reads i;
+    phase = phase-reads i;
+    set = set-reads i;
+    replies = replies-read i;
+  }
 
 -- what was read is written back, where each op byte is the number of an op
 module _ (b : List ℕ) (byte : (i : ℕ) → getD b i 0 < 256) (long : length b ≡ 263) where
@@ -90,7 +91,7 @@ module _ (b : List ℕ) (byte : (i : ℕ) → getD b i 0 < 256) (long : length b
       let e : at + 32 * 0 + 5 ≡ at + 5 = omega arith in
       let one : voteBytes (voteAt b at) ≡ take 32 (drop at b) = voteBytes-voteAt b at byte (omega arith) (rw e at (o 0 (omega arith))) in
       let next : (q : ℕ) → q < k → numAt 1 b (at + 32 + 32 * q + 5) ≤ 2 =
-          λ q l. let g : at + 32 * suc q + 5 ≡ at + 32 + 32 * q + 5 = omega arith in rw g at (o (suc q) (omega arith)) in
+      λ q l. let g : at + 32 * suc q + 5 ≡ at + 32 + 32 * q + 5 = omega arith in rw g at (o (suc q) (omega arith)) in
       let more : votesBytes (votesAt k b (at + 32)) ≡ take (32 * k) (drop (at + 32) b) = votes-back k (at + 32) (omega arith) next in
       let n : 32 * suc k ≡ 32 + 32 * k = omega arith in
       rw (one, more, n, take-add 32 (32 * k) (drop at b), drop-drop 32 at b)

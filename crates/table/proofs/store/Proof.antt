@@ -1,0 +1,49 @@
+use mathlib.Core.Path.{ap, _∙_}
+use mathlib.Core.List.{List}
+use Prim.Native.Nat.{ℕ, _+_, _-_}
+use native.Mathlib.Omega.{arith}
+use lib.ListN.{length, take, drop}
+use borrow.Rule.Slice.PartMut.{putMid}
+use Rattle.record.specs.Layout.{recordBytes}
+use Rattle.table.proofs.Laws.{put-splice}
+use borrow.Author.Needs.{needs}
+use Rattle.table.proofs.store.Statement.{statement}
+use Rattle.table.proofs.store.Tie as tie
+
+add-end : tie.Need-add-end
+add-end c = search needs
+
+sub-write-record : tie.Need-sub-write-record
+sub-write-record c = search needs
+
+part-write-record-start : tie.Need-part-write-record-start
+part-write-record-start c = search needs
+
+part-write-record-end : tie.Need-part-write-record-end
+part-write-record-end c = search needs
+
+write-record-requires : tie.Need-write-record-requires
+write-record-requires c κs = search needs
+
+same-length : tie.Need-same-length
+same-length c = search needs
+
+returns : tie.Need-returns
+returns c =
+    let w = c .before .before .write-record .ensures in
+    let e = c .before .before .before .before .before in
+    let at = e .args .at in
+    ap (λ (v : List ℕ). putMid at (at + 263 - at) (e .args .t .now) v) w
+    ∙ put-splice (e .args .t .now) at 263 (recordBytes (e .args .r)) (omega (arith, ap length w))
+
+pub store-spec : {M : Type 1} → statement M
+store-spec =
+    tie.close
+    (tie.spec
+    add-end
+    sub-write-record
+    part-write-record-start
+    part-write-record-end
+    write-record-requires
+    same-length
+    returns)

@@ -1,0 +1,39 @@
+-- What the calls on a whole table answer, and every lent byte after. Assumes nothing.
+use Prim.Native.Nat.{ℕ}
+use mathlib.Core.Bool.{Bool, _&&_, not, cond}
+use mathlib.Core.List.{List, []}
+use Rattle.paper.specs.Instance.{instanceOk}
+use Rattle.paper.specs.Refusal.{numberOf}
+use Rattle.paper.specs.declared.Refusal.{Refusal}
+use Rattle.paper.specs.declared.Refusal.the-variants.{Setup, Unsound}
+use Rattle.table.specs.declared.Blanking.{Blanking}
+use Rattle.table.specs.declared.Blanking.the-variants as blanking
+use Rattle.table.specs.declared.Judging.{Judging}
+use Rattle.table.specs.declared.Judging.the-variants as judging
+use Rattle.table.specs.Place.{placeOf, partAt}
+use Rattle.table.specs.Table.{fits, soundTable, blankTable}
+
+-- refusal 1 only, and nothing is written then
+unfoldable pub blanked : ℕ → ℕ → ℕ → List ℕ → Blanking
+blanked n s c t = cond (fits n s c t) blanking.Blank (blanking.Refused Setup)
+
+unfoldable pub blankedTable : ℕ → ℕ → ℕ → List ℕ → List ℕ
+blankedTable n s c t = cond (fits n s c t) (blankTable n s c) t
+
+-- 1, then 11
+unfoldable pub judged : ℕ → ℕ → ℕ → List ℕ → Judging
+judged n s c t =
+    cond (not (fits n s c t)) (judging.Refused Setup) (cond (not (soundTable n s c t)) (judging.Refused Unsound) judging.Sound)
+
+-- the part of the table that holds the record of o.j, for saving; empty for a bad instance or where 1 would be refused
+unfoldable pub partOf : ℕ → ℕ → ℕ → List ℕ → ℕ → ℕ → List ℕ
+partOf n s c t o j = cond (fits n s c t && instanceOk n s o j) (partAt t (placeOf s o j)) []
+
+-- the paper's number of an answer, 0 for none
+abbrev pub blankingNumber : Blanking → ℕ
+blankingNumber blanking.Blank = 0
+blankingNumber (blanking.Refused r) = numberOf r
+
+abbrev pub judgingNumber : Judging → ℕ
+judgingNumber judging.Sound = 0
+judgingNumber (judging.Refused r) = numberOf r

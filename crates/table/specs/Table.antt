@@ -1,0 +1,39 @@
+-- "The record of one instance": the table, blank and sound. Assumes nothing.
+use Prim.Native.Nat.{ℕ, _+_, _*_, _-_}
+use mathlib.Core.Bool.{Bool, _&&_}
+use mathlib.Core.List.{List, [], _∷_, _++_}
+use lib.Dec.{eqb}
+use lib.ListN.{length, replicate}
+use Rattle.num.specs.Num.{numAt, splice}
+use Rattle.paper.specs.Logic.{allBelow}
+use Rattle.paper.specs.Setup.{setupOk}
+use Rattle.paper.specs.declared.Record.{Record}
+use Rattle.record.specs.Layout.{recordAt, recordBytes}
+use Rattle.record.specs.Part.{soundPart}
+use Rattle.table.specs.Place.{tableLength, placeAt, placeOf, partAt}
+
+-- what refusal 1 asks
+unfoldable pub fits : ℕ → ℕ → ℕ → List ℕ → Bool
+fits n s c t = setupOk n s c && eqb (length t) (tableLength n s)
+
+-- setup and copy number are the caller's
+unfoldable pub headOk : ℕ → ℕ → ℕ → List ℕ → Bool
+headOk n s c t = eqb (numAt 1 t 0) n && eqb (numAt 1 t 1) s && eqb (numAt 1 t 2) c
+
+-- every record of an owner's row is sound
+unfoldable pub soundRow : ℕ → ℕ → ℕ → List ℕ → ℕ → Bool
+soundRow n s c t o = allBelow s (λ i. soundPart n s c o (partAt t (placeAt s o i)))
+
+unfoldable pub soundTable : ℕ → ℕ → ℕ → List ℕ → Bool
+soundTable n s c t = headOk n s c t && allBelow n (soundRow n s c t)
+
+-- the head and blank records
+unfoldable pub blankTable : ℕ → ℕ → ℕ → List ℕ
+blankTable n s c = (n ∷ s ∷ c ∷ []) ++ replicate (263 * (n * s)) 0
+
+-- one record in and out
+abbrev pub recordIn : ℕ → List ℕ → ℕ → ℕ → Record
+recordIn s t o j = recordAt (partAt t (placeOf s o j))
+
+abbrev pub putRecord : ℕ → List ℕ → ℕ → ℕ → Record → List ℕ
+putRecord s t o j r = splice t (placeOf s o j) (recordBytes r)

@@ -1,0 +1,196 @@
+// The table: lent bytes, a head and one record for each instance.
+use nouns::logic::both;
+use nouns::logic::equal;
+use nouns::logic::wide8;
+use nouns::setup::instance_ok;
+use nouns::setup::setup_ok;
+use paper::Record;
+use paper::Refusal;
+ghost use mathlib.Core.Path.{_≡_};
+ghost use Prim.Native.Nat.{_+_, _*_, _≤_, _<_};
+ghost use mathlib.Core.List.{[], _∷_};
+ghost use lib.ListN.{length, replicate};
+ghost use Rattle.num.specs.Num.{splice};
+ghost use Rattle.paper.specs.Logic.{allBelow};
+ghost use Rattle.record.specs.Layout.{recordAt, recordBytes};
+ghost use Rattle.table.specs.Place.{tableLength, placeAt, placeOf, partAt};
+ghost use Rattle.table.specs.Table.{fits, headOk, soundRow, soundTable, blankTable};
+ghost use Rattle.table.specs.Calls.{blanked, blankedTable, judged, partOf};
+ghost use Rattle.table.specs.Sizes.{Sizes, Row, Names};
+
+pub enum Blanking {
+    Blank,
+    Refused(Refusal),
+}
+
+pub enum Judging {
+    Sound,
+    Refused(Refusal),
+}
+
+fn times(n: usize, s: usize) -> usize
+    requires { ⌜ (n ≤ 7) × (s ≤ 64) ⌝ }
+    ensures { λ r. ⌜ (r ≡ n * s) × (r ≤ 448) ⌝ }
+{
+    n * s
+}
+
+fn table_length(n: usize, s: usize) -> usize
+    requires { ⌜ (n ≤ 7) × (s ≤ 64) ⌝ }
+    ensures { λ r. ⌜ r ≡ tableLength n s ⌝ }
+{
+    3 + 263 * times(n, s)
+}
+
+// What refusal 1 asks.
+pub fn fits_setup(t: &[u8], n: usize, s: usize, c: usize) -> bool
+    ensures { λ r. ⌜ r ≡ fits n s c (now (t .entry)) ⌝ }
+{
+    if !setup_ok(n, s, c) {
+        return false;
+    }
+    t.len() == table_length(n, s)
+}
+
+// Where the record of o.j starts.
+pub fn place_of(n: usize, s: usize, o: usize, j: usize) -> usize
+    requires { ⌜ Names n s o j ⌝ }
+    ensures { λ r. ⌜ (r ≡ placeOf s o j) × (r + 263 ≤ tableLength n s) ⌝ }
+{
+    3 + 263 * (times(o, s) + (j - 1))
+}
+
+// One record is read from its part of the table.
+pub fn load(t: &[u8], at: usize) -> Record
+    requires { ⌜ at + 263 ≤ length (now t) ⌝ }
+    ensures { λ r. ⌜ r ≡ recordAt (partAt (now (t .entry)) at) ⌝ }
+{
+    let end = at + 263;
+    record::read_record(&t[at..end])
+}
+
+// The record's bytes, from the middle of the table, are lent on to the record writer; no other byte changes.
+pub fn store(t: &mut [u8], at: usize, r: Record)
+    requires { ⌜ at + 263 ≤ length (now t) ⌝ }
+    ensures { λ _. ⌜ now (t .exit) ≡ splice (now (t .entry)) at (recordBytes r) ⌝ }
+{
+    let end = at + 263;
+    record::write_record(&mut t[at..end], r);
+}
+
+fn head_ok(t: &[u8], n: usize, s: usize, c: usize) -> bool
+    requires { ⌜ 3 ≤ length (now t) ⌝ }
+    ensures { λ r. ⌜ r ≡ headOk n s c (now (t .entry)) ⌝ }
+{
+    let copies = equal(wide8(num::get_u8(t, 0)), n);
+    let numbers = equal(wide8(num::get_u8(t, 1)), s);
+    both(both(copies, numbers), equal(wide8(num::get_u8(t, 2)), c))
+}
+
+// Every record of owner o's row is sound; the row is walked from its end.
+fn row_sound(t: &[u8], n: usize, s: usize, c: usize, o: usize) -> bool
+    requires { ⌜ Row n s c o (now t) ⌝ }
+    ensures { λ r. ⌜ r ≡ soundRow n s c (now (t .entry)) o ⌝ }
+{
+    let mut left = s;
+    let mut at = 3 + 263 * (times(o, s) + s);
+    while 0 < left {
+        let end = at;
+        left -= 1;
+        at -= 263;
+        if !record::sound_part(&t[at..end], n, s, c, o) {
+            return false;
+        }
+    }
+    true
+}
+
+fn rows_sound(t: &[u8], n: usize, s: usize, c: usize) -> bool
+    requires { ⌜ Sizes n s c (now t) ⌝ }
+    ensures { λ r. ⌜ r ≡ allBelow n (soundRow n s c (now (t .entry))) ⌝ }
+{
+    let mut left = n;
+    while 0 < left {
+        left -= 1;
+        if !row_sound(t, n, s, c, left) {
+            return false;
+        }
+    }
+    true
+}
+
+// The table is sound; its setup and length were asked before.
+pub fn is_sound(t: &[u8], n: usize, s: usize, c: usize) -> bool
+    requires { ⌜ Sizes n s c (now t) ⌝ }
+    ensures { λ r. ⌜ r ≡ soundTable n s c (now (t .entry)) ⌝ }
+{
+    both(head_ok(t, n, s, c), rows_sound(t, n, s, c))
+}
+
+// Judges a table: 1, then 11.
+pub fn judge_table(t: &[u8], n: usize, s: usize, c: usize) -> Judging
+    ensures { λ r. ⌜ r ≡ judged n s c (now (t .entry)) ⌝ }
+{
+    if !fits_setup(t, n, s, c) {
+        return Judging::Refused(Refusal::Setup);
+    }
+    if !is_sound(t, n, s, c) {
+        return Judging::Refused(Refusal::Unsound);
+    }
+    Judging::Sound
+}
+
+fn clear(t: &mut [u8])
+    ensures { λ _. ⌜ now (t .exit) ≡ replicate (length (now (t .entry))) 0 ⌝ }
+{
+    let mut i = 0;
+    while i < t.len() {
+        t[i] = 0;
+        i += 1;
+    }
+}
+
+fn small(x: usize) -> u8
+    requires { ⌜ x < 256 ⌝ }
+    ensures { λ r. ⌜ r ≡ x ⌝ }
+{
+    x as u8
+}
+
+// The head and blank records.
+fn put_blank(t: &mut [u8], n: usize, s: usize, c: usize)
+    requires { ⌜ Sizes n s c (now t) ⌝ }
+    ensures { λ _. ⌜ now (t .exit) ≡ blankTable n s c ⌝ }
+{
+    clear(&mut *t);
+    num::put_u8(&mut *t, 0, small(n));
+    num::put_u8(&mut *t, 1, small(s));
+    num::put_u8(&mut *t, 2, small(c));
+}
+
+// Writes a blank table.
+pub fn blank_table(t: &mut [u8], n: usize, s: usize, c: usize) -> Blanking
+    ensures answers { λ r. ⌜ r ≡ blanked n s c (now (t .entry)) ⌝ }
+    ensures table { λ _. ⌜ now (t .exit) ≡ blankedTable n s c (now (t .entry)) ⌝ }
+{
+    if !fits_setup(&*t, n, s, c) {
+        return Blanking::Refused(Refusal::Setup);
+    }
+    put_blank(t, n, s, c);
+    Blanking::Blank
+}
+
+// The part of the table that holds the record of o.j, for saving; empty for a bad instance or where 1 would be refused.
+pub fn record_part(t: &[u8], n: usize, s: usize, c: usize, o: usize, j: usize) -> &[u8]
+    ensures { λ r. ⌜ now r ≡ partOf n s c (now (t .entry)) o j ⌝ }
+{
+    if !fits_setup(t, n, s, c) {
+        return &t[..0];
+    }
+    if !instance_ok(n, s, o, j) {
+        return &t[..0];
+    }
+    let at = place_of(n, s, o, j);
+    let end = at + 263;
+    &t[at..end]
+}
