@@ -6,7 +6,7 @@ use native.Mathlib.Omega.{arith}
 use native.Mathlib.Numerals.{add-one}
 use native.Mathlib.Nat.{pow-succ', mod-add-div, div-lt-iff-lt-mul, add-assoc, zero-add, add-zero, add-suc}
 use lib.ListN.{take-append-drop, length, getD, take, drop, length-append, length-take, length-drop, drop-of-length-le, List·getD-append}
-use lib.Seq.{getD-at, getD-take, getD-drop, drop-cons, ext-getD, append-snoc, take-at, drop-at, take-all, take-append-le, drop-append-le, drop-drop, length-take-le}
+use lib.Seq.{getD-at, getD-take, getD-drop, drop-cons, ext-getD, append-snoc, take-at, drop-at, take-all, take-append-le, drop-append-le, drop-drop, length-take-le, take-add}
 use Rattle.num.specs.Num.{numAt, bytesOf, splice}
 
 pub length-bytesOf : (w x : ℕ) → length (bytesOf w x) ≡ w
@@ -110,3 +110,10 @@ splice-after l a v b h r =
       drop-at (take a l ++ v) (drop (a + length v) l) (a + length v) n,
       drop-drop,
     )
+
+-- what stands there already, written again
+pub splice-own : (l : List ℕ) (a k : ℕ) → a + k ≤ length l → splice l a (take k (drop a l)) ≡ l
+unfolding splice
+splice-own l a k h =
+    let n : length (take k (drop a l)) ≡ k = length-take-le k (drop a l) (simp length-drop (omega arith)) in
+    rw (n, ← take-add a k l) (take-append-drop (a + k) l)

@@ -1,3 +1,5 @@
 pub mod Laws
 pub mod Walk
 pub mod Blank
+pub mod Round
+pub mod Unique

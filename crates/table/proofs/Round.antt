@@ -1,0 +1,139 @@
+-- One record in and out of a table: get after put, put after get, and every byte that a put leaves. Assumes nothing.
+use mathlib.Core.Path.{_≡_, refl, sym, ap, _∙_}
+use mathlib.Core.Bool.{Bool, true, false, _&&_}
+use mathlib.Core.List.{List, [], _∷_}
+use mathlib.Core.Logic.{_⊎_, inl, inr, ⊎-elim}
+use Prim.Native.Nat.{ℕ, zero, suc, _+_, _*_, _-_, _≤_, _<_}
+use native.Mathlib.Omega.{arith}
+use native.Mathlib.Nat.{mul-le-mul-right, suc-mul, eq-or-lt-of-le}
+use lib.Dec.{leb}
+use borrow.Author.Tests.{leb-true, leb-false}
+use lib.ListN.{length, getD, take, drop, length-take, length-drop, length-append}
+use lib.Seq.{getD-take, getD-drop, take-take, drop-drop}
+use Rattle.num.specs.Num.{splice}
+use Rattle.num.proofs.Laws.{splice-same, splice-before, splice-after, splice-own, length-splice}
+use Rattle.paper.specs.Logic.{allBelow}
+use Rattle.paper.specs.Sound.{soundRecord}
+use Rattle.paper.proofs.Laws.{and-true, allBelow-at}
+use Rattle.paper.specs.declared.Record.{Record}
+use Rattle.record.specs.Layout.{recordAt, recordBytes, frontBytes, votesBytes}
+use Rattle.record.specs.Part.{soundPart, opsFit}
+use Rattle.record.proofs.Laws.{length-frontBytes, length-votesBytes}
+use Rattle.record.proofs.Round.{RecordFits, recordAt-recordBytes, recordBytes-recordAt}
+use Rattle.table.specs.Place.{tableLength, placeAt, placeOf, partAt}
+use Rattle.table.specs.Table.{headOk, soundRow, soundTable, recordIn, putRecord}
+use Rattle.table.specs.Sizes.{Sizes, Names}
+use Rattle.table.proofs.Laws.{place-end}
+
+pub length-recordBytes : (r : Record) → length (r .replies) ≡ 7 → length (recordBytes r) ≡ 263
+unfolding recordBytes
+length-recordBytes r h =
+    let m : length (votesBytes (r .replies)) ≡ 224 = length-votesBytes (r .replies) ∙ ap (λ (k : ℕ). 32 * k) h in
+    simp (length-append, length-frontBytes) (omega arith)
+
+le-or-gt : (a b : ℕ) → (a ≤ b) ⊎ (b < a)
+le-or-gt a b = go (leb a b) refl
+  where
+    go : (x : Bool) → leb a b ≡ x → (a ≤ b) ⊎ (b < a)
+    go true e = inl (leb-true a b e)
+    go false e = inr (leb-false a b e)
+
+-- two instances stand apart
+pub place-apart : (n s o j p k : ℕ) → Names n s o j → Names n s p k → ((o ≡ p) × (j ≡ k) → ⊥)
+    → (placeOf s o j + 263 ≤ placeOf s p k) ⊎ (placeOf s p k + 263 ≤ placeOf s o j)
+unfolding placeAt
+place-apart n s o j p k a b ne =
+    ⊎-elim
+    (λ (l : o ≤ p). ⊎-elim
+    (λ (e : o ≡ p). ⊎-elim
+    (λ (m : j ≤ k). ⊎-elim
+    (λ (f : j ≡ k). absurd (ne (e, f)))
+    (λ (g : j < k). inl (let q : o * s ≡ p * s = ap (λ (x : ℕ). x * s) e in omega (arith, a .first)))
+    (eq-or-lt-of-le m))
+    (λ (m : k < j). inr (let q : o * s ≡ p * s = ap (λ (x : ℕ). x * s) e in omega (arith, b .first)))
+    (le-or-gt j k))
+    (λ (g : o < p). inl (let q : suc o * s ≤ p * s = mul-le-mul-right s g in omega (arith, suc-mul o s, a .last, a .first, b .first)))
+    (eq-or-lt-of-le l))
+    (λ (g : p < o). inr (let q : suc p * s ≤ o * s = mul-le-mul-right s g in omega (arith, suc-mul p s, b .last, b .first, a .first)))
+    (le-or-gt o p)
+
+part-of-after : (t : List ℕ) (a : ℕ) (v : List ℕ) (b : ℕ) → a + length v ≤ b → b ≤ length t → partAt (splice t a v) b ≡ partAt t b
+part-of-after t a v b h l = ap (take 263) (splice-after t a v b h l)
+
+-- a table long enough for the setup, an instance, and a record to put there
+module _ (n s : ℕ) (t : List ℕ) (long : length t ≡ tableLength n s) (o j : ℕ) (a : Names n s o j) (r : Record) (seven : length (r .replies) ≡ 7) where
+  fit : placeOf s o j + length (recordBytes r) ≤ length t
+  fit = omega (arith, place-end n s o j a, length-recordBytes r seven)
+
+  pub put-long : length (putRecord s t o j r) ≡ length t
+  put-long = length-splice t (placeOf s o j) (recordBytes r) fit
+
+  -- reading back what was written
+  pub get-put : RecordFits r → recordIn s (putRecord s t o j r) o j ≡ r
+  get-put f =
+      ap recordAt (splice-same t (placeOf s o j) (recordBytes r) 263 (length-recordBytes r seven) (omega (arith, place-end n s o j a)))
+      ∙ recordAt-recordBytes r f
+
+  -- another record's part stays
+  pub put-part : (p k : ℕ) → Names n s p k → ((o ≡ p) × (j ≡ k) → ⊥) → partAt (putRecord s t o j r) (placeOf s p k) ≡ partAt t (placeOf s p k)
+  put-part p k b ne =
+      ⊎-elim
+      (λ (h : placeOf s o j + 263 ≤ placeOf s p k). part-of-after t (placeOf s o j) (recordBytes r) (placeOf s p k) (omega (arith, length-recordBytes r seven)) (omega (arith, place-end n s p k b)))
+      (λ (h : placeOf s p k + 263 ≤ placeOf s o j). splice-before t (placeOf s o j) (recordBytes r) (placeOf s p k) 263 h fit)
+      (place-apart n s o j p k a b ne)
+
+  pub get-put-other : (p k : ℕ) → Names n s p k → ((o ≡ p) × (j ≡ k) → ⊥) → recordIn s (putRecord s t o j r) p k ≡ recordIn s t p k
+  get-put-other p k b ne = ap recordAt (put-part p k b ne)
+
+  -- each byte outside the record's part stays
+  pub put-frame : (i : ℕ) → (i < placeOf s o j) ⊎ (placeOf s o j + 263 ≤ i) → i < length t → getD (putRecord s t o j r) i 0 ≡ getD t i 0
+  put-frame i h l =
+      ⊎-elim
+      (λ (b : i < placeOf s o j).
+      let e = splice-before t (placeOf s o j) (recordBytes r) i 1 (omega arith) fit in
+      at-of i 0 (putRecord s t o j r) t e)
+      (λ (b : placeOf s o j + 263 ≤ i).
+      let e = splice-after t (placeOf s o j) (recordBytes r) i (omega (arith, length-recordBytes r seven)) (omega arith) in
+      at-of i 0 (putRecord s t o j r) t (ap (take 1) e))
+      h
+    where
+      at-of : (i d : ℕ) (x y : List ℕ) → take 1 (drop i x) ≡ take 1 (drop i y) → getD x i d ≡ getD y i d
+      at-of i d x y e =
+          let z : i + 0 ≡ i = omega arith in
+          let one : (l : List ℕ) → getD (take 1 (drop i l)) 0 d ≡ getD l i d =
+          λ l. getD-take 1 (drop i l) 0 d (omega arith) ∙ getD-drop i l 0 d ∙ ap (λ (k : ℕ). getD l k d) z in
+          sym (one x) ∙ ap (λ (l : List ℕ). getD l 0 d) e ∙ one y
+
+-- a record of a sound table is sound in its bytes
+pub sound-at : (n s c : ℕ) (t : List ℕ) → soundTable n s c t ≡ true → (o j : ℕ) → Names n s o j → soundPart n s c o (partAt t (placeOf s o j)) ≡ true
+unfolding soundTable soundRow
+sound-at n s c t h o j a =
+    let rows = and-true (headOk n s c t) (allBelow n (soundRow n s c t)) h .1 in
+    let row = allBelow-at n (soundRow n s c t) rows o (a .owner) in
+    allBelow-at s (λ i. soundPart n s c o (partAt t (placeAt s o i))) row (j - 1) (omega (arith, a .first, a .last))
+
+ops-fit : (n s c o : ℕ) (b : List ℕ) → soundPart n s c o b ≡ true → opsFit b ≡ true
+unfolding soundPart
+ops-fit n s c o b h = and-true (opsFit b) (soundRecord n s c o (recordAt b)) h .0
+
+getD-past : (l : List ℕ) (i : ℕ) → length l ≤ i → getD l i 0 ≡ 0
+getD-past [] i h = refl
+getD-past (x ∷ l) zero h = absurd (omega arith)
+getD-past (x ∷ l) (suc i) h = getD-past l i (omega arith)
+
+part-bytes : (t : List ℕ) (at : ℕ) → ((i : ℕ) → getD t i 0 < 256) → (i : ℕ) → getD (partAt t at) i 0 < 256
+part-bytes t at b i =
+    ⊎-elim
+    (λ (h : 263 ≤ i). rw (getD-past (partAt t at) i (simp length-take (omega arith))) (omega arith))
+    (λ (h : i < 263). rw (getD-take 263 (drop at t) i 0 h, getD-drop at t i 0) (b (at + i)))
+    (le-or-gt 263 i)
+
+-- writing back what was read from a sound table
+pub put-get : (n s c : ℕ) (t : List ℕ) → ((i : ℕ) → getD t i 0 < 256) → length t ≡ tableLength n s → soundTable n s c t ≡ true → (o j : ℕ) → Names n s o j
+    → putRecord s t o j (recordIn s t o j) ≡ t
+put-get n s c t byte long h o j a =
+    let p : List ℕ = partAt t (placeOf s o j) in
+    let l : length p ≡ 263 = simp (length-take, length-drop) (omega (arith, place-end n s o j a)) in
+    let b : (i : ℕ) → getD p i 0 < 256 = part-bytes t (placeOf s o j) byte in
+    let e : recordBytes (recordAt p) ≡ p = recordBytes-recordAt p b l (ops-fit n s c o p (sound-at n s c t h o j a)) in
+    ap (λ (v : List ℕ). splice t (placeOf s o j) v) e ∙ splice-own t (placeOf s o j) 263 (omega (arith, place-end n s o j a))
