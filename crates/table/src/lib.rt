@@ -74,8 +74,8 @@ pub fn store(t: &mut [u8], at: usize, r: Record)
     requires { ⌜ at + 263 ≤ length (now t) ⌝ }
     ensures { λ _. ⌜ now (t .exit) ≡ splice (now (t .entry)) at (recordBytes r) ⌝ }
 {
-    let end = at + 263;
-    record::write_record(&mut t[at..end], r);
+    let next = at + 263;
+    record::write_record(&mut t[at..next], r);
 }
 
 fn head_ok(t: &[u8], n: usize, s: usize, c: usize) -> bool
@@ -191,6 +191,6 @@ pub fn record_part(t: &[u8], n: usize, s: usize, c: usize, o: usize, j: usize) -
         return &t[..0];
     }
     let at = place_of(n, s, o, j);
-    let end = at + 263;
-    &t[at..end]
+    let after = at + 263;
+    &t[at..after]
 }

@@ -37,9 +37,9 @@ place-of-requires : tie.Need-place-of-requires
 unfolding partOf
 place-of-requires c κs = names _ _ _ _ _ _ (sym (c .before .before .before .fits-setup .ensures) ∙ not-false _ (c .before .before .if1 .left)) (sym (c .before .instance-ok .ensures) ∙ not-false _ (c .if2 .left))
 
-add-end : tie.Need-add-end
+add-after : tie.Need-add-after
 unfolding partOf
-add-end c =
+add-after c =
     let z = sizes _ _ _ _ (sym (c .before .before .before .before .fits-setup .ensures) ∙ not-false _ (c .before .before .before .if1 .left)) in
     omega (arith, z .long, c .place-of .ensures .1)
 
@@ -73,7 +73,7 @@ record-part-spec =
     slice-aggregate-result-2
     returns-2
     place-of-requires
-    add-end
+    add-after
     sub-result
     part-result-start
     part-result-end

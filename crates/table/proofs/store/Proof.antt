@@ -10,8 +10,8 @@ use borrow.Author.Needs.{needs}
 use Rattle.table.proofs.store.Statement.{statement}
 use Rattle.table.proofs.store.Tie as tie
 
-add-end : tie.Need-add-end
-add-end c = search needs
+add-next : tie.Need-add-next
+add-next c = search needs
 
 sub-write-record : tie.Need-sub-write-record
 sub-write-record c = search needs
@@ -40,7 +40,7 @@ pub store-spec : {M : Type 1} → statement M
 store-spec =
     tie.close
     (tie.spec
-    add-end
+    add-next
     sub-write-record
     part-write-record-start
     part-write-record-end

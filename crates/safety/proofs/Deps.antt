@@ -1,0 +1,109 @@
+-- Lists of dependencies: the join is above both, and Seen counts each command that is met. Assumes nothing.
+use Prim.Native.Nat.{ℕ, zero, suc, _+_, _≤_, _<_}
+use mathlib.Core.Path.{_≡_, refl, sym, _∙_}
+use mathlib.Core.Bool.{Bool, true, false, cond}
+use mathlib.Core.List.{List, [], _∷_}
+use native.Mathlib.Omega.{arith}
+use lib.Dec.{eqb}
+use lib.ListN.{getD, length}
+use lib.Seq.{ext-getD}
+use Rattle.paper.specs.Logic.{allBelow}
+use Rattle.paper.specs.Command.{sameCommand, opNumber}
+use Rattle.paper.specs.Deps.{noDeps, sameDeps, larger, joinFrom, join}
+use Rattle.paper.specs.Vote.{noVote}
+use Rattle.paper.specs.declared.Command.{Command}
+use Rattle.paper.specs.declared.Vote.{Vote}
+use Rattle.rules.specs.Sets.{highest}
+use Rattle.rules.specs.Accepting.{joinAll}
+use Rattle.rules.specs.Seen.{Records, met, seenEntry, seenFrom, seen}
+use Rattle.safety.proofs.Tests.{tf, and-in, eqb-eq, eqb-same, ltb-in}
+use Rattle.safety.proofs.Sets.{all-at, all-in, larger-l, larger-r}
+
+-- entry by entry at most
+abbrev pub Under : List ℕ → List ℕ → Type 0
+Under d e = (i : ℕ) → i < 7 → getD d i 0 ≤ getD e i 0
+
+pub under-refl : (d : List ℕ) → Under d d
+under-refl d i l = omega arith
+
+pub under-trans : (d e f : List ℕ) → Under d e → Under e f → Under d f
+under-trans d e f p q i l = omega (arith, p i l, q i l)
+
+pub same-deps : (d e : List ℕ) → length d ≡ 7 → length e ≡ 7 → sameDeps d e ≡ true → d ≡ e
+unfolding sameDeps
+same-deps d e ld le h = ext-getD 0 d e (ld ∙ sym le) (λ i l. eqb-eq _ _ (all-at 7 (λ i. eqb (getD d i 0) (getD e i 0)) h i (omega arith)))
+
+pub same-deps-refl : (d e : List ℕ) → d ≡ e → sameDeps d e ≡ true
+unfolding sameDeps
+same-deps-refl d e q = rw q (all-in 7 (λ i. eqb (getD e i 0) (getD e i 0)) (λ i l. eqb-same (getD e i 0) (getD e i 0) refl))
+
+pub same-command-refl : (a b : Command) → a ≡ b → sameCommand a b ≡ true
+unfolding sameCommand
+same-command-refl a b q = rw q (and-in _ _ (and-in _ _ (eqb-same (opNumber (b .op)) (opNumber (b .op)) refl) (eqb-same (b .key) (b .key) refl)) (eqb-same (b .edit) (b .edit) refl))
+
+join-at : (k i p : ℕ) (d e : List ℕ) → p < k → getD (joinFrom k d e i) p 0 ≡ larger (getD d (i + p) 0) (getD e (i + p) 0)
+unfolding joinFrom
+join-at zero i p d e l = absurd (omega arith)
+join-at (suc k) i zero d e l = let z : i + 0 ≡ i = omega arith in rw z refl
+join-at (suc k) i (suc p) d e l = let z : i + suc p ≡ i + 1 + p = omega arith in rw z (join-at k (i + 1) p d e (omega arith))
+
+pub join-length : (d e : List ℕ) → length (join d e) ≡ 7
+unfolding joinFrom
+join-length d e = refl
+
+pub join-l : (d e : List ℕ) → Under d (join d e)
+join-l d e i l = rw (join-at 7 0 i d e l) (let z : 0 + i ≡ i = omega arith in rw z (larger-l (getD d i 0) (getD e i 0)))
+
+pub join-r : (d e : List ℕ) → Under e (join d e)
+join-r d e i l = rw (join-at 7 0 i d e l) (let z : 0 + i ≡ i = omega arith in rw z (larger-r (getD d i 0) (getD e i 0)))
+
+pub joins-length : (d : List ℕ) (vs : List Vote) → length d ≡ 7 → length (joinAll d vs) ≡ 7
+unfolding joinAll
+joins-length d [] l = l
+joins-length d (v ∷ vs) l = joins-length (join d (v .deps)) vs (join-length d (v .deps))
+
+pub joins-own : (d : List ℕ) (vs : List Vote) → Under d (joinAll d vs)
+unfolding joinAll
+joins-own d [] = under-refl d
+joins-own d (v ∷ vs) = under-trans d (join d (v .deps)) (joinAll (join d (v .deps)) vs) (join-l d (v .deps)) (joins-own (join d (v .deps)) vs)
+
+nothing-under : (e : List ℕ) → Under noDeps e
+unfolding allBelow
+nothing-under e i l = let z : getD noDeps i 0 ≡ 0 = eqb-eq (getD noDeps i 0) 0 (all-at 7 (λ i. eqb (getD noDeps i 0) 0) zeros i l) in omega arith
+  where
+    zeros : allBelow 7 (λ i. eqb (getD noDeps i 0) 0) ≡ true
+    zeros = refl
+
+pub joins-each : (d : List ℕ) (vs : List Vote) (q : ℕ) → Under (getD vs q noVote .deps) (joinAll d vs)
+unfolding joinAll
+joins-each d [] q = nothing-under d
+joins-each d (v ∷ vs) zero = under-trans (v .deps) (join d (v .deps)) (joinAll (join d (v .deps)) vs) (join-r d (v .deps)) (joins-own (join d (v .deps)) vs)
+joins-each d (v ∷ vs) (suc q) = joins-each (join d (v .deps)) vs q
+
+-- Seen
+highest-ge : (s : ℕ) (f : ℕ → Bool) (i : ℕ) → 1 ≤ i → i ≤ s → f i ≡ true → i ≤ highest s f
+unfolding highest
+highest-ge zero f i l h e = absurd (omega arith)
+highest-ge (suc s) f i l h e = go (f (suc s)) refl (λ q. highest-ge s f i l q e)
+  where
+    go : (b : Bool) → f (suc s) ≡ b → (i ≤ s → i ≤ highest s f) → i ≤ cond b (suc s) (highest s f)
+    go true q ih = h
+    go false q ih = let n : i ≡ suc s → ⊥ = λ z. tf (f i) e (rw z q) in ih (omega (arith, n))
+
+seen-at : (k p q n s : ℕ) (t : Records) (o j : ℕ) (c : Command) → q < k → getD (seenFrom k p n s t o j c) q 0 ≡ seenEntry n s t o j c (p + q)
+unfolding seenFrom
+seen-at zero p q n s t o j c l = absurd (omega arith)
+seen-at (suc k) p zero n s t o j c l = let z : p + 0 ≡ p = omega arith in rw z refl
+seen-at (suc k) p (suc q) n s t o j c l = let z : p + suc q ≡ p + 1 + q = omega arith in rw z (seen-at k (p + 1) q n s t o j c (omega arith))
+
+pub seen-length : (n s : ℕ) (t : Records) (o j : ℕ) (c : Command) → length (seen n s t o j c) ≡ 7
+unfolding seenFrom
+seen-length n s t o j c = refl
+
+-- a command that is met at p.i is counted
+pub seen-counts : (n s : ℕ) (t : Records) (o j : ℕ) (c : Command) (p i : ℕ) → p < n → p < 7 → 1 ≤ i → i ≤ s → met t o j c p i ≡ true
+    → i ≤ getD (seen n s t o j c) p 0
+unfolding seenEntry
+seen-counts n s t o j c p i ln l7 l1 ls m =
+    let z : 0 + p ≡ p = omega arith in
+    rw (seen-at 7 0 p n s t o j c l7) (rw (z, ltb-in p n ln) (highest-ge s (met t o j c p) i l1 ls m))

@@ -1,0 +1,98 @@
+-- The history of one instance, and the laws that a run keeps. Assumes nothing.
+use Prim.Native.Nat.{ℕ, suc, _*_, _≤_, _<_}
+use Rattle.paper.specs.declared.Command.{Command}
+use Rattle.paper.specs.Command.{noop}
+use Rattle.safety.proofs.Value.{Value, cmd}
+use mathlib.Core.Path.{_≡_}
+use mathlib.Core.Logic.{_⊎_}
+use mathlib.Core.Bool.{Bool, true, false}
+use Rattle.safety.proofs.Count.{cnt, both}
+
+pub data St : Type 0 where
+  s0 s1 s2 s3 s4 : St
+
+abbrev pub is2 : St → Bool
+is2 s0 = false
+is2 s1 = false
+is2 s2 = true
+is2 s3 = false
+is2 s4 = false
+
+-- what a vote of status s can have become within its ballot
+pub data Upto : St → St → Type 0 where
+  u11 : Upto s1 s1
+  u13 : Upto s1 s3
+  u22 : Upto s2 s2
+  u23 : Upto s2 s3
+  u33 : Upto s3 s3
+
+pub record Reply : Type 0 where
+  pub voted : ℕ
+  pub st : St
+  pub val : Value
+
+pub data Outcome : Type 0 where
+  accept : Value → Outcome
+  afresh : Command → Outcome
+
+module _ (F owner : ℕ) where
+  -- a reply that holds a vote at m
+  abbrev pub At : ℕ → Reply → Type 0
+  At m r = (r .st ≡ s0 → ⊥) × (r .voted ≡ m)
+
+  -- m is the highest voted ballot
+  pub record Top (Q : ℕ → Bool) (rep : ℕ → Reply) (m : ℕ) : Type 0 where
+    pub all : (i : ℕ) → i < suc (2 * F) → Q i ≡ true → (rep i .st ≡ s0 → ⊥) → rep i .voted ≤ m
+
+  abbrev pub NoAcc : (ℕ → Bool) → (ℕ → Reply) → ℕ → Type 0
+  NoAcc Q rep m = (i : ℕ) → i < suc (2 * F) → Q i ≡ true → rep i .voted ≡ m → rep i .st ≡ s3 → ⊥
+
+  abbrev pub twos : (ℕ → Bool) → (ℕ → Reply) → ℕ
+  twos Q rep = cnt (suc (2 * F)) (λ i. both (Q i) (is2 (rep i .st)))
+
+  -- what F+1 replies decide
+  pub data Decided (Q : ℕ → Bool) (rep : ℕ → Reply) : Outcome → Type 0 where
+    none-voted : ((i : ℕ) → i < suc (2 * F) → Q i ≡ true → rep i .st ≡ s0) → Decided Q rep (afresh noop)
+    accepted : (m j : ℕ) → Top Q rep m → j < suc (2 * F) → Q j ≡ true → rep j .voted ≡ m → rep j .st ≡ s3
+        → Decided Q rep (accept (rep j .val))
+    fast : (j : ℕ) → Top Q rep 0 → NoAcc Q rep 0 → Q owner ≡ false → F ≤ twos Q rep
+        → j < suc (2 * F) → Q j ≡ true → rep j .voted ≡ 0 → rep j .st ≡ s2 → Decided Q rep (accept (rep j .val))
+    anew : (m j : ℕ) → Top Q rep m → NoAcc Q rep m → (m ≡ 0 → Q owner ≡ false → F ≤ twos Q rep → ⊥)
+        → j < suc (2 * F) → Q j ≡ true → At m (rep j) → Decided Q rep (afresh (cmd (rep j .val)))
+
+  abbrev pub Obeys : (ℕ → Value → Type 0) → (ℕ → Value → Type 0) → ℕ → Outcome → Type 0
+  Obeys Pre Acc b (accept v) = ((w : Value) → Acc b w → w ≡ v) × ((w : Value) → Pre b w → ⊥)
+  Obeys Pre Acc b (afresh c) = ((w : Value) → Acc b w → cmd w ≡ c) × ((w : Value) → Pre b w → cmd w ≡ c)
+
+  pub record Hist : Type 1 where
+    pub Pre : ℕ → Value → Type 0
+    pub Acc : ℕ → Value → Type 0
+    pub Vote : ℕ → ℕ → St → Value → Type 0
+    pub Ok : ℕ → ℕ → Reply → Type 0
+    pub Fast : Value → Type 0
+
+  pub record Rules (H : Hist) : Type 0 where
+    pub pre-one : (b : ℕ) (v w : Value) → H .Pre b v → H .Pre b w → v ≡ w
+    pub acc-one : (b : ℕ) (v w : Value) → H .Acc b v → H .Acc b w → v ≡ w
+    pub vote-0 : (r b : ℕ) (v : Value) → H .Vote r b s0 v → ⊥
+    pub vote-4 : (r b : ℕ) (v : Value) → H .Vote r b s4 v → ⊥
+    pub vote-1 : (r b : ℕ) (v : Value) → H .Vote r b s1 v → (w : Value) × H .Pre b w × (cmd v ≡ cmd w)
+    pub vote-2 : (r b : ℕ) (v : Value) → H .Vote r b s2 v → H .Pre b v
+    pub vote-3 : (r b : ℕ) (v : Value) → H .Vote r b s3 v → H .Acc b v
+    pub ok-vote : (r b : ℕ) (a : Reply) → H .Ok r b a → (a .st ≡ s0 → ⊥) → H .Vote r (a .voted) (a .st) (a .val) × (a .voted < b)
+    pub ok-last : (r b c : ℕ) (s : St) (v : Value) (a : Reply) → H .Ok r b a → H .Vote r c s v → c < b
+        → (a .st ≡ s0 → ⊥) × (c ≤ a .voted) × (c ≡ a .voted → Upto s (a .st))
+    pub decided : (b : ℕ) (v : Value) → 0 < b → H .Acc b v ⊎ H .Pre b v
+        → (Q : ℕ → Bool) × (rep : ℕ → Reply) × (o : Outcome)
+        × (suc F ≤ cnt (suc (2 * F)) Q) × ((i : ℕ) → i < suc (2 * F) → Q i ≡ true → H .Ok i b (rep i))
+        × Decided Q rep o × Obeys (H .Pre) (H .Acc) b o
+    pub fast-votes : (v : Value) → H .Fast v → (P : ℕ → Bool) × (2 * F ≤ suc (cnt (suc (2 * F)) P)) × (P owner ≡ false)
+        × ((i : ℕ) → i < suc (2 * F) → P i ≡ true → H .Vote i 0 s2 v)
+    pub fast-owner : (v : Value) (b : ℕ) (a : Reply) → H .Fast v → H .Ok owner b a → ⊥
+    pub fast-acc : (v w : Value) → H .Fast v → H .Acc 0 w → ⊥
+
+  -- F+1 accepted v at b
+  pub record Slow (H : Hist) (b : ℕ) (v : Value) : Type 0 where
+    pub set : ℕ → Bool
+    pub size : suc F ≤ cnt (suc (2 * F)) set
+    pub votes : (i : ℕ) → i < suc (2 * F) → set i ≡ true → H .Vote i b s3 v

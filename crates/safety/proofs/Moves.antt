@@ -1,0 +1,84 @@
+-- Every move of a run but the mark is a move of the model. Assumes nothing.
+use Prim.Native.Nat.{ℕ, zero, suc, _+_, _≤_, _<_}
+use mathlib.Core.Path.{_≡_, refl}
+use mathlib.Core.Bool.{Bool, true, false, cond}
+use mathlib.Core.List.{List, List·Memᴰ}
+use native.Mathlib.Omega.{arith}
+use Rattle.paper.specs.Instance.{instanceOk}
+use Rattle.paper.specs.Valid.{valid}
+use Rattle.paper.specs.declared.Command.{Command}
+use Rattle.paper.specs.declared.Record.{Record}
+use Rattle.paper.specs.declared.Message.{Message}
+use Rattle.rules.specs.Seen.{seen}
+use Rattle.rules.specs.Step.{isCommitted}
+use Rattle.rules.specs.Request.{isBlank, lowestBlank}
+use Rattle.rules.specs.Nudge.{nothingToNudge}
+use Rattle.rules.specs.Events.{requestNumber, onRequest, onMessage, onRecover, onNudge, messages}
+use Rattle.safety.specs.Run.{State, saved, asked, Among}
+use Rattle.safety.proofs.Deps.{seen-length, under-refl}
+use Rattle.safety.proofs.Case.{Case, copies, code-owner, code-number, in-range}
+use Rattle.safety.proofs.Rel.Votes.{on-request, on-recover}
+use Rattle.safety.proofs.Rel.Leads.{on-nudge}
+use Rattle.safety.proofs.Received.{Fit, fits, on-received}
+use Rattle.safety.proofs.Sim.{Tie, Next, counted, spot, event}
+
+-- the lowest blank number is one, if it is in range
+lowest-blank : (k i : ℕ) (row : ℕ → Record) → lowestBlank k i row < i + k → (i ≤ lowestBlank k i row) × (isBlank (row (lowestBlank k i row)) ≡ true)
+unfolding lowestBlank
+lowest-blank zero i row l = absurd (omega arith)
+lowest-blank (suc k) i row l = go (isBlank (row i)) refl l (lowest-blank k (i + 1) row)
+  where
+    go : (b : Bool) → isBlank (row i) ≡ b → cond b i (lowestBlank k (i + 1) row) < i + suc k
+        → (lowestBlank k (i + 1) row < i + 1 + k → (i + 1 ≤ lowestBlank k (i + 1) row) × (isBlank (row (lowestBlank k (i + 1) row)) ≡ true))
+        → (i ≤ cond b i (lowestBlank k (i + 1) row)) × (isBlank (row (cond b i (lowestBlank k (i + 1) row))) ≡ true)
+    go true e l ih = (omega arith, e)
+    go false e l ih = let (a, b) = ih (omega arith) in (omega arith, b)
+
+module _ {C : Case} {x : State} (t : Tie C x) where
+  open Case C using (s, fit)
+  open Tie t using (msgs)
+
+  abbrev n : ℕ
+  n = copies C
+
+  pub receive-next : (c : ℕ) (m : Message) (out : List Message) → c < n → List·Memᴰ m (x .sent) → valid n s c m ≡ true
+      → Among out (messages (onMessage n s c (x .tables c) m)) → Next t (saved x c (m .owner) (m .number) (onMessage n s c (x .tables c) m) out)
+  unfolding onMessage
+  receive-next c m out lc h v am =
+      let f : Fit n s c m = fits n s c m v in
+      event t c (m .owner) (m .number) lc (f .inst) (onMessage n s c (x .tables c) m) out am
+      (on-received (spot t c (m .owner) (m .number) lc (f .inst)) (seen n s (x .tables c) (m .owner) (m .number))
+      (λ k. seen-length n s (x .tables c) (m .owner) (m .number) k) (λ k d u. counted t c (m .owner) (m .number) lc k d u)
+      s m refl refl f (msgs m h (f .inst)))
+
+  pub recover-next : (c o j : ℕ) (out : List Message) → c < n → instanceOk n s o j ≡ true → isCommitted (x .tables c o j) ≡ false
+      → Among out (messages (onRecover n c (x .tables c) o j)) → Next t (saved x c o j (onRecover n c (x .tables c) o j) out)
+  unfolding onRecover
+  recover-next c o j out lc ok e am = event t c o j lc ok (onRecover n c (x .tables c) o j) out am (on-recover (spot t c o j lc ok) n e)
+
+  pub nudge-next : (c o j : ℕ) (out : List Message) → c < n → instanceOk n s o j ≡ true → nothingToNudge (x .tables c o j) ≡ false
+      → Among out (messages (onNudge n c (x .tables c) o j)) → Next t (saved x c o j (onNudge n c (x .tables c) o j) out)
+  unfolding onNudge
+  nudge-next c o j out lc ok e am = event t c o j lc ok (onNudge n c (x .tables c) o j) out am (on-nudge (spot t c o j lc ok) e)
+
+  -- what is asked for is no part of the tie
+  tie-asked : {y : State} (c j : ℕ) (k : Command) → Next t y → Next t (asked y c j k)
+  tie-asked c j k h = let z = h .tie in record {
+    tie = record { G = z .G; M = z .M; reach = z .reach; rels = z .rels; msgs = z .msgs; none = z .none; mark-in = z .mark-in; in-mark = z .in-mark; listed = z .listed };
+    grow = h .grow;
+  }
+
+  pub request-next : (c : ℕ) (k : Command) (out : List Message) → c < n → requestNumber s c (x .tables c) ≤ s
+      → Among out (messages (onRequest n s c (x .tables c) k)) → List·Memᴰ (c, requestNumber s c (x .tables c), k) (C .wanted)
+      → Next t (asked (saved x c c (requestNumber s c (x .tables c)) (onRequest n s c (x .tables c) k) out) c (requestNumber s c (x .tables c)) k)
+  unfolding onRequest requestNumber
+  request-next c k out lc ls am rq =
+      let (l1, bl) = lowest-blank s 1 (x .tables c c) (omega arith) in
+      go (requestNumber s c (x .tables c)) bl (in-range n s c (requestNumber s c (x .tables c)) lc l1 ls) am rq
+    where
+      go : (j : ℕ) → isBlank (x .tables c c j) ≡ true → instanceOk n s c j ≡ true → Among out (messages (Rattle.rules.specs.Request.request n c j k (seen n s (x .tables c) c j k)))
+          → List·Memᴰ (c, j, k) (C .wanted) → Next t (asked (saved x c c j (Rattle.rules.specs.Request.request n c j k (seen n s (x .tables c) c j k)) out) c j k)
+      go j bl ok am rq = tie-asked c j k (event t c c j lc ok (Rattle.rules.specs.Request.request n c j k (seen n s (x .tables c) c j k)) out am
+          (on-request (spot t c c j lc ok) refl n k (seen n s (x .tables c) c j k) bl
+          (rw (code-owner c j (omega arith), code-number c j (omega arith)) rq)
+          (counted t c c j lc k _ (under-refl (seen n s (x .tables c) c j k))) (seen-length n s (x .tables c) c j k)))

@@ -1,0 +1,155 @@
+-- A model of one instance at N = 2F+1 copies: records, messages, the history of records, and the moves. Assumes nothing.
+use Prim.Native.Nat.{ℕ, suc, _*_, _≤_, _<_}
+use Rattle.paper.specs.declared.Command.{Command}
+use Rattle.paper.specs.Ballot.{lead}
+use Rattle.safety.proofs.Value.{Value, cmd, start, Sub}
+use mathlib.Core.Path.{_≡_, refl}
+use mathlib.Core.Logic.{_⊎_}
+use mathlib.Core.Bool.{Bool, true, false}
+use mathlib.Core.List.{List, [], _∷_, _++_, List·Memᴰ}
+use native.Mathlib.Decide.{ℕ-discrete}
+use Rattle.safety.proofs.Count.{cnt}
+use Rattle.safety.proofs.Hist.{St, s0, s1, s2, s3, s4, Reply, accept, afresh, Decided}
+
+pub data Ph : Type 0 where
+  idle preparing prephase accphase : Ph
+
+pub record Rec : Type 0 where
+  pub joined : ℕ
+  pub voted : ℕ
+  pub st : St
+  pub val : Value
+  pub ph : Ph
+  pub got : ℕ → Bool
+  pub reps : ℕ → Reply
+
+abbrev pub mk : ℕ → ℕ → St → Value → Ph → (ℕ → Bool) → (ℕ → Reply) → Rec
+mk j b s v p g a = record { joined = j; voted = b; st = s; val = v; ph = p; got = g; reps = a }
+
+abbrev pub reply-of : Rec → Reply
+reply-of R = record { voted = R .voted; st = R .st; val = R .val }
+
+pub data Msg : Type 0 where
+  mPre : ℕ → Value → Msg
+  mPreOK : ℕ → ℕ → Value → Msg
+  mAcc : ℕ → Value → Msg
+  mAccOK : ℕ → ℕ → Msg
+  mCommit : Value → Msg
+  mPrepOK : ℕ → ℕ → Reply → Msg
+
+pub record Sys : Type 0 where
+  pub now : ℕ → Rec
+  pub was : List (ℕ × Rec)
+  pub sent : List Msg
+
+abbrev pub if-eq : {A : Type 0} {i r : ℕ} → Dec (i ≡ r) → A → A → A
+if-eq (yes e) x y = x
+if-eq (no e) x y = y
+
+unfoldable pub upd : {A : Type 0} → (ℕ → A) → ℕ → A → ℕ → A
+upd f r x i = if-eq (ℕ-discrete i r) x (f i)
+
+pub upd-cases : {A : Type 0} (P : A → Type 0) (f : ℕ → A) (r : ℕ) (x : A) (i : ℕ) → (i ≡ r → P x) → ((i ≡ r → ⊥) → P (f i)) → P (upd f r x i)
+unfolding upd
+upd-cases {A} P f r x i h k = go (ℕ-discrete i r)
+  where
+    go : (d : Dec (i ≡ r)) → P (if-eq d x (f i))
+    go (yes e) = h e
+    go (no e) = k e
+
+pub upd-same : {A : Type 0} (f : ℕ → A) (r : ℕ) (x : A) → upd f r x r ≡ x
+upd-same {A} f r x = upd-cases (λ (y : A). y ≡ x) f r x r (λ e. refl) (λ n. absurd (n refl))
+
+abbrev pub nobody : ℕ → Bool
+nobody i = false
+
+abbrev pub push : Sys → ℕ → Rec → List Msg → Sys
+push s r R ms = record { now = upd (s .now) r R; was = (r, R) ∷ s .was; sent = ms ++ s .sent }
+
+abbrev pub W : Sys → ℕ → Rec → Type 0
+W s r R = List·Memᴰ (r, R) (s .was)
+
+abbrev pub Sent : Sys → Msg → Type 0
+Sent s m = List·Memᴰ m (s .sent)
+
+abbrev pub blankRec : Rec
+blankRec = mk 0 0 s0 start idle nobody (λ j. record { voted = 0; st = s0; val = start })
+
+abbrev pub blankSys : Sys
+blankSys = record { now = λ i. blankRec; was = []; sent = [] }
+
+-- not yet voted at b
+abbrev pub Fresh : Rec → ℕ → Type 0
+Fresh R b = (R .st ≡ s0) ⊎ (R .voted < b)
+
+-- what a copy says again from its record
+pub data Says (r : ℕ) (R : Rec) : Msg → Type 0 where
+  say-ok1 : R .st ≡ s1 → Says r R (mPreOK r (R .voted) (R .val))
+  say-ok2 : R .st ≡ s2 → Says r R (mPreOK r (R .voted) (R .val))
+  say-pre : R .ph ≡ prephase → Says r R (mPre (R .joined) (R .val))
+  say-acc : R .ph ≡ accphase → Says r R (mAcc (R .joined) (R .val))
+  say-commit : R .st ≡ s4 → Says r R (mCommit (R .val))
+
+-- what a lead in a phase has of copy i at its ballot: collected, or just received
+abbrev pub HasPre : Sys → Rec → ℕ → Value → Type 0
+HasPre s R i v = ((R .got i ≡ true) × (R .reps i .val ≡ v)) ⊎ Sent s (mPreOK i (R .joined) v)
+
+abbrev pub HasAcc : Sys → Rec → ℕ → Type 0
+HasAcc s R i = (R .got i ≡ true) ⊎ Sent s (mAccOK i (R .joined))
+
+abbrev pub HasPrep : Sys → Rec → ℕ → Reply → Type 0
+HasPrep s R i a = ((R .got i ≡ true) × (R .reps i ≡ a)) ⊎ Sent s (mPrepOK i (R .joined) a)
+
+-- Req c: c was requested for this instance
+module _ (F owner : ℕ) (Req : Command → Type 0) where
+  pub data Trans (s : Sys) (r : ℕ) (R : Rec) : Rec → List Msg → Type 0 where
+    -- told again from the record
+    repeat : (m : Msg) → Says r R m → Trans s r R R (m ∷ [])
+    -- the owner is asked, on a blank record
+    request : (v : Value) → r ≡ owner → R .joined ≡ 0 → R .st ≡ s0 → Req (cmd v)
+        → Trans s r R (mk 0 0 s2 v prephase nobody (R .reps)) (mPre 0 v ∷ [])
+    -- a PreAccept to which nothing is added, or something
+    pre-same : (b : ℕ) (v : Value) → Sent s (mPre b v) → (lead owner b ≡ r → ⊥) → (R .st ≡ s4 → ⊥) → R .joined ≤ b → Fresh R b
+        → Trans s r R (mk b b s2 v idle nobody (R .reps)) (mPreOK r b v ∷ [])
+    pre-more : (b : ℕ) (v w : Value) → Sent s (mPre b v) → (lead owner b ≡ r → ⊥) → (R .st ≡ s4 → ⊥) → R .joined ≤ b → Fresh R b
+        → cmd w ≡ cmd v → (w ≡ v → ⊥) → Trans s r R (mk b b s1 w idle nobody (R .reps)) (mPreOK r b w ∷ [])
+    -- in phase 2: a reply is collected; the owner commits on 2F-1 that match; or the lead goes to accepting with what covers them all
+    collect-pre : (i : ℕ) (v : Value) → Sent s (mPreOK i (R .joined) v) → R .ph ≡ prephase
+        → Trans s r R (mk (R .joined) (R .voted) (R .st) (R .val) (R .ph) (upd (R .got) i true) (upd (R .reps) i (record { voted = R .joined; st = s1; val = v }))) []
+    fast-commit : R .ph ≡ prephase → R .joined ≡ 0 → r ≡ owner → (P : ℕ → Bool) → 2 * F ≤ suc (cnt (suc (2 * F)) P) → P owner ≡ false
+        → ((i : ℕ) → P i ≡ true → HasPre s R i (R .val))
+        → Trans s r R (mk (R .joined) (R .voted) s4 (R .val) idle nobody (R .reps)) (mCommit (R .val) ∷ [])
+    to-accept : (w : Value) → R .ph ≡ prephase → cmd w ≡ cmd (R .val)
+        → (Q : ℕ → Bool) → suc F ≤ cnt (suc (2 * F)) Q
+        → ((i : ℕ) → Q i ≡ true → ((i ≡ r) × Sub (R .val) w) ⊎ ((v : Value) × HasPre s R i v × Sub v w))
+        → Trans s r R (mk (R .joined) (R .joined) s3 w accphase nobody (R .reps)) (mAcc (R .joined) w ∷ [])
+    -- an Accept, its replies, the commit on F of them
+    acc : (b : ℕ) (v : Value) → Sent s (mAcc b v) → (lead owner b ≡ r → ⊥) → (R .st ≡ s4 → ⊥) → R .joined ≤ b
+        → Trans s r R (mk b b s3 v idle nobody (R .reps)) (mAccOK r b ∷ [])
+    collect-acc : (i : ℕ) → Sent s (mAccOK i (R .joined)) → R .ph ≡ accphase
+        → Trans s r R (mk (R .joined) (R .voted) (R .st) (R .val) (R .ph) (upd (R .got) i true) (R .reps)) []
+    slow-commit : R .ph ≡ accphase → (Q : ℕ → Bool) → suc F ≤ cnt (suc (2 * F)) Q → ((i : ℕ) → Q i ≡ true → (i ≡ r) ⊎ HasAcc s R i)
+        → Trans s r R (mk (R .joined) (R .voted) s4 (R .val) idle nobody (R .reps)) (mCommit (R .val) ∷ [])
+    -- a Commit received
+    learn : (v : Value) → Sent s (mCommit v) → (R .st ≡ s4 → ⊥)
+        → Trans s r R (mk (R .joined) (R .voted) s4 v idle nobody (R .reps)) []
+    -- a higher ballot joined, silently or with a promise; one's own taken up
+    join : (b : ℕ) → R .joined ≤ b → (R .st ≡ s4 → ⊥)
+        → Trans s r R (mk b (R .voted) (R .st) (R .val) idle nobody (R .reps)) []
+    promise : (b : ℕ) → R .joined ≤ b → R .voted < b → (R .st ≡ s4 → ⊥)
+        → Trans s r R (mk b (R .voted) (R .st) (R .val) idle nobody (R .reps)) (mPrepOK r b (reply-of R) ∷ [])
+    recover : (b : ℕ) → R .joined < b → lead owner b ≡ r → (R .st ≡ s4 → ⊥)
+        → Trans s r R (mk b (R .voted) (R .st) (R .val) preparing (upd nobody r true) (upd (R .reps) r (reply-of R))) []
+    -- in phase 1: a promise is collected; on F+1 the lead decides
+    collect-prep : (i : ℕ) (a : Reply) → Sent s (mPrepOK i (R .joined) a) → R .ph ≡ preparing
+        → Trans s r R (mk (R .joined) (R .voted) (R .st) (R .val) (R .ph) (upd (R .got) i true) (upd (R .reps) i a)) []
+    decide-accept : (v : Value) → R .ph ≡ preparing → (Q : ℕ → Bool) (rep : ℕ → Reply) → suc F ≤ cnt (suc (2 * F)) Q
+        → ((i : ℕ) → Q i ≡ true → HasPrep s R i (rep i)) → Decided F owner Q rep (accept v)
+        → Trans s r R (mk (R .joined) (R .joined) s3 v accphase nobody (R .reps)) (mAcc (R .joined) v ∷ [])
+    decide-afresh : (c : Command) (v : Value) → R .ph ≡ preparing → (Q : ℕ → Bool) (rep : ℕ → Reply) → suc F ≤ cnt (suc (2 * F)) Q
+        → ((i : ℕ) → Q i ≡ true → HasPrep s R i (rep i)) → Decided F owner Q rep (afresh c) → cmd v ≡ c
+        → Trans s r R (mk (R .joined) (R .joined) s2 v prephase nobody (R .reps)) (mPre (R .joined) v ∷ [])
+
+  pub data Reach : Sys → Type 0 where
+    init : Reach blankSys
+    step : {s : Sys} (r : ℕ) (R : Rec) (ms : List Msg) → Reach s → r < suc (2 * F) → Trans s r (s .now r) R ms → Reach (push s r R ms)

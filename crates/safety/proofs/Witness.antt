@@ -1,0 +1,183 @@
+-- The demand is not empty: scripts of three copies that commit and hand out, played by the rules. Assumes nothing.
+use Prim.Native.Nat.{ℕ, zero, suc, _<_}
+use mathlib.Core.Path.{_≡_, refl}
+use mathlib.Core.Bool.{Bool, true, false, _&&_, not}
+use mathlib.Core.List.{List, [], _∷_, _++_, List·Memᴰ, List·Memᴰ·head, List·Memᴰ·tail}
+use native.Mathlib.Omega.{arith}
+use lib.Count.{ones, onesIn}
+use lib.Dec.{leb, ltb, eqb}
+use lib.ListN.{getD, length}
+use Rattle.paper.specs.Logic.{allBelow}
+use Rattle.paper.specs.Instance.{instanceOk}
+use Rattle.paper.specs.Command.{noop, isNoop, sameCommand, commandOk, interfere}
+use Rattle.paper.specs.Deps.{depsOk, sameDeps, covers, joinFrom}
+use Rattle.paper.specs.Ballot.{ballotOk, lead}
+use Rattle.paper.specs.Vote.{member, sameVote, noneIsBlank, voteOk, toldOk}
+use Rattle.paper.specs.Message.{noMessage}
+use Rattle.paper.specs.Valid.{valid, headOk, wayOk, bodyOk}
+use Rattle.paper.specs.declared.Op.the-variants.{Write}
+use Rattle.paper.specs.declared.Command.{Command}
+use Rattle.paper.specs.declared.Message.{Message}
+use Rattle.rules.specs.declared.First.{First}
+use Rattle.rules.specs.declared.First.the-variants.{At, Nowhere}
+use Rattle.rules.specs.Sets.{bitsBelow, others, absent, lowestFrom, largestBelow, highest}
+use Rattle.rules.specs.Step.{isCommitted, collect, awaited, commitBack, nackBack}
+use Rattle.rules.specs.Seen.{met, seenEntry, seenFrom}
+use Rattle.rules.specs.Accepting.{joinAll, accepting, acceptingJoin}
+use Rattle.rules.specs.Afresh.{afresh}
+use Rattle.rules.specs.Committing.{committing}
+use Rattle.rules.specs.Request.{isBlank, lowestBlank}
+use Rattle.rules.specs.PreAccept.{preAccept}
+use Rattle.rules.specs.PreAcceptOk.{matching, different, fastEnough, slowEnough, someEnough, preAcceptedBy, onPreAcceptOk}
+use Rattle.rules.specs.Accept.{accept}
+use Rattle.rules.specs.AcceptOk.{acceptedBy, onAcceptOk}
+use Rattle.rules.specs.Commit.{differs, commit}
+use Rattle.rules.specs.Prepare.{prepare}
+use Rattle.rules.specs.PrepareOk.{topVoted, maybeFast, afreshCommand, acceptedFrom, decide, quorum, preparedBy, onPrepareOk}
+use Rattle.rules.specs.Nack.{nack}
+use Rattle.rules.specs.Recover.{outOfBallots}
+use Rattle.rules.specs.Nudge.{nothingToNudge, again}
+use Rattle.rules.specs.Received.{byKind, conflict, refused10}
+use Rattle.rules.specs.Events.{put, requestNumber, onRequest, onMessage, onRecover, onNudge, messagesFrom, messages}
+use Rattle.rules.specs.Order.{everywhere, somewhere, firstOwner, firstNumber, coversIn, reachesIn, reaches, waitsFor, isSettled, candidate, nextOut, found}
+use Rattle.safety.specs.Run.{State, start, saved, asked, marked, Move, request, receive, recover, nudge, handOut, Run, stay, further}
+use Rattle.safety.specs.Demand.{Committed}
+use Rattle.safety.proofs.Tests.{clash, and-l, and-r, not-not, eqb-eq, leb-le, ltb-lt}
+
+-- a line of a script: copy c is asked for k; the message sent as number i arrives; copy c recovers or nudges o.j; copy c saves the mark of o.j
+data Line : Type 0 where
+  ask : ℕ → Command → Line
+  arrives : ℕ → Line
+  recovers nudges marks : ℕ → ℕ → ℕ → Line
+
+abbrev sentAs : State → ℕ → Message
+sentAs x i = getD (x .sent) i noMessage
+
+module _ (n s : ℕ) where
+  -- what it makes of a state
+  abbrev after : State → Line → State
+  after x (ask c k) =
+      asked (saved x c c (requestNumber s c (x .tables c)) (onRequest n s c (x .tables c) k) (messages (onRequest n s c (x .tables c) k))) c (requestNumber s c (x .tables c)) k
+  after x (arrives i) =
+      saved x (sentAs x i .to) (sentAs x i .owner) (sentAs x i .number) (onMessage n s (sentAs x i .to) (x .tables (sentAs x i .to)) (sentAs x i))
+      (messages (onMessage n s (sentAs x i .to) (x .tables (sentAs x i .to)) (sentAs x i)))
+  after x (recovers c o j) = saved x c o j (onRecover n c (x .tables c) o j) (messages (onRecover n c (x .tables c) o j))
+  after x (nudges c o j) = saved x c o j (onNudge n c (x .tables c) o j) (messages (onNudge n c (x .tables c) o j))
+  after x (marks c o j) = marked x c o j
+
+  -- whether it is a move there
+  abbrev fair : State → Line → Bool
+  fair x (ask c k) = ltb c n && not (isNoop k) && leb (requestNumber s c (x .tables c)) s
+  fair x (arrives i) =
+      ltb i (length (x .sent)) && ltb (sentAs x i .to) n && valid n s (sentAs x i .to) (sentAs x i)
+      && not (refused10 (x .tables (sentAs x i .to) (sentAs x i .owner) (sentAs x i .number)) (sentAs x i))
+  fair x (recovers c o j) = ltb c n && instanceOk n s o j && not (isCommitted (x .tables c o j)) && not (outOfBallots (x .tables c o j))
+  fair x (nudges c o j) = ltb c n && instanceOk n s o j && not (nothingToNudge (x .tables c o j))
+  fair x (marks c o j) = ltb c n && found (nextOut n s (x .tables c)) false (λ p i. eqb p o && eqb i j)
+
+  mem-at : (l : List Message) (i : ℕ) (d : Message) → i < length l → List·Memᴰ (getD l i d) l
+  mem-at [] i d h = absurd (omega arith)
+  mem-at (m ∷ l) zero d h = List·Memᴰ·head refl
+  mem-at (m ∷ l) (suc i) d h = List·Memᴰ·tail (mem-at l i d (omega arith))
+
+  at-found : (f : First) (o j : ℕ) → found f false (λ p i. eqb p o && eqb i j) ≡ true → f ≡ At o j
+  at-found Nowhere o j h = clash (cc)
+  at-found (At p i) o j h = λ k. At (eqb-eq p o (and-l _ (eqb i j) h) k) (eqb-eq i j (and-r (eqb p o) _ h) k)
+
+  fair-move : (x : State) (e : Line) → fair x e ≡ true → Move n s x (after x e)
+  fair-move x (ask c k) h =
+      let g = and-l _ (leb (requestNumber s c (x .tables c)) s) h in
+      request c k _ (ltb-lt c n (and-l _ (not (isNoop k)) g)) (not-not _ (and-r (ltb c n) _ g)) (leb-le _ _ (and-r (ltb c n && not (isNoop k)) _ h)) (λ m z. z)
+  fair-move x (arrives i) h =
+      let m : Message = sentAs x i in
+      let g = and-l _ (not (refused10 (x .tables (m .to) (m .owner) (m .number)) m)) h in
+      let f = and-l _ (valid n s (m .to) m) g in
+      receive (m .to) m _ (ltb-lt (m .to) n (and-r (ltb i (length (x .sent))) _ f)) (mem-at (x .sent) i noMessage (ltb-lt i (length (x .sent)) (and-l _ (ltb (m .to) n) f)))
+      (and-r (ltb i (length (x .sent)) && ltb (m .to) n) _ g) (not-not _ (and-r (ltb i (length (x .sent)) && ltb (m .to) n && valid n s (m .to) m) _ h)) (λ y z. z)
+  fair-move x (recovers c o j) h =
+      let g = and-l _ (not (outOfBallots (x .tables c o j))) h in
+      let f = and-l _ (not (isCommitted (x .tables c o j))) g in
+      recover c o j _ (ltb-lt c n (and-l _ (instanceOk n s o j) f)) (and-r (ltb c n) _ f) (not-not _ (and-r (ltb c n && instanceOk n s o j) _ g))
+      (not-not _ (and-r (ltb c n && instanceOk n s o j && not (isCommitted (x .tables c o j))) _ h)) (λ y z. z)
+  fair-move x (nudges c o j) h =
+      let f = and-l _ (not (nothingToNudge (x .tables c o j))) h in
+      nudge c o j _ (ltb-lt c n (and-l _ (instanceOk n s o j) f)) (and-r (ltb c n) _ f) (not-not _ (and-r (ltb c n && instanceOk n s o j) _ h)) (λ y z. z)
+  fair-move x (marks c o j) h =
+      handOut c o j (ltb-lt c n (and-l _ (found (nextOut n s (x .tables c)) false (λ p i. eqb p o && eqb i j)) h)) (at-found (nextOut n s (x .tables c)) o j (and-r (ltb c n) _ h))
+
+  -- a script played from a state
+  abbrev played : State → List Line → State
+  played x [] = x
+  played x (e ∷ l) = played (after x e) l
+
+  abbrev fairly : State → List Line → Bool
+  fairly x [] = true
+  fairly x (e ∷ l) = fair x e && fairly (after x e) l
+
+  play : (x : State) (l : List Line) → Run n s start x → fairly x l ≡ true → Run n s start (played x l)
+  play x [] r h = r
+  play x (e ∷ l) r h = play (after x e) l (further r (fair-move x e (and-l _ (fairly (after x e) l) h))) (and-r (fair x e) _ h)
+
+pub write : ℕ → Command
+write e = record { op = Write; key = 7; edit = e }
+
+pub deps : ℕ → ℕ → ℕ → List ℕ
+deps a b c = a ∷ b ∷ c ∷ 0 ∷ 0 ∷ 0 ∷ 0 ∷ []
+
+-- the owner commits on one matching reply
+fast : List Line
+fast = ask 0 (write 1) ∷ arrives 0 ∷ arrives 2 ∷ []
+
+-- copy 1 was asked for a write of the same key and adds it; the owner goes on through Accept
+slow : List Line
+slow = ask 0 (write 1) ∷ ask 1 (write 2) ∷ arrives 0 ∷ arrives 4 ∷ nudges 0 0 1 ∷ arrives 5 ∷ arrives 7 ∷ []
+
+-- both are committed at copies 0 and 1, and handed out there
+out : List Line
+out = arrives 3 ∷ arrives 10 ∷ arrives 11 ∷ arrives 8 ∷ marks 0 1 1 ∷ marks 0 0 1 ∷ marks 1 1 1 ∷ marks 1 0 1 ∷ []
+
+-- copy 1 recovers an instance that nobody was asked for
+lost : List Line
+lost = recovers 1 0 1 ∷ arrives 1 ∷ arrives 2 ∷ arrives 4 ∷ arrives 5 ∷ arrives 7 ∷ arrives 8 ∷ []
+
+-- copy 2 recovers what copy 1 pre-accepted as it came, the owner away
+saved-edit : List Line
+saved-edit = ask 0 (write 1) ∷ arrives 0 ∷ recovers 2 0 1 ∷ arrives 4 ∷ arrives 5 ∷ arrives 7 ∷ arrives 8 ∷ []
+
+-- a script that is fair leads to a state of a run in which P holds
+pub record Reached (n s : ℕ) (P : State → Type 0) : Type 0 where
+  pub state : State
+  pub run : Run n s start state
+  pub holds : P state
+
+by-script : (n s : ℕ) (l : List Line) (P : State → Type 0) → fairly n s start l ≡ true → P (played n s start l) → Reached n s P
+by-script n s l P f h = record { state = played n s start l; run = play n s start l stay f; holds = h }
+
+pub record Shown : Type 0 where
+  -- a fast commit
+  pub fast : Reached 3 1 (λ x. Committed x 0 0 1 (write 1) (deps 0 0 0))
+  -- a commit through Accept
+  pub slow : Reached 3 1 (λ x. Committed x 0 0 1 (write 1) (deps 0 1 0))
+  -- a no-op by recovery
+  pub lost : Reached 3 1 (λ x. Committed x 1 0 1 noop (deps 0 0 0))
+  -- a command by recovery
+  pub saved : Reached 3 1 (λ x. Committed x 2 0 1 (write 1) (deps 0 0 0))
+  -- two that interfere, handed out at two copies
+  pub out : Reached 3 1 (λ x. Committed x 0 0 1 (write 1) (deps 0 1 0) × Committed x 1 1 1 (write 2) (deps 0 0 0)
+      × (x .marks 0 ≡ (1, 1) ∷ (0, 1) ∷ []) × (x .marks 1 ≡ (1, 1) ∷ (0, 1) ∷ []))
+
+pub shown : Shown
+unfolding fast slow out lost saved-edit write deps put requestNumber lowestBlank isBlank sameVote sameCommand sameDeps allBelow onRequest
+    Rattle.rules.specs.Request.request afresh others absent bitsBelow messagesFrom member valid headOk wayOk bodyOk ballotOk lead commandOk
+    depsOk voteOk toldOk noneIsBlank instanceOk conflict differs onMessage byKind preAccept seenFrom seenEntry highest met interfere joinFrom
+    onPreAcceptOk awaited collect preAcceptedBy fastEnough slowEnough someEnough matching different committing acceptingJoin accepting joinAll
+    accept onAcceptOk acceptedBy commit prepare onPrepareOk preparedBy quorum decide acceptedFrom afreshCommand topVoted maybeFast lowestFrom
+    largestBelow nack onRecover Rattle.rules.specs.Recover.recover onNudge Rattle.rules.specs.Nudge.nudge again commitBack nackBack ones onesIn
+    nextOut firstNumber firstOwner candidate isSettled waitsFor reaches reachesIn coversIn covers everywhere somewhere
+shown = record {
+  fast = by-script 3 1 fast _ refl (record { status = refl; command = refl; deps = refl });
+  slow = by-script 3 1 slow _ refl (record { status = refl; command = refl; deps = refl });
+  lost = by-script 3 1 lost _ refl (record { status = refl; command = refl; deps = refl });
+  saved = by-script 3 1 saved-edit _ refl (record { status = refl; command = refl; deps = refl });
+  out = by-script 3 1 (slow ++ out) _ refl (record { status = refl; command = refl; deps = refl }, record { status = refl; command = refl; deps = refl }, refl, refl);
+}
