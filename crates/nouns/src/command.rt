@@ -6,7 +6,7 @@ use crate::logic::wide32;
 use paper::Command;
 use paper::Op;
 ghost use mathlib.Core.Path.{_≡_};
-ghost use Rattle.paper.specs.Command.{opNumber, isNoop, sameCommand, commandOk};
+ghost use Rattle.paper.specs.Command.{opNumber, isNoop, sameCommand, commandOk, interfere};
 
 pub fn op_number(op: Op) -> usize
     ensures { λ r. ⌜ r ≡ opNumber op ⌝ }
@@ -40,4 +40,11 @@ pub fn command_ok(c: Command) -> bool
 {
     let zero = both(equal(wide32(c.key), 0), equal64(c.edit, 0));
     implied(is_noop(c), zero)
+}
+
+pub fn interferes(a: Command, b: Command) -> bool
+    ensures { λ r. ⌜ r ≡ interfere a b ⌝ }
+{
+    let neither = both(!is_noop(a), !is_noop(b));
+    both(neither, equal(wide32(a.key), wide32(b.key)))
 }

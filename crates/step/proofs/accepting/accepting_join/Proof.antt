@@ -1,0 +1,17 @@
+use Rattle.rules.specs.Accepting.{acceptingJoin}
+use borrow.Author.Needs.{needs}
+use Rattle.step.proofs.accepting.accepting_join.Statement.{statement}
+use Rattle.step.proofs.accepting.accepting_join.Tie as tie
+
+join-all-requires : tie.Need-join-all-requires
+join-all-requires c κs = search needs
+
+accepting-with-requires : tie.Need-accepting-with-requires
+accepting-with-requires c κs = search needs
+
+returns : tie.Need-returns
+unfolding acceptingJoin
+returns c = cc
+
+pub accepting-join-spec : {M : Type 1} → statement M
+accepting-join-spec = tie.close (tie.spec join-all-requires accepting-with-requires returns)

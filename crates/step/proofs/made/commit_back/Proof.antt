@@ -1,0 +1,17 @@
+use Rattle.rules.specs.Step.{commitBack}
+use borrow.Author.Needs.{needs}
+use Rattle.step.proofs.made.commit_back.Statement.{statement}
+use Rattle.step.proofs.made.commit_back.Tie as tie
+
+said-requires : tie.Need-said-requires
+said-requires c κs = search needs
+
+only-of-requires : tie.Need-only-of-requires
+only-of-requires c κs = search needs
+
+returns : tie.Need-returns
+unfolding commitBack
+returns c = cc
+
+pub commit-back-spec : {M : Type 1} → statement M
+commit-back-spec = tie.close (tie.spec said-requires only-of-requires returns)

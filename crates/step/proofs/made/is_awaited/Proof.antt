@@ -1,0 +1,50 @@
+use Rattle.rules.specs.Step.{awaited}
+use borrow.Author.Needs.{needs}
+use Rattle.step.proofs.made.is_awaited.Statement.{statement}
+use Rattle.step.proofs.made.is_awaited.Tie as tie
+
+wide8-requires : tie.Need-wide8-requires
+wide8-requires c κs = search needs
+
+equal-requires : tie.Need-equal-requires
+equal-requires c κs = search needs
+
+wide32-requires : tie.Need-wide32-requires
+wide32-requires c κs = search needs
+
+wide32-requires-2 : tie.Need-wide32-requires-2
+wide32-requires-2 c κs = search needs
+
+equal-requires-2 : tie.Need-equal-requires-2
+equal-requires-2 c κs = search needs
+
+both-requires : tie.Need-both-requires
+both-requires c κs = search needs
+
+wide8-requires-2 : tie.Need-wide8-requires-2
+wide8-requires-2 c κs = search needs
+
+is-member-requires : tie.Need-is-member-requires
+is-member-requires c κs = search needs
+
+both-requires-2 : tie.Need-both-requires-2
+both-requires-2 c κs = search needs
+
+returns : tie.Need-returns
+unfolding awaited
+returns c = cc
+
+pub is-awaited-spec : {M : Type 1} → statement M
+is-awaited-spec =
+    tie.close
+    (tie.spec
+    wide8-requires
+    equal-requires
+    wide32-requires
+    wide32-requires-2
+    equal-requires-2
+    both-requires
+    wide8-requires-2
+    is-member-requires
+    both-requires-2
+    returns)

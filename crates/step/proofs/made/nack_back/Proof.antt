@@ -1,0 +1,20 @@
+use Rattle.rules.specs.Step.{nackBack}
+use borrow.Author.Needs.{needs}
+use Rattle.step.proofs.made.nack_back.Statement.{statement}
+use Rattle.step.proofs.made.nack_back.Tie as tie
+
+no-deps-requires : tie.Need-no-deps-requires
+no-deps-requires c κs = search needs
+
+said-requires : tie.Need-said-requires
+said-requires c κs = search needs
+
+only-of-requires : tie.Need-only-of-requires
+only-of-requires c κs = search needs
+
+returns : tie.Need-returns
+unfolding nackBack
+returns c = cc
+
+pub nack-back-spec : {M : Type 1} → statement M
+nack-back-spec = tie.close (tie.spec no-deps-requires said-requires only-of-requires returns)
