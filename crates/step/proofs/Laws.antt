@@ -50,7 +50,7 @@ preparing-is c r p q v a = λ i. record
     { joined = p i; vote = r .vote; mark = r .mark; phase = 1; set = q i; replies = lib.ListN.set (replicate 7 (v i)) (a i) (r .vote) }
 
 -- a place below seven holds the same whatever stands for a missing one
-at-same : (vs : List Vote) (i : ℕ) (z : Vote) → i < length vs → getD vs i z ≡ getD vs i noVote
+pub at-same : (vs : List Vote) (i : ℕ) (z : Vote) → i < length vs → getD vs i z ≡ getD vs i noVote
 at-same [] i z h = absurd (omega arith)
 at-same (v ∷ vs) zero z h = refl
 at-same (v ∷ vs) (suc i) z h = at-same vs i z (omega arith)

@@ -1,0 +1,58 @@
+use mathlib.Core.Path.{_≡_, refl, sym, ap, _∙_}
+use Prim.Native.Nat.{ℕ}
+use mathlib.Core.List.{List}
+use lib.ListN.{length, getD}
+use Rattle.paper.specs.declared.Vote.{Vote}
+use Rattle.decide.proofs.Laws.{afresh-none, afresh-past, afresh-told}
+use borrow.Author.Needs.{needs}
+use Rattle.decide.proofs.afresh_command.Statement.{statement}
+use Rattle.decide.proofs.afresh_command.Tie as tie
+
+voters-requires : tie.Need-voters-requires
+voters-requires c κs = search needs
+
+no-op-requires : tie.Need-no-op-requires
+no-op-requires c κs = search needs
+
+returns : tie.Need-returns
+returns c = c .no-op .ensures ∙ afresh-none _ (sym (c .before .before .voters .ensures) ∙ c .before .if1 .taken)
+
+lowest-top-voter-requires : tie.Need-lowest-top-voter-requires
+lowest-top-voter-requires c κs = search needs
+
+replies-of-requires : tie.Need-replies-of-requires
+replies-of-requires c κs = search needs
+
+no-op-requires-2 : tie.Need-no-op-requires-2
+no-op-requires-2 c κs = search needs
+
+returns-2 : tie.Need-returns-2
+returns-2 c = c .no-op2 .ensures
+    ∙ afresh-past _ (λ e. c .before .before .before .before .if1 .left (c .before .before .before .before .before .voters .ensures ∙ e)) (ap length (sym (c .before .before .replies-of .ensures .0)) ∙ c .before .before .replies-of .ensures .1) _ (c .before .before .before .lowest-top-voter .ensures) (c .before .if2 .taken)
+
+mul-v : tie.Need-mul-v
+mul-v c = search needs
+
+array-copy-out-v : tie.Need-array-copy-out-v
+array-copy-out-v c = search needs
+
+returns-3 : tie.Need-returns-3
+returns-3 c =
+    let q = c .before .before .before .before .lowest-top-voter in
+    ap (λ (l : List Vote). getD l (q .result) _ .command) (c .before .before .before .replies-of .ensures .0)
+    ∙ afresh-told _ (λ e. c .before .before .before .before .before .if1 .left (c .before .before .before .before .before .before .voters .ensures ∙ e)) (ap length (sym (c .before .before .before .replies-of .ensures .0)) ∙ c .before .before .before .replies-of .ensures .1) _ _ (q .ensures) (c .before .before .if2 .left)
+
+pub afresh-command-spec : {M : Type 1} → statement M
+afresh-command-spec =
+    tie.close
+    (tie.spec
+    voters-requires
+    no-op-requires
+    returns
+    lowest-top-voter-requires
+    replies-of-requires
+    no-op-requires-2
+    returns-2
+    mul-v
+    array-copy-out-v
+    returns-3)

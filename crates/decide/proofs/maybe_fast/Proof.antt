@@ -1,0 +1,54 @@
+use Rattle.rules.specs.PrepareOk.{maybeFast}
+use borrow.Author.Needs.{needs}
+use Rattle.decide.proofs.maybe_fast.Statement.{statement}
+use Rattle.decide.proofs.maybe_fast.Tie as tie
+
+top-voted-requires : tie.Need-top-voted-requires
+top-voted-requires c κs = search needs
+
+wide32-requires : tie.Need-wide32-requires
+wide32-requires c κs = search needs
+
+equal-requires : tie.Need-equal-requires
+equal-requires c κs = search needs
+
+is-member-requires : tie.Need-is-member-requires
+is-member-requires c κs = search needs
+
+both-requires : tie.Need-both-requires
+both-requires c κs = search needs
+
+faults-of-requires : tie.Need-faults-of-requires
+faults-of-requires c κs = search needs
+
+same-voters-requires : tie.Need-same-voters-requires
+same-voters-requires c κs = search needs
+
+count-of-requires : tie.Need-count-of-requires
+count-of-requires c κs = search needs
+
+at-most-requires : tie.Need-at-most-requires
+at-most-requires c κs = search needs
+
+both-requires-2 : tie.Need-both-requires-2
+both-requires-2 c κs = search needs
+
+returns : tie.Need-returns
+unfolding maybeFast
+returns c = cc
+
+pub maybe-fast-spec : {M : Type 1} → statement M
+maybe-fast-spec =
+    tie.close
+    (tie.spec
+    top-voted-requires
+    wide32-requires
+    equal-requires
+    is-member-requires
+    both-requires
+    faults-of-requires
+    same-voters-requires
+    count-of-requires
+    at-most-requires
+    both-requires-2
+    returns)

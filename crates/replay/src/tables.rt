@@ -1,0 +1,227 @@
+// The calls on one table: judge, blank and part. The table's bytes are lent, as many as the longest table has.
+use crate::answer::bad_line;
+use crate::answer::begin;
+use crate::answer::put_byte;
+use crate::answer::put_bytes;
+use crate::answer::put_number;
+use crate::answer::put_refused;
+use crate::answer::put_size;
+use crate::setup::Setup;
+use crate::words::hex;
+use crate::words::low8;
+use crate::words::number;
+use crate::words::numbers;
+use crate::words::size;
+use nouns::logic::both;
+use std::num::wrapping_add_u64;
+use std::num::wrapping_sub_u64;
+use table::Blanking;
+use table::Judging;
+ghost use Prim.Native.Nat.{_≤_};
+
+fn fill(t: &mut [u8], b: u8) {
+    let mut i = 0;
+    while i < t.len() {
+        t[i] = b;
+        i += 1;
+    }
+}
+
+// Byte i is i modulo 251.
+fn count_up(t: &mut [u8]) {
+    let mut i = 0;
+    while i < t.len() {
+        t[i] = low8(i % 251);
+        i += 1;
+    }
+}
+
+fn twice(x: u64) -> u64 {
+    wrapping_add_u64(x, x)
+}
+
+fn wide(b: u8) -> u64 {
+    b as u64
+}
+
+// h * 31 + b modulo 2^64; 31 is 32 less 1.
+fn with_byte(h: u64, b: u8) -> u64 {
+    let much = twice(twice(twice(twice(twice(h)))));
+    wrapping_add_u64(wrapping_sub_u64(much, h), wide(b))
+}
+
+fn checksum(t: &[u8]) -> u64 {
+    let mut h: u64 = 0;
+    let mut i = 0;
+    while i < t.len() {
+        h = with_byte(h, t[i]);
+        i += 1;
+    }
+    h
+}
+
+struct Spot {
+    at: usize,
+    good: bool,
+}
+
+fn no_spot() -> Spot {
+    Spot { at: 0, good: false }
+}
+
+fn times(o: usize, s: usize) -> usize
+    requires { ⌜ (o ≤ 8) × (s ≤ 4294967295) ⌝ }
+    ensures { λ r. ⌜ r ≤ 34359738360 ⌝ }
+{
+    o * s
+}
+
+// A place in the record of o.j, by the layout's rule whether or not a table has it.
+fn record_spot(s: usize, o: usize, j: usize, at: usize) -> Spot
+    requires { ⌜ at ≤ 4294967295 ⌝ }
+{
+    if 8 < o {
+        return no_spot();
+    }
+    if j == 0 {
+        return no_spot();
+    }
+    if 4294967295 < j {
+        return no_spot();
+    }
+    if 4294967295 < s {
+        return no_spot();
+    }
+    Spot {
+        at: 3 + 263 * (times(o, s) + (j - 1)) + at,
+        good: true,
+    }
+}
+
+// Where the bytes of a judge line go: into a record, or, for owner 9, into the table itself.
+fn spot_of(s: usize, v: [u64; 4]) -> Spot {
+    let o = size(v[1]);
+    let j = size(v[2]);
+    let at = size(v[3]);
+    if 4294967295 < at {
+        return no_spot();
+    }
+    if o == 9 {
+        return Spot { at, good: true };
+    }
+    record_spot(s, o, j, at)
+}
+
+fn put_head(t: &mut [u8], w: Setup, c: usize) {
+    let n = put_byte(&mut *t, 0, low8(w.n));
+    let s = put_byte(&mut *t, n, low8(w.s));
+    put_byte(&mut *t, s, low8(c));
+}
+
+fn put_judging(out: &mut [u8], at: usize, answer: Judging) -> usize {
+    match answer {
+        Judging::Sound => put_bytes(out, at, b" sound"),
+        Judging::Refused(why) => put_refused(out, at, why),
+    }
+}
+
+// The answer for a table that is blank but for the bytes at a place.
+fn judge_bytes(t: &mut [u8], w: Setup, c: usize, at: usize, bytes: &[u8], out: &mut [u8]) -> usize {
+    fill(&mut *t, 0);
+    put_head(&mut *t, w, c);
+    put_bytes(&mut *t, at, bytes);
+    let answer = table::judge_table(&*t, w.n, w.s, c);
+    let next = begin(&mut *out);
+    put_judging(&mut *out, next, answer)
+}
+
+fn judge_words(
+    line: &[u8],
+    at: usize,
+    w: Setup,
+    c: usize,
+    v: [u64; 4],
+    t: &mut [u8],
+    out: &mut [u8],
+) -> usize {
+    let mut room = [0u8; 300];
+    let got = hex(line, at, &mut room);
+    let where_to = spot_of(w.s, v);
+    let length = size(v[0]);
+    let k = got.count;
+    if !both(both(got.good, where_to.good), line.len() <= got.next) {
+        return bad_line(out);
+    }
+    if 300 < k {
+        return bad_line(out);
+    }
+    if t.len() < length {
+        return bad_line(out);
+    }
+    judge_bytes(&mut t[..length], w, c, where_to.at, &room[..k], out)
+}
+
+// C judge LEN O J AT BYTES
+pub fn judge(line: &[u8], at: usize, w: Setup, c: usize, t: &mut [u8], out: &mut [u8]) -> usize {
+    let mut v = [0u64; 4];
+    let got = numbers(line, at, &mut v);
+    if !got.good {
+        return bad_line(out);
+    }
+    judge_words(line, got.next, w, c, v, t, out)
+}
+
+fn put_blanking(out: &mut [u8], at: usize, answer: Blanking) -> usize {
+    match answer {
+        Blanking::Blank => put_bytes(out, at, b" blank"),
+        Blanking::Refused(why) => put_refused(out, at, why),
+    }
+}
+
+fn blank_bytes(t: &mut [u8], w: Setup, c: usize, out: &mut [u8]) -> usize {
+    fill(&mut *t, 0xEE);
+    let answer = table::blank_table(&mut *t, w.n, w.s, c);
+    let at = begin(&mut *out);
+    let told = put_blanking(&mut *out, at, answer);
+    put_number(&mut *out, told, checksum(&*t))
+}
+
+// C blank LEN
+pub fn blank(line: &[u8], at: usize, w: Setup, c: usize, t: &mut [u8], out: &mut [u8]) -> usize {
+    let got = number(line, at);
+    let length = size(got.value);
+    if !both(got.good, line.len() <= got.next) {
+        return bad_line(out);
+    }
+    if t.len() < length {
+        return bad_line(out);
+    }
+    blank_bytes(&mut t[..length], w, c, out)
+}
+
+fn part_bytes(t: &[u8], w: Setup, c: usize, o: usize, j: usize, out: &mut [u8]) -> usize {
+    let part = table::record_part(t, w.n, w.s, c, o, j);
+    let at = begin(&mut *out);
+    let told = put_bytes(&mut *out, at, b" part");
+    let length = put_size(&mut *out, told, part.len());
+    put_number(&mut *out, length, checksum(part))
+}
+
+fn part_words(v: [u64; 3], w: Setup, c: usize, t: &mut [u8], out: &mut [u8]) -> usize {
+    let length = size(v[0]);
+    if t.len() < length {
+        return bad_line(out);
+    }
+    count_up(&mut t[..length]);
+    part_bytes(&t[..length], w, c, size(v[1]), size(v[2]), out)
+}
+
+// C part LEN O J
+pub fn part(line: &[u8], at: usize, w: Setup, c: usize, t: &mut [u8], out: &mut [u8]) -> usize {
+    let mut v = [0u64; 3];
+    let got = numbers(line, at, &mut v);
+    if !both(got.good, line.len() <= got.next) {
+        return bad_line(out);
+    }
+    part_words(v, w, c, t, out)
+}
