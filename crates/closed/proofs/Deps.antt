@@ -1,0 +1,106 @@
+-- Lists of dependencies: what is in range stays in range, and Seen always is. Assumes nothing.
+use Prim.Native.Nat.{ℕ, zero, suc, _+_, _^_, _≤_, _<_}
+use mathlib.Core.Path.{_≡_, refl}
+use mathlib.Core.Bool.{Bool, true, false, cond}
+use mathlib.Core.List.{List, [], _∷_}
+use native.Mathlib.Omega.{arith}
+use native.Mathlib.Decide.{decLt}
+use lib.Dec.{ltb, eqb}
+use lib.ListN.{length, getD, getD-replicate, List·getD-eq-default}
+use borrow.Author.Tests.{leb-true, eqb-true, le-leb}
+use Rattle.paper.specs.Deps.{noDeps, entryLimit, entryOk, depsOk, sameDeps, larger, joinFrom, join}
+use Rattle.paper.specs.Vote.{noVote}
+use Rattle.paper.specs.declared.Command.{Command}
+use Rattle.paper.specs.declared.Vote.{Vote}
+use Rattle.paper.proofs.Laws.{allBelow-at}
+use Rattle.rules.specs.Sets.{highest}
+use Rattle.rules.specs.Accepting.{joinAll}
+use Rattle.rules.specs.Seen.{Records, met, seenEntry, seenFrom, seen}
+use Rattle.closed.specs.Fits.{DepsFit}
+use Rattle.closed.proofs.Laws.{by-cond, all-in}
+
+module _ (n s : ℕ) where
+  pub deps-at : (d : List ℕ) → depsOk n s d ≡ true → (i : ℕ) → i < 7 → getD d i 0 ≤ entryLimit n s i
+  unfolding depsOk
+  deps-at d h i l = leb-true _ _ (allBelow-at 7 (entryOk n s d) h i l)
+
+  pub deps-in : (d : List ℕ) → ((i : ℕ) → i < 7 → getD d i 0 ≤ entryLimit n s i) → depsOk n s d ≡ true
+  unfolding depsOk
+  deps-in d h = all-in 7 (entryOk n s d) (λ i l. le-leb _ _ (h i l))
+
+  pub no-deps : depsOk n s noDeps ≡ true
+  no-deps = deps-in noDeps (λ i l. let z : getD noDeps i 0 ≡ 0 = getD-replicate 7 i 0 0 l in omega arith)
+
+  -- what is in range is a number of two bytes
+  pub deps-fit : (d : List ℕ) → s ≤ 64 → length d ≡ 7 → depsOk n s d ≡ true → DepsFit d
+  deps-fit d ls e h = record { seven = e; each = λ i. go i (decLt i 7) }
+    where
+      limit : (i : ℕ) → entryLimit n s i ≤ s
+      limit i = by-cond (λ (x : ℕ). x ≤ s) (ltb i n) (λ e. omega arith) (λ e. omega arith)
+
+      go : (i : ℕ) → Dec (i < 7) → getD d i 0 < 256 ^ 2
+      go i (yes l) = omega (arith, deps-at d h i l, limit i)
+      go i (no l) = let z : getD d i 0 ≡ 0 = List·getD-eq-default d 0 (omega arith) in omega arith
+
+  -- dependencies that are the same are in range together
+  pub same-ok : (d e : List ℕ) → sameDeps d e ≡ true → depsOk n s e ≡ true → depsOk n s d ≡ true
+  unfolding sameDeps
+  same-ok d e h k =
+      deps-in d (λ i l. let z = eqb-true (getD d i 0) (getD e i 0) (allBelow-at 7 (λ i. eqb (getD d i 0) (getD e i 0)) h i l) in omega (arith, deps-at e k i l))
+
+  larger-le : (a b m : ℕ) → a ≤ m → b ≤ m → larger a b ≤ m
+  larger-le a b m p q = by-cond (λ (x : ℕ). x ≤ m) (ltb a b) (λ e. q) (λ e. p)
+
+  join-at : (k i p : ℕ) (d e : List ℕ) → p < k → getD (joinFrom k d e i) p 0 ≡ larger (getD d (i + p) 0) (getD e (i + p) 0)
+  unfolding joinFrom
+  join-at zero i p d e l = absurd (omega arith)
+  join-at (suc k) i zero d e l = let z : i + 0 ≡ i = omega arith in rw z
+  join-at (suc k) i (suc p) d e l = let z : i + suc p ≡ i + 1 + p = omega arith in rw z (join-at k (i + 1) p d e (omega arith))
+
+  pub join-ok : (d e : List ℕ) → depsOk n s d ≡ true → depsOk n s e ≡ true → depsOk n s (join d e) ≡ true
+  join-ok d e p q =
+      deps-in (join d e)
+      (λ i l. let z : 0 + i ≡ i = omega arith in rw (join-at 7 0 i d e l, z) (larger-le _ _ _ (deps-at d p i l) (deps-at e q i l)))
+
+  pub join-length : (d e : List ℕ) → length (join d e) ≡ 7
+  unfolding joinFrom
+  join-length d e = refl
+
+  pub joins-ok : (d : List ℕ) (vs : List Vote) → depsOk n s d ≡ true → ((q : ℕ) → depsOk n s (getD vs q noVote .deps) ≡ true)
+      → depsOk n s (joinAll d vs) ≡ true
+  unfolding joinAll
+  joins-ok d [] h k = h
+  joins-ok d (v ∷ vs) h k = joins-ok (join d (v .deps)) vs (join-ok d (v .deps) h (k 0)) (λ q. k (suc q))
+
+  pub joins-length : (d : List ℕ) (vs : List Vote) → length d ≡ 7 → length (joinAll d vs) ≡ 7
+  unfolding joinAll
+  joins-length d [] l = l
+  joins-length d (v ∷ vs) l = joins-length (join d (v .deps)) vs (join-length d (v .deps))
+
+  -- Seen
+  highest-le : (k : ℕ) (f : ℕ → Bool) → highest k f ≤ k
+  unfolding highest
+  highest-le zero f = omega arith
+  highest-le (suc k) f = by-cond (λ (x : ℕ). x ≤ suc k) (f (suc k)) (λ e. omega arith) (λ e. omega (arith, highest-le k f))
+
+  module _ (t : Records) (o j : ℕ) (k : Command) where
+    seen-at : (i p q : ℕ) → q < i → getD (seenFrom i p n s t o j k) q 0 ≡ seenEntry n s t o j k (p + q)
+    unfolding seenFrom
+    seen-at zero p q l = absurd (omega arith)
+    seen-at (suc i) p zero l = let z : p + 0 ≡ p = omega arith in rw z
+    seen-at (suc i) p (suc q) l = let z : p + suc q ≡ p + 1 + q = omega arith in rw z (seen-at i (p + 1) q (omega arith))
+
+    entry-le : (p : ℕ) → seenEntry n s t o j k p ≤ entryLimit n s p
+    unfolding seenEntry
+    entry-le p = go (ltb p n)
+      where
+        go : (b : Bool) → cond b (highest s (met t o j k p)) 0 ≤ cond b s 0
+        go true = highest-le s (met t o j k p)
+        go false = omega arith
+
+    pub seen-ok : depsOk n s (seen n s t o j k) ≡ true
+    seen-ok = deps-in (seen n s t o j k) (λ i l. let z : 0 + i ≡ i = omega arith in rw (seen-at 7 0 i l, z) (entry-le i))
+
+    pub seen-length : length (seen n s t o j k) ≡ 7
+    unfolding seenFrom
+    seen-length = refl
