@@ -33,8 +33,29 @@ pub largest : (f : ℕ → Vote → ℕ) (vs : List Vote) (z : Vote) {x0 x1 x2 x
 unfolding largestBelow
 largest f vs z l p0 p1 p2 p3 p4 p5 p6 q0 q1 q2 q3 q4 q5 q6 =
     let e : (i : ℕ) → i < 7 → f i (getD vs i z) ≡ f i (getD vs i noVote) = λ i h. ap (f i) (at-same vs i z (omega arith)) in
-    rw (q6, q5, q4, q3, q2, q1, q0, p6, p5, p4, p3, p2, p1, p0, e 0 (omega arith), e 1 (omega arith), e 2 (omega arith), e 3 (omega arith), e 4 (omega arith),
-    e 5 (omega arith), e 6 (omega arith))
+    rw (
+      q6,
+      q5,
+      q4,
+      q3,
+      q2,
+      q1,
+      q0,
+      p6,
+      p5,
+      p4,
+      p3,
+      p2,
+      p1,
+      p0,
+      e 0 (omega arith),
+      e 1 (omega arith),
+      e 2 (omega arith),
+      e 3 (omega arith),
+      e 4 (omega arith),
+      e 5 (omega arith),
+      e 6 (omega arith),
+    )
 
 module _ (r : Record) where
   pub afresh-none : those (voter r) ≡ 0 → noop ≡ afreshCommand r

@@ -2,8 +2,8 @@
 use nouns::logic::at_most;
 use nouns::logic::both;
 use nouns::logic::equal;
-use nouns::logic::wide32;
 use nouns::logic::wide8;
+use nouns::logic::wide32;
 use nouns::setup::faults_of;
 use nouns::vote::count_of;
 use nouns::vote::is_member;
@@ -25,7 +25,16 @@ ghost use Rattle.paper.specs.Deps.{larger};
 ghost use Rattle.paper.specs.Vote.{member};
 ghost use Rattle.rules.specs.Sets.{those, lowest};
 ghost use Rattle.rules.specs.PrepareOk.{
-    voter, topVoted, topVoter, topAccepter, sameVoter, maybeFast, afreshCommand, acceptedFrom, decide, quorum,
+  voter,
+  topVoted,
+  topVoter,
+  topAccepter,
+  sameVoter,
+  maybeFast,
+  afreshCommand,
+  acceptedFrom,
+  decide,
+  quorum,
 };
 
 // The vote v of copy q is among the replies with status >= 1.

@@ -1,0 +1,106 @@
+// "Seen(c, I)" over the table's bytes.
+use nouns::command::interferes;
+use nouns::logic::at_most;
+use nouns::logic::both;
+use nouns::logic::equal;
+use nouns::logic::wide8;
+use paper::Command;
+ghost use mathlib.Core.Path.{_≡_};
+ghost use mathlib.Core.Bool.{_&&_, not};
+ghost use Prim.Native.Nat.{_+_, _*_, _≤_, _<_};
+ghost use lib.Dec.{leb, eqb};
+ghost use lib.ListN.{length};
+ghost use Rattle.paper.specs.Command.{interfere};
+ghost use Rattle.record.specs.Layout.{recordAt};
+ghost use Rattle.table.specs.Place.{partAt, placeAt};
+ghost use Rattle.table.specs.Sizes.{Sizes, Row};
+ghost use Rattle.rules.specs.Seen.{met, seenEntry, seen};
+ghost use Rattle.rules.specs.Sets.{highest};
+ghost use Rattle.seen.specs.Records.{recordsIn};
+
+// The record at a place has status >= 1 and a command that interferes with k.
+fn meets(t: &[u8], at: usize, k: Command) -> bool
+    requires { ⌜ at + 263 ≤ length (now t) ⌝ }
+    ensures { λ r.
+        ⌜ r ≡ (leb 1 (recordAt (partAt (now (t .entry)) at) .vote .status) && interfere k (recordAt (partAt (now (t .entry)) at) .vote .command)) ⌝ }
+{
+    let end = at + 263;
+    let v = codec::read_vote(&t[at..end], 4);
+    let command = v.command;
+    both(at_most(1, wide8(v.status)), interferes(k, command))
+}
+
+fn another(o: usize, j: usize, p: usize, i: usize) -> bool
+    ensures { λ r. ⌜ r ≡ not (eqb p o && eqb i j) ⌝ }
+{
+    !both(equal(p, o), equal(i, j))
+}
+
+// The highest number of owner p's row that is met, else 0; the row is walked from its end.
+fn row_seen(
+    t: &[u8],
+    n: usize,
+    s: usize,
+    c: usize,
+    o: usize,
+    j: usize,
+    k: Command,
+    p: usize,
+) -> usize
+    requires { ⌜ Row n s c p (now t) ⌝ }
+    ensures { λ r. ⌜ r ≡ highest s (met (recordsIn s (now (t .entry))) o j k p) ⌝ }
+    ensures { λ r. ⌜ r ≤ s ⌝ }
+{
+    let mut left = s;
+    let mut at = 3 + 263 * (p * s + s);
+    while 0 < left {
+        at -= 263;
+        if both(another(o, j, p, left), meets(t, at, k)) {
+            return left;
+        }
+        left -= 1;
+    }
+    0
+}
+
+fn small(x: usize) -> u16
+    requires { ⌜ x < 65_536 ⌝ }
+    ensures { λ r. ⌜ r ≡ x ⌝ }
+{
+    x as u16
+}
+
+// Entry p: zero from copy N on.
+fn entry_seen(
+    t: &[u8],
+    n: usize,
+    s: usize,
+    c: usize,
+    o: usize,
+    j: usize,
+    k: Command,
+    p: usize,
+) -> u16
+    requires { ⌜ Sizes n s c (now t) ⌝ }
+    ensures { λ r. ⌜ r ≡ seenEntry n s (recordsIn s (now (t .entry))) o j k p ⌝ }
+{
+    if p < n {
+        return small(row_seen(t, n, s, c, o, j, k, p));
+    }
+    0
+}
+
+// For each owner, the highest number of a record other than o.j with status >= 1 whose command interferes with k.
+pub fn seen_of(t: &[u8], n: usize, s: usize, c: usize, o: usize, j: usize, k: Command) -> [u16; 7]
+    requires { ⌜ Sizes n s c (now t) ⌝ }
+    ensures { λ r. ⌜ r ≡ seen n s (recordsIn s (now (t .entry))) o j k ⌝ }
+{
+    let d0 = entry_seen(t, n, s, c, o, j, k, 0);
+    let d1 = entry_seen(t, n, s, c, o, j, k, 1);
+    let d2 = entry_seen(t, n, s, c, o, j, k, 2);
+    let d3 = entry_seen(t, n, s, c, o, j, k, 3);
+    let d4 = entry_seen(t, n, s, c, o, j, k, 4);
+    let d5 = entry_seen(t, n, s, c, o, j, k, 5);
+    let d6 = entry_seen(t, n, s, c, o, j, k, 6);
+    [d0, d1, d2, d3, d4, d5, d6]
+}
