@@ -1,0 +1,99 @@
+-- The public calls for events: what each answers, and every lent byte after. Assumes nothing.
+-- n, s: the setup; c: this copy; t: the table's bytes; out: the room for outgoing bytes.
+use Prim.Native.Nat.{ℕ}
+use mathlib.Core.Bool.{Bool, _||_, not, cond}
+use mathlib.Core.List.{List}
+use lib.Dec.{ltb, eqb}
+use lib.ListN.{length}
+use Rattle.num.specs.Num.{splice}
+use Rattle.codec.specs.Parts.{opOf}
+use Rattle.paper.specs.Instance.{instanceOk}
+use Rattle.paper.specs.Refusal.{numberOf}
+use Rattle.paper.specs.declared.Command.{Command}
+use Rattle.paper.specs.declared.Message.{Message}
+use Rattle.paper.specs.declared.Refusal.{Refusal}
+use Rattle.paper.specs.declared.Refusal.the-variants as why
+use Rattle.rules.specs.declared.Step.{Step}
+use Rattle.rules.specs.Step.{isCommitted}
+use Rattle.rules.specs.Received.{refused10}
+use Rattle.rules.specs.Recover.{outOfBallots}
+use Rattle.rules.specs.Nudge.{nothingToNudge}
+use Rattle.rules.specs.Events.{requestNumber, onRequest, onMessage, onRecover, onNudge}
+use Rattle.wire.specs.Wire.{messageAt, validBytes}
+use Rattle.table.specs.Table.{fits, soundTable, recordIn, putRecord}
+use Rattle.seen.specs.Records.{recordsIn}
+use Rattle.log.specs.declared.Answer.{Answer}
+use Rattle.log.specs.declared.Answer.the-variants.{Event, Refused}
+use Rattle.log.specs.Out.{outBytes}
+
+-- the answer, the table and the room after a call
+pub record Outcome : Type 0 where
+  pub answer : Answer
+  pub table : List ℕ
+  pub out : List ℕ
+
+-- a refusal leaves all lent memory as at entry
+abbrev pub refuse : Refusal → List ℕ → List ℕ → Outcome
+refuse r t out = record { answer = Refused r; table = t; out = out }
+
+-- an event answers its instance and the bytes written; only its record's part of the table changes, and the room's later
+-- bytes keep their contents
+unfoldable pub acted : ℕ → List ℕ → List ℕ → ℕ → ℕ → Step → Outcome
+acted s t out o j x =
+    record
+      { answer = Event o j (length (outBytes x)); table = putRecord s t o j (x .entry); out = splice out 0 (outBytes x) }
+
+-- 1, 11, 2, then the rest
+unfoldable pub gated : ℕ → ℕ → ℕ → List ℕ → List ℕ → Outcome → Outcome
+gated n s c t out rest =
+    cond (not (fits n s c t)) (refuse why.Setup t out)
+    (cond (not (soundTable n s c t)) (refuse why.Unsound t out) (cond (ltb (length out) 256) (refuse why.Room t out) rest))
+
+-- 4, then 5
+unfoldable pub requested : ℕ → ℕ → ℕ → List ℕ → List ℕ → ℕ → ℕ → ℕ → Outcome
+requested n s c t out op key edit =
+    gated n s c t out
+    (cond (not (eqb op 1 || eqb op 2)) (refuse why.Op t out)
+    (cond (ltb s (requestNumber s c (recordsIn s t))) (refuse why.Full t out)
+    (acted s t out c (requestNumber s c (recordsIn s t))
+    (onRequest n s c (recordsIn s t) (record { op = opOf op; key = key; edit = edit })))))
+
+-- 3, then 10
+unfoldable pub received : ℕ → ℕ → ℕ → List ℕ → List ℕ → List ℕ → Outcome
+received n s c t out b =
+    gated n s c t out
+    (cond (not (validBytes n s c b)) (refuse why.Message t out)
+    (cond (refused10 (recordIn s t (messageAt b .owner) (messageAt b .number)) (messageAt b)) (refuse why.Differs t out)
+    (acted s t out (messageAt b .owner) (messageAt b .number) (onMessage n s c (recordsIn s t) (messageAt b)))))
+
+-- 6, 8, then 7
+unfoldable pub recovered : ℕ → ℕ → ℕ → List ℕ → List ℕ → ℕ → ℕ → Outcome
+recovered n s c t out o j =
+    gated n s c t out
+    (cond (not (instanceOk n s o j)) (refuse why.Instance t out)
+    (cond (isCommitted (recordIn s t o j)) (refuse why.Committed t out)
+    (cond (outOfBallots (recordIn s t o j)) (refuse why.Ballots t out) (acted s t out o j (onRecover n c (recordsIn s t) o j)))))
+
+-- 6, then 9
+unfoldable pub nudged : ℕ → ℕ → ℕ → List ℕ → List ℕ → ℕ → ℕ → Outcome
+nudged n s c t out o j =
+    gated n s c t out
+    (cond (not (instanceOk n s o j)) (refuse why.Instance t out)
+    (cond (nothingToNudge (recordIn s t o j)) (refuse why.Idle t out) (acted s t out o j (onNudge n c (recordsIn s t) o j))))
+
+-- the paper's number of an answer, 0 for an event, and its values
+abbrev pub answerNumber : Answer → ℕ
+answerNumber (Event o j k) = 0
+answerNumber (Refused r) = numberOf r
+
+abbrev pub answerOwner : Answer → ℕ
+answerOwner (Event o j k) = o
+answerOwner (Refused r) = 0
+
+abbrev pub answerInstance : Answer → ℕ
+answerInstance (Event o j k) = j
+answerInstance (Refused r) = 0
+
+abbrev pub answerWritten : Answer → ℕ
+answerWritten (Event o j k) = k
+answerWritten (Refused r) = 0
