@@ -41,7 +41,7 @@ refuse r t out = record { answer = Refused r; table = t; out = out }
 unfoldable pub acted : ℕ → List ℕ → List ℕ → ℕ → ℕ → Step → Outcome
 acted s t out o j x =
     record
-      { answer = Event o j (length (outBytes x)); table = putRecord s t o j (x .entry); out = splice out 0 (outBytes x) }
+    { answer = Event o j (length (outBytes x)); table = putRecord s t o j (x .entry); out = splice out 0 (outBytes x) }
 
 -- 1, 11, 2, then the rest
 unfoldable pub gated : ℕ → ℕ → ℕ → List ℕ → List ℕ → Outcome → Outcome

@@ -1,52 +1,137 @@
--- "Examples" W2 to W10 of the rules. Assumes nothing.
-use Prim.Native.Nat.{ℕ, zero, suc, _+_}
-use mathlib.Core.Path.{_≡_, refl}
-use mathlib.Core.Bool.{Bool, true, false, _&&_, cond, not}
+-- "Examples" W1 to W10, and the errors that look reasonable, as one statement about the rules. Assumes nothing.
+use Prim.Native.Nat.{ℕ}
+use mathlib.Core.Path.{_≡_}
+use mathlib.Core.Bool.{true}
 use mathlib.Core.List.{List, [], _∷_}
-use lib.Dec.{eqb}
-use lib.ListN.{replicate, set, length}
+use lib.ListN.{replicate}
 use Rattle.paper.specs.Vote.{blank, noVote}
-use Rattle.paper.specs.Deps.{noDeps, sameDeps, covers, join, joinFrom}
+use Rattle.paper.specs.Deps.{noDeps}
 use Rattle.paper.specs.declared.Op.the-variants.{Write}
 use Rattle.paper.specs.declared.Command.{Command}
 use Rattle.paper.specs.declared.Vote.{Vote}
 use Rattle.paper.specs.declared.Record.{Record}
 use Rattle.paper.specs.declared.Message.{Message}
-use Rattle.paper.specs.declared.Body.{Body}
-use Rattle.paper.specs.declared.Body.the-variants.{PreAccept, PreAcceptOk, Accept, AcceptOk, Commit, Prepare, PrepareOk, Nack}
+use Rattle.paper.specs.declared.Body.the-variants.{PreAccept, PreAcceptOk, Accept, Prepare, PrepareOk}
 use Rattle.rules.specs.declared.Step.{Step}
-use Rattle.rules.specs.declared.First.{First}
-use Rattle.rules.specs.declared.First.the-variants.{At, Nowhere}
-use Rattle.rules.specs.Seen.{Records, seen}
-use Rattle.rules.specs.Events.{put, onRequest, onMessage, messages}
-use Rattle.rules.specs.Recover.{nextBallot}
+use Rattle.rules.specs.declared.First.the-variants.{At}
+use Rattle.rules.specs.Seen.{Records}
+use Rattle.rules.specs.Events.{put, onRequest, onMessage, onRecover, messages}
+use Rattle.rules.specs.Recover.{outOfBallots}
 use Rattle.rules.specs.PrepareOk.{decide}
 use Rattle.rules.specs.Order.{handOut, firstOpen}
 
-edit : ℕ → Command
-edit e = record { op = Write; key = 7; edit = e }
+-- a write of key 7
+abbrev pub write : ℕ → Command
+write e = record { op = Write; key = 7; edit = e }
 
-deps3 : ℕ → ℕ → ℕ → List ℕ
+abbrev pub deps3 : ℕ → ℕ → ℕ → List ℕ
 deps3 a b c = a ∷ b ∷ c ∷ 0 ∷ 0 ∷ 0 ∷ 0 ∷ []
 
-blanks : Records
+abbrev pub blanks : Records
 blanks o j = blank
 
-committedWith : List ℕ → Record
-committedWith d = record { joined = 0; vote = record { voted = 0; status = 4; command = edit 1; deps = d }; mark = 0; phase = 0; set = 0; replies = replicate 7 noVote }
+-- N=3, S=4, blank, copy 0 requests write key 7 edit 100
+abbrev pub first : Step
+first = onRequest 3 4 0 blanks (write 100)
 
-w1 : Step
-w1 = onRequest 3 4 0 blanks (edit 100)
+abbrev pub asked : Records
+asked = put blanks 0 1 (first .entry)
 
-afterW1 : Records
-afterW1 = put blanks 0 1 (w1 .entry)
+-- a PreAcceptOK of copy q for 0.1
+abbrev pub ok : ℕ → List ℕ → Message
+ok q d = record { from = q; to = 0; owner = 0; number = 1; ballot = 0; body = PreAcceptOk; deps = d }
 
-okFrom : ℕ → List ℕ → Message
-okFrom q d = record { from = q; to = 0; owner = 0; number = 1; ballot = 0; body = PreAcceptOk; deps = d }
+-- a reply is collected
+abbrev pub then : Records → Message → Records
+then t m = put t 0 1 (onMessage 3 4 0 t m .entry)
 
-w8t : Records
-w8t = put (put blanks 0 1 (committedWith (deps3 0 1 0))) 1 1 (committedWith (deps3 1 0 0))
+-- copy 1 holds its own write of key 7 in 1.1, and gets the PreAccept of 0.1
+abbrev pub ownWrite : Records
+ownWrite = put blanks 1 1 (onRequest 3 4 1 blanks (write 5) .entry)
 
-W8 : handOut 4 3 4 w8t ≡ 1 ∷ 257 ∷ []
-unfolding edit blanks deps3 committedWith w8t put handOut Rattle.rules.specs.Order.nextOut Rattle.rules.specs.Order.firstNumber Rattle.rules.specs.Order.firstOwner Rattle.rules.specs.Order.candidate Rattle.rules.specs.Order.isSettled Rattle.rules.specs.Order.everywhere Rattle.rules.specs.Order.somewhere Rattle.rules.specs.Order.waitsFor Rattle.rules.specs.Order.reaches Rattle.rules.specs.Order.reachesIn Rattle.rules.specs.Order.coversIn Rattle.paper.specs.Instance.instanceOk covers Rattle.paper.specs.Logic.allBelow
-W8 = refl
+-- a record that nobody has voted for, with this joined ballot
+abbrev pub joinedAt : ℕ → Record
+joinedAt b = record { joined = b; vote = noVote; mark = 0; phase = 0; set = 0; replies = replicate 7 noVote }
+
+-- what a copy told: status t at ballot b
+abbrev pub told : ℕ → ℕ → ℕ → Vote
+told b t e = record { voted = b; status = t; command = write e; deps = noDeps }
+
+-- what a copy added
+abbrev pub added : List ℕ → Vote
+added d = record { voted = 0; status = 0; command = noVote .command; deps = d }
+
+-- a lead of ballot 26 (copy 2) in phase 1 with these replies
+abbrev pub preparing : ℕ → List Vote → Record
+preparing m vs = record { joined = 26; vote = noVote; mark = 0; phase = 1; set = m; replies = vs }
+
+abbrev pub votes : Vote → Vote → Vote → Vote → Vote → List Vote
+votes a b c d e = a ∷ b ∷ c ∷ d ∷ e ∷ noVote ∷ noVote ∷ []
+
+-- a committed write with these dependencies
+abbrev pub committed : List ℕ → Record
+committed d =
+    record { joined = 0; vote = record { voted = 0; status = 4; command = write 1; deps = d }; mark = 0; phase = 0; set = 0; replies = replicate 7 noVote }
+
+abbrev pub cycle : Records
+cycle = put (put blanks 0 1 (committed (deps3 0 1 0))) 1 1 (committed (deps3 1 0 0))
+
+-- the PreAccept of W1 to copy q
+abbrev pub preAcceptTo : ℕ → Message
+preAcceptTo q = record { from = 0; to = q; owner = 0; number = 1; ballot = 0; body = PreAccept (write 100); deps = noDeps }
+
+-- the vote of a pre-accept at ballot 0, as received
+abbrev pub voted : Record
+voted = record { joined = 10; vote = told 0 2 100; mark = 0; phase = 0; set = 0; replies = replicate 7 noVote }
+
+abbrev pub prepare : Message
+prepare = record { from = 2; to = 1; owner = 0; number = 1; ballot = 18; body = Prepare; deps = noDeps }
+
+-- N=5: copies 1 and 2 both answered (0,1,0)
+abbrev pub agreed : Record
+agreed =
+    record {
+      joined = 0;
+      vote = told 0 2 100;
+      mark = 0;
+      phase = 2;
+      set = 6;
+      replies = votes noVote (added (deps3 0 1 0)) (added (deps3 0 1 0)) noVote noVote;
+    }
+
+pub record Worked : Type 0 where
+  -- a PreAccept to each of the others, by rising destination
+  pub W1 : messages first ≡ preAcceptTo 1 ∷ preAcceptTo 2 ∷ []
+  -- one PreAcceptOK with zero dependencies then commits 0.1
+  pub W2 : onMessage 3 4 0 asked (ok 1 noDeps) .entry .vote ≡ record { voted = 0; status = 4; command = write 100; deps = noDeps }
+  -- copy 1 answers (0,1,0); copy 0 waits; copy 2's (0,0,0) then commits 0.1 with (0,0,0)
+  pub W3-answers : onMessage 3 4 1 ownWrite (preAcceptTo 1) .message .deps ≡ deps3 0 1 0
+  pub W3-waits : onMessage 3 4 0 asked (ok 1 (deps3 0 1 0)) .to ≡ 0
+  pub W3-commits : onMessage 3 4 0 (then asked (ok 1 (deps3 0 1 0))) (ok 2 noDeps) .entry .vote
+      ≡ record { voted = 0; status = 4; command = write 100; deps = noDeps }
+  -- answers (0,1,0) and then (0,0,1): accepting with (0,1,1)
+  pub W4 : onMessage 3 4 0 (then asked (ok 1 (deps3 0 1 0))) (ok 2 (deps3 0 0 1)) .message
+      ≡ record { from = 0; to = 0; owner = 0; number = 1; ballot = 0; body = Accept (write 100); deps = deps3 0 1 1 }
+  -- N=7, copy 2 recovers with joined 0: ballot 10; with 13: 18; with 4,294,967,288: refusal 7
+  pub W5-first : onRecover 7 2 blanks 0 1 .entry .joined ≡ 10
+  pub W5-later : onRecover 7 2 (put blanks 0 1 (joinedAt 13)) 0 1 .entry .joined ≡ 18
+  pub W5-last : outOfBallots (joinedAt 4_294_967_288) ≡ true
+  -- N=5, owner absent, three replies, two of status 2 at ballot 0: accept; one of status 2, one of 1: pre-accept afresh;
+  -- owner present: afresh
+  pub W6-accept : decide 5 2 0 1 (preparing 14 (votes noVote (told 0 2 1) noVote (told 0 2 1) noVote)) noDeps .entry .phase ≡ 3
+  pub W6-afresh : decide 5 2 0 1 (preparing 14 (votes noVote (told 0 2 1) noVote (told 0 1 1) noVote)) noDeps .entry .phase ≡ 2
+  pub W6-owner : decide 5 2 0 1 (preparing 7 (votes (told 0 2 1) (told 0 2 1) noVote noVote noVote)) noDeps .entry .phase ≡ 2
+  -- status 3 voted at 10 and at 17: the one at 17
+  pub W7 : decide 5 2 0 1 (preparing 14 (votes noVote (told 10 3 1) noVote (told 17 3 2) noVote)) noDeps .entry .vote .command ≡ write 2
+  -- 0.1 (0,1,0) and 1.1 (1,0,0), both committed: codes 1, 257
+  pub W8 : handOut 4 3 4 cycle ≡ 1 ∷ 257 ∷ []
+  -- 0.1 (0,0,1), 2.1 (0,0,0): codes 513, 1
+  pub W9 : handOut 4 3 4 (put (put blanks 0 1 (committed (deps3 0 0 1))) 2 1 (committed noDeps)) ≡ 513 ∷ 1 ∷ []
+  -- 2.1 (2,1,0) with W8's two committed, 0.2 blank: not settled, 0.2 named
+  pub W10 : firstOpen 3 4 (put cycle 2 1 (committed (deps3 2 1 0))) 2 1 ≡ At 0 2
+  -- a copy that joined 10 and voted at 0 tells 0, and not 10
+  pub told-voted : onMessage 3 4 1 (put blanks 0 1 voted) prepare .message .body ≡ PrepareOk 0 2 (write 100)
+  -- a repeated PreAccept is answered with the stored dependencies, though copy 1 has since seen its own write
+  pub repeated : onMessage 3 4 1 (put ownWrite 0 1 (onMessage 3 4 1 blanks (preAcceptTo 1) .entry)) (preAcceptTo 1) .message .deps ≡ noDeps
+  -- replies that agree with each other, and not with what was sent, do not commit
+  pub agreeing : onMessage 5 4 0 (put blanks 0 1 agreed) (ok 3 (deps3 0 1 0)) .entry .vote .status ≡ 2
