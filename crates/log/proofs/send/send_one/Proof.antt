@@ -1,0 +1,56 @@
+use mathlib.Core.Path.{_≡_, refl, sym, ap, _∙_}
+use mathlib.Core.List.{List}
+use Prim.Native.Nat.{ℕ, _+_, _-_, _≤_, _<_}
+use native.Mathlib.Omega.{arith}
+use borrow.Author.Tests.{not-true, not-false}
+use Rattle.num.specs.Num.{splice}
+use Rattle.paper.specs.declared.Message.{Message}
+use Rattle.wire.specs.Wire.{messageBytes}
+use borrow.Author.Needs.{needs}
+use Rattle.log.proofs.send.send_one.Statement.{statement}
+use Rattle.log.proofs.send.send_one.Tie as tie
+
+is-member-requires : tie.Need-is-member-requires
+is-member-requires c κs = search needs
+
+returns : tie.Need-returns
+returns c =
+    let e = sym (c .before .is-member .ensures) ∙ not-true _ (c .if1 .taken) in
+    (rw e, rw e)
+
+addressed-to-requires : tie.Need-addressed-to-requires
+addressed-to-requires c κs = search needs
+
+encode-requires : tie.Need-encode-requires
+encode-requires c κs = c .before .before .before .before .before .pre .fits (sym (c .before .before .before .is-member .ensures) ∙ not-false _ (c .before .before .if1 .left)) .1
+
+size-of-requires : tie.Need-size-of-requires
+size-of-requires c κs = search needs
+
+add-result : tie.Need-add-result
+add-result c =
+    let f = c .before .before .before .before .before .before .before .before .before .pre .fits (sym (c .before .before .before .before .before .before .before .is-member .ensures) ∙ not-false _ (c .before .before .before .before .before .before .if1 .left)) in
+    omega (arith, f .0, c .size-of .ensures)
+
+same-length : tie.Need-same-length
+same-length c = search needs
+
+returns-2 : tie.Need-returns-2
+returns-2 c =
+    let e = (sym (c .before .before .before .before .before .before .before .is-member .ensures) ∙ not-false _ (c .before .before .before .before .before .before .if1 .left)) in
+    let a = c .before .before .before .before .before .before .before .before .before .args in
+    let w = c .before .before .before .encode .ensures ∙ ap (λ (x : Message). splice (a .out .now) (a .at) (messageBytes x)) (c .before .before .before .before .addressed-to .ensures) in
+    (rw (e, ← c .size-of .ensures), rw e w)
+
+pub send-one-spec : {M : Type 1} → statement M
+send-one-spec =
+    tie.close
+    (tie.spec
+    is-member-requires
+    returns
+    addressed-to-requires
+    encode-requires
+    size-of-requires
+    add-result
+    same-length
+    returns-2)
