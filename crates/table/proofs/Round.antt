@@ -121,7 +121,7 @@ getD-past [] i h = refl
 getD-past (x ∷ l) zero h = absurd (omega arith)
 getD-past (x ∷ l) (suc i) h = getD-past l i (omega arith)
 
-part-bytes : (t : List ℕ) (at : ℕ) → ((i : ℕ) → getD t i 0 < 256) → (i : ℕ) → getD (partAt t at) i 0 < 256
+pub part-bytes : (t : List ℕ) (at : ℕ) → ((i : ℕ) → getD t i 0 < 256) → (i : ℕ) → getD (partAt t at) i 0 < 256
 part-bytes t at b i =
     ⊎-elim
     (λ (h : 263 ≤ i). rw (getD-past (partAt t at) i (simp length-take (omega arith))) (omega arith))

@@ -1,0 +1,182 @@
+-- From a sound table's bytes to the records that the rules keep sound, and from what they send to the room. Assumes nothing.
+use mathlib.Core.Path.{_≡_, refl, sym, ap, _∙_}
+use mathlib.Core.Bool.{Bool, true, false}
+use mathlib.Core.List.{List, [], _∷_, _++_}
+use Prim.Native.Nat.{ℕ, zero, suc, _+_, _*_, _^_, _≤_, _<_}
+use native.Mathlib.Omega.{arith}
+use native.Mathlib.Nat.{pow-succ'}
+use lib.Dec.{eqb}
+use lib.ListN.{length, getD, length-append}
+use borrow.Author.Tests.{ne-eqb}
+use Rattle.num.specs.Num.{numAt}
+use Rattle.num.specs.Fields.{fieldsAt}
+use Rattle.codec.specs.Parts.{depsWidths, voteAt}
+use Rattle.paper.specs.Deps.{noDeps}
+use Rattle.paper.specs.Setup.{setupOk}
+use Rattle.paper.specs.Message.{kindOf}
+use Rattle.paper.specs.Sound.{soundRecord}
+use Rattle.paper.specs.Vote.{member}
+use Rattle.paper.proofs.Laws.{and-true}
+use Rattle.paper.specs.declared.Message.{Message}
+use Rattle.record.specs.Layout.{votesAt, recordAt}
+use Rattle.record.specs.Part.{opsFit, soundPart}
+use Rattle.rules.specs.declared.Step.{Step}
+use Rattle.rules.specs.Events.{addressed, messagesFrom, messages}
+use Rattle.table.specs.Place.{placeOf, partAt}
+use Rattle.table.specs.Table.{fits, soundTable}
+use Rattle.table.proofs.Laws.{names}
+use Rattle.table.proofs.Round.{sound-at, part-bytes}
+use Rattle.wire.specs.Wire.{isProposal, lengthOf, restWidths, bodyOf, depsOf, bodyAt, besideAt, kindAt, messageAt, messageBytes}
+use Rattle.wire.proofs.Laws.{length-messageBytes, Framed}
+use Rattle.seen.specs.Records.{recordsIn}
+use Rattle.closed.specs.Fits.{DepsFit, VoteFits, VotesFit, RecordFits, BodyFits, MessageFits}
+use Rattle.closed.specs.Held.{Sent, SoundRecords}
+use Rattle.closed.proofs.Closed.{room}
+use Rattle.log.specs.Out.{allBytes, outBytes}
+
+-- bytes
+abbrev pub Bytes : List ℕ → Type 0
+Bytes b = (i : ℕ) → getD b i 0 < 256
+
+-- a number of w bytes is below 256 ^ w
+numAt-small : (w : ℕ) (b : List ℕ) (at : ℕ) → Bytes b → numAt w b at < 256 ^ w
+numAt-small zero b at h = omega arith
+numAt-small (suc w) b at h =
+    let x = h at in
+    let y = numAt-small w b (at + 1) h in
+    rw (pow-succ' 256 w) (omega arith)
+
+-- seven numbers that fit two bytes are dependencies that fit
+seven-fit : (a b c d e f g : ℕ) → a < 256 ^ 2 → b < 256 ^ 2 → c < 256 ^ 2 → d < 256 ^ 2 → e < 256 ^ 2 → f < 256 ^ 2 → g < 256 ^ 2
+    → DepsFit (a ∷ b ∷ c ∷ d ∷ e ∷ f ∷ g ∷ [])
+seven-fit a b c d e f g pa pb pc pd pe pf pg = record { seven = refl; each = at }
+  where
+    at : (i : ℕ) → getD (a ∷ b ∷ c ∷ d ∷ e ∷ f ∷ g ∷ []) i 0 < 256 ^ 2
+    at zero = pa
+    at (suc zero) = pb
+    at (suc (suc zero)) = pc
+    at (suc (suc (suc zero))) = pd
+    at (suc (suc (suc (suc zero)))) = pe
+    at (suc (suc (suc (suc (suc zero))))) = pf
+    at (suc (suc (suc (suc (suc (suc zero)))))) = pg
+    at (suc (suc (suc (suc (suc (suc (suc i))))))) = omega arith
+
+voteAt-fits : (b : List ℕ) (at : ℕ) → Bytes b → VoteFits (voteAt b at)
+unfolding voteAt
+voteAt-fits b at h =
+    let n : (w i : ℕ) → numAt w b i < 256 ^ w = λ w i. numAt-small w b i h in
+    record {
+      voted = n 4 _;
+      status = omega (arith, n 1 (at + 4));
+      command = record { key = n 4 _; edit = n 8 _ };
+      deps = seven-fit _ _ _ _ _ _ _ (n 2 _) (n 2 _) (n 2 _) (n 2 _) (n 2 _) (n 2 _) (n 2 _);
+    }
+
+votesAt-fit : (k : ℕ) (b : List ℕ) (at : ℕ) → Bytes b → VotesFit (votesAt k b at)
+unfolding votesAt
+votesAt-fit zero b at h = tt
+votesAt-fit (suc k) b at h = (voteAt-fits b at h, votesAt-fit k b (at + 32) h)
+
+pub recordAt-fits : (b : List ℕ) → Bytes b → RecordFits (recordAt b)
+unfolding recordAt votesAt
+recordAt-fits b h =
+    let n : (w i : ℕ) → numAt w b i < 256 ^ w = λ w i. numAt-small w b i h in
+    record {
+      joined = n 4 0;
+      vote = voteAt-fits b 4 h;
+      mark = omega (arith, n 1 36);
+      phase = omega (arith, n 1 37);
+      set = omega (arith, n 1 38);
+      seven = refl;
+      replies = votesAt-fit 7 b 39 h;
+    }
+
+-- a sound table's records are sound and fit
+pub sound-records : (n s c : ℕ) (t : List ℕ) → Bytes t → fits n s c t ≡ true → soundTable n s c t ≡ true → SoundRecords n s c (recordsIn s t)
+unfolding soundPart
+sound-records n s c t b f h o j i =
+    let p = sound-at n s c t h o j (names n s c t o j f i) in
+    record {
+      sound = and-true (opsFit (partAt t (placeOf s o j))) (soundRecord n s c o (recordAt (partAt t (placeOf s o j)))) p .1;
+      fits = recordAt-fits (partAt t (placeOf s o j)) (part-bytes t (placeOf s o j) b);
+    }
+
+-- a known kind's body, and the dependencies beside it, fit
+body-fits : (k : ℕ) (b : List ℕ) → Bytes b → 1 ≤ k → k ≤ 8 → BodyFits (bodyAt k b)
+unfolding bodyOf restWidths
+body-fits zero b h l u = absurd (omega arith)
+body-fits (suc zero) b h l u = record { key = numAt-small 4 b 11 h; edit = numAt-small 8 b 15 h }
+body-fits (suc (suc zero)) b h l u = tt
+body-fits (suc (suc (suc zero))) b h l u = record { key = numAt-small 4 b 11 h; edit = numAt-small 8 b 15 h }
+body-fits (suc (suc (suc (suc zero)))) b h l u = tt
+body-fits (suc (suc (suc (suc (suc zero))))) b h l u = record { key = numAt-small 4 b 11 h; edit = numAt-small 8 b 15 h }
+body-fits (suc (suc (suc (suc (suc (suc zero)))))) b h l u = tt
+body-fits (suc (suc (suc (suc (suc (suc (suc zero))))))) b h l u =
+    (numAt-small 4 b 10 h, omega (arith, numAt-small 1 b 14 h), record { key = numAt-small 4 b 16 h; edit = numAt-small 8 b 20 h })
+body-fits (suc (suc (suc (suc (suc (suc (suc (suc zero)))))))) b h l u = numAt-small 4 b 10 h
+body-fits (suc (suc (suc (suc (suc (suc (suc (suc (suc k))))))))) b h l u = absurd (omega arith)
+
+deps-from : (b : List ℕ) (at : ℕ) → Bytes b → DepsFit (fieldsAt depsWidths b at)
+deps-from b at h =
+    let n : (i : ℕ) → numAt 2 b i < 256 ^ 2 = λ i. numAt-small 2 b i h in
+    seven-fit _ _ _ _ _ _ _ (n _) (n _) (n _) (n _) (n _) (n _) (n _)
+
+no-deps-fit : DepsFit noDeps
+no-deps-fit = seven-fit 0 0 0 0 0 0 0 (omega arith) (omega arith) (omega arith) (omega arith) (omega arith) (omega arith) (omega arith)
+
+beside-fits : (k : ℕ) (b : List ℕ) → Bytes b → 1 ≤ k → k ≤ 8 → DepsFit (besideAt k b)
+unfolding depsOf restWidths
+beside-fits zero b h l u = absurd (omega arith)
+beside-fits (suc zero) b h l u = deps-from b 23 h
+beside-fits (suc (suc zero)) b h l u = deps-from b 10 h
+beside-fits (suc (suc (suc zero))) b h l u = deps-from b 23 h
+beside-fits (suc (suc (suc (suc zero)))) b h l u = no-deps-fit
+beside-fits (suc (suc (suc (suc (suc zero))))) b h l u = deps-from b 23 h
+beside-fits (suc (suc (suc (suc (suc (suc zero)))))) b h l u = no-deps-fit
+beside-fits (suc (suc (suc (suc (suc (suc (suc zero))))))) b h l u = deps-from b 28 h
+beside-fits (suc (suc (suc (suc (suc (suc (suc (suc zero)))))))) b h l u = no-deps-fit
+beside-fits (suc (suc (suc (suc (suc (suc (suc (suc (suc k))))))))) b h l u = absurd (omega arith)
+
+-- a message that was read fits its fields
+pub messageAt-fits : (b : List ℕ) → Bytes b → Framed b → MessageFits (messageAt b)
+unfolding messageAt
+messageAt-fits b h f =
+    let n : (w i : ℕ) → numAt w b i < 256 ^ w = λ w i. numAt-small w b i h in
+    record {
+      from = omega (arith, n 1 1);
+      to = omega (arith, n 1 2);
+      owner = omega (arith, n 1 3);
+      number = n 2 4;
+      ballot = n 4 6;
+      body = body-fits (kindAt b) b h (f .known) (f .small);
+      deps = beside-fits (kindAt b) b h (f .known) (f .small);
+    }
+
+-- all messages of a set are of one length
+all-long : (k q to : ℕ) (m : Message) → length (allBytes (messagesFrom k q to m)) ≡ length (messagesFrom k q to m) * lengthOf (kindOf (m .body))
+unfolding messagesFrom allBytes
+all-long zero q to m = omega arith
+all-long (suc k) q to m = go (member q to) refl (all-long k (q + 1) to m)
+  where
+    go : (b : Bool) → member q to ≡ b → length (allBytes (messagesFrom k (q + 1) to m)) ≡ length (messagesFrom k (q + 1) to m) * lengthOf (kindOf (m .body))
+        → length (allBytes (messagesFrom (suc k) q to m)) ≡ length (messagesFrom (suc k) q to m) * lengthOf (kindOf (m .body))
+    go true e h =
+        rw e (length-append (messageBytes (addressed m q)) (allBytes (messagesFrom k (q + 1) to m)) ∙ rw (length-messageBytes (addressed m q), h) (sym (native.Mathlib.Nat.suc-mul _ _ ∙ native.Mathlib.Nat.add-comm _ _)))
+    go false e h = rw e h
+
+kind-long : (k : ℕ) → (k ≡ 7 → ⊥) → lengthOf k ≤ 37
+unfolding lengthOf restWidths
+kind-long k h = go (isProposal k) (eqb k 2) (eqb k 8) refl refl refl
+  where
+    go : (a b c : Bool) → isProposal k ≡ a → eqb k 2 ≡ b → eqb k 8 ≡ c → lengthOf k ≤ 37
+    go true b c e f g = rw e (omega arith)
+    go false true c e f g = rw (e, f) (omega arith)
+    go false false true e f g = rw (e, f, ne-eqb k 7 h, g) (omega arith)
+    go false false false e f g = rw (e, f, ne-eqb k 7 h, g) (omega arith)
+
+-- what an event sends fits the room
+pub out-short : (n s c : ℕ) → setupOk n s c ≡ true → (x : Step) → Sent n s c x → length (outBytes x) ≤ 222
+unfolding lengthOf restWidths
+out-short n s c p x h =
+    let r = room n s c p lengthOf kind-long (omega arith) x h in
+    rw (all-long 7 0 (x .to) (x .message)) r
