@@ -1,3 +1,4 @@
 pub mod Worked
 pub mod Sent
 pub mod Held
+pub mod Calls

@@ -1,7 +1,8 @@
 -- The public calls for events: what each answers, and every lent byte after. Assumes nothing.
 -- n, s: the setup; c: this copy; t: the table's bytes; out: the room for outgoing bytes.
-use Prim.Native.Nat.{ℕ}
-use mathlib.Core.Bool.{Bool, _||_, not, cond}
+use Prim.Native.Nat.{ℕ, _≤_}
+use mathlib.Core.Path.{_≡_}
+use mathlib.Core.Bool.{Bool, true, _||_, not, cond}
 use mathlib.Core.List.{List}
 use lib.Dec.{ltb, eqb}
 use lib.ListN.{length}
@@ -24,6 +25,8 @@ use Rattle.table.specs.Table.{fits, soundTable, recordIn, putRecord}
 use Rattle.seen.specs.Records.{recordsIn}
 use Rattle.log.specs.declared.Answer.{Answer}
 use Rattle.log.specs.declared.Answer.the-variants.{Event, Refused}
+use Rattle.log.specs.declared.Gate.{Gate}
+use Rattle.log.specs.declared.Gate.the-variants.{Open, Shut}
 use Rattle.log.specs.Out.{outBytes}
 
 -- the answer, the table and the room after a call
@@ -43,43 +46,58 @@ acted s t out o j x =
     record
     { answer = Event o j (length (outBytes x)); table = putRecord s t o j (x .entry); out = splice out 0 (outBytes x) }
 
+-- 1, 11, then 2
+unfoldable pub gateOf : ℕ → ℕ → ℕ → List ℕ → ℕ → Gate
+gateOf n s c t room =
+    cond (not (fits n s c t)) (Shut why.Setup) (cond (not (soundTable n s c t)) (Shut why.Unsound) (cond (ltb room 256) (Shut why.Room) Open))
+
+abbrev pub through : Gate → List ℕ → List ℕ → Outcome → Outcome
+through Open t out rest = rest
+through (Shut r) t out rest = refuse r t out
+
 -- 1, 11, 2, then the rest
 unfoldable pub gated : ℕ → ℕ → ℕ → List ℕ → List ℕ → Outcome → Outcome
-gated n s c t out rest =
-    cond (not (fits n s c t)) (refuse why.Setup t out)
-    (cond (not (soundTable n s c t)) (refuse why.Unsound t out) (cond (ltb (length out) 256) (refuse why.Room t out) rest))
+gated n s c t out rest = through (gateOf n s c t (length out)) t out rest
 
--- 4, then 5
-unfoldable pub requested : ℕ → ℕ → ℕ → List ℕ → List ℕ → ℕ → ℕ → ℕ → Outcome
-requested n s c t out op key edit =
-    gated n s c t out
-    (cond (not (eqb op 1 || eqb op 2)) (refuse why.Op t out)
+-- Request: 4, then 5
+unfoldable pub requestOpen : ℕ → ℕ → ℕ → List ℕ → List ℕ → ℕ → ℕ → ℕ → Outcome
+requestOpen n s c t out op key edit =
+    cond (not (eqb op 1 || eqb op 2)) (refuse why.Op t out)
     (cond (ltb s (requestNumber s c (recordsIn s t))) (refuse why.Full t out)
     (acted s t out c (requestNumber s c (recordsIn s t))
-    (onRequest n s c (recordsIn s t) (record { op = opOf op; key = key; edit = edit })))))
+    (onRequest n s c (recordsIn s t) (record { op = opOf op; key = key; edit = edit }))))
 
--- 3, then 10
-unfoldable pub received : ℕ → ℕ → ℕ → List ℕ → List ℕ → List ℕ → Outcome
-received n s c t out b =
-    gated n s c t out
-    (cond (not (validBytes n s c b)) (refuse why.Message t out)
+abbrev pub requested : ℕ → ℕ → ℕ → List ℕ → List ℕ → ℕ → ℕ → ℕ → Outcome
+requested n s c t out op key edit = gated n s c t out (requestOpen n s c t out op key edit)
+
+-- a received message: 3, then 10
+unfoldable pub receiveOpen : ℕ → ℕ → ℕ → List ℕ → List ℕ → List ℕ → Outcome
+receiveOpen n s c t out b =
+    cond (not (validBytes n s c b)) (refuse why.Message t out)
     (cond (refused10 (recordIn s t (messageAt b .owner) (messageAt b .number)) (messageAt b)) (refuse why.Differs t out)
-    (acted s t out (messageAt b .owner) (messageAt b .number) (onMessage n s c (recordsIn s t) (messageAt b)))))
+    (acted s t out (messageAt b .owner) (messageAt b .number) (onMessage n s c (recordsIn s t) (messageAt b))))
 
--- 6, 8, then 7
-unfoldable pub recovered : ℕ → ℕ → ℕ → List ℕ → List ℕ → ℕ → ℕ → Outcome
-recovered n s c t out o j =
-    gated n s c t out
-    (cond (not (instanceOk n s o j)) (refuse why.Instance t out)
+abbrev pub received : ℕ → ℕ → ℕ → List ℕ → List ℕ → List ℕ → Outcome
+received n s c t out b = gated n s c t out (receiveOpen n s c t out b)
+
+-- Recover: 6, 8, then 7
+unfoldable pub recoverOpen : ℕ → ℕ → ℕ → List ℕ → List ℕ → ℕ → ℕ → Outcome
+recoverOpen n s c t out o j =
+    cond (not (instanceOk n s o j)) (refuse why.Instance t out)
     (cond (isCommitted (recordIn s t o j)) (refuse why.Committed t out)
-    (cond (outOfBallots (recordIn s t o j)) (refuse why.Ballots t out) (acted s t out o j (onRecover n c (recordsIn s t) o j)))))
+    (cond (outOfBallots (recordIn s t o j)) (refuse why.Ballots t out) (acted s t out o j (onRecover n c (recordsIn s t) o j))))
 
--- 6, then 9
-unfoldable pub nudged : ℕ → ℕ → ℕ → List ℕ → List ℕ → ℕ → ℕ → Outcome
-nudged n s c t out o j =
-    gated n s c t out
-    (cond (not (instanceOk n s o j)) (refuse why.Instance t out)
-    (cond (nothingToNudge (recordIn s t o j)) (refuse why.Idle t out) (acted s t out o j (onNudge n c (recordsIn s t) o j))))
+abbrev pub recovered : ℕ → ℕ → ℕ → List ℕ → List ℕ → ℕ → ℕ → Outcome
+recovered n s c t out o j = gated n s c t out (recoverOpen n s c t out o j)
+
+-- Nudge: 6, then 9
+unfoldable pub nudgeOpen : ℕ → ℕ → ℕ → List ℕ → List ℕ → ℕ → ℕ → Outcome
+nudgeOpen n s c t out o j =
+    cond (not (instanceOk n s o j)) (refuse why.Instance t out)
+    (cond (nothingToNudge (recordIn s t o j)) (refuse why.Idle t out) (acted s t out o j (onNudge n c (recordsIn s t) o j)))
+
+abbrev pub nudged : ℕ → ℕ → ℕ → List ℕ → List ℕ → ℕ → ℕ → Outcome
+nudged n s c t out o j = gated n s c t out (nudgeOpen n s c t out o j)
 
 -- the paper's number of an answer, 0 for an event, and its values
 abbrev pub answerNumber : Answer → ℕ
@@ -97,3 +115,9 @@ answerInstance (Refused r) = 0
 abbrev pub answerWritten : Answer → ℕ
 answerWritten (Event o j k) = k
 answerWritten (Refused r) = 0
+
+-- what a call past the gate rests on
+pub record Passed (n s c : ℕ) (t : List ℕ) (room : ℕ) : Type 0 where
+  pub setup : fits n s c t ≡ true
+  pub sound : soundTable n s c t ≡ true
+  pub long : 256 ≤ room

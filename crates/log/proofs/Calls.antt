@@ -1,0 +1,163 @@
+-- The outcomes of each call, one law each, and what its step needs. Assumes nothing.
+use mathlib.Core.Path.{_≡_, refl, sym, ap, _∙_}
+use mathlib.Core.Bool.{Bool, true, false, _&&_, _||_, not}
+use mathlib.Core.List.{List}
+use Prim.Native.Nat.{ℕ, _+_, _≤_, _<_}
+use native.Mathlib.Omega.{arith}
+use lib.Dec.{ltb, eqb}
+use lib.ListN.{length}
+use borrow.Author.Tests.{lt-ltb, le-ltb, le-leb, lt-leb, ltb-true, ltb-false, eqb-true}
+use Rattle.paper.specs.Setup.{setupOk, copiesOk, numbersOk, copyOk}
+use Rattle.paper.specs.Instance.{instanceOk}
+use Rattle.paper.proofs.Laws.{and-true}
+use Rattle.paper.specs.declared.Refusal.{Refusal}
+use Rattle.paper.specs.declared.Refusal.the-variants as why
+use Rattle.rules.specs.Step.{isCommitted}
+use Rattle.rules.specs.Recover.{outOfBallots, recover}
+use Rattle.rules.specs.Nudge.{nothingToNudge, nudge}
+use Rattle.rules.specs.Events.{onRecover, onNudge}
+use Rattle.num.specs.Num.{splice}
+use Rattle.record.specs.Layout.{recordAt, recordBytes}
+use Rattle.paper.specs.declared.Record.{Record}
+use Rattle.rules.specs.declared.Step.{Step}
+use Rattle.table.specs.Place.{placeOf, partAt}
+use Rattle.table.specs.Table.{fits, soundTable, recordIn}
+use Rattle.seen.specs.Records.{recordsIn}
+use Rattle.closed.proofs.Closed.{recover-event, nudge-event}
+use Rattle.log.specs.declared.Answer.{Answer}
+use Rattle.log.specs.declared.Answer.the-variants.{Event, Refused}
+use Rattle.log.specs.declared.Gate.{Gate}
+use Rattle.log.specs.declared.Gate.the-variants.{Open, Shut}
+use Rattle.log.specs.Out.{outBytes}
+use Rattle.log.specs.Events.{Outcome, refuse, acted, gateOf, gated, Passed, recoverOpen, nudgeOpen}
+use Rattle.log.proofs.Held.{Bytes, sound-records, out-short}
+
+-- the gate
+module _ (n s c : ℕ) (t : List ℕ) (room : ℕ) where
+  pub gate-1 : fits n s c t ≡ false → Shut why.Setup ≡ gateOf n s c t room
+  unfolding gateOf
+  gate-1 p = rw p
+
+  pub gate-11 : fits n s c t ≡ true → soundTable n s c t ≡ false → Shut why.Unsound ≡ gateOf n s c t room
+  unfolding gateOf
+  gate-11 p q = rw (p, q)
+
+  pub gate-2 : fits n s c t ≡ true → soundTable n s c t ≡ true → room < 256 → Shut why.Room ≡ gateOf n s c t room
+  unfolding gateOf
+  gate-2 p q r = rw (p, q, lt-ltb room 256 r)
+
+  pub gate-open : fits n s c t ≡ true → soundTable n s c t ≡ true → 256 ≤ room → Open ≡ gateOf n s c t room
+  unfolding gateOf
+  gate-open p q r = rw (p, q, le-ltb room 256 r)
+
+-- an open gate was passed
+clash : {A : Type 0} (r : Refusal) → Open ≡ Shut r → A
+clash r e = let z : _≡_ {A = ℕ} 0 1 = cc in absurd (omega arith)
+
+pub passed : (n s c : ℕ) (t : List ℕ) (room : ℕ) → Open ≡ gateOf n s c t room → Passed n s c t room
+passed n s c t room e = go (fits n s c t) (soundTable n s c t) (ltb room 256) refl refl refl
+  where
+    go : (a b d : Bool) → fits n s c t ≡ a → soundTable n s c t ≡ b → ltb room 256 ≡ d → Passed n s c t room
+    go true true false p q r = record { setup = p; sound = q; long = ltb-false room 256 r }
+    go true true true p q r = clash why.Room (e ∙ sym (gate-2 n s c t room p q (ltb-true room 256 r)))
+    go true false d p q r = clash why.Unsound (e ∙ sym (gate-11 n s c t room p q))
+    go false b d p q r = clash why.Setup (e ∙ sym (gate-1 n s c t room p))
+
+pub shut : (n s c : ℕ) (t out : List ℕ) (rest : Outcome) (r : Refusal) → Shut r ≡ gateOf n s c t (length out) → refuse r t out ≡ gated n s c t out rest
+unfolding gated
+shut n s c t out rest r e = rw (← e)
+
+pub opened : (n s c : ℕ) (t out : List ℕ) (rest : Outcome) → Open ≡ gateOf n s c t (length out) → rest ≡ gated n s c t out rest
+unfolding gated
+opened n s c t out rest e = rw (← e)
+
+-- the answer, the table and the room of an outcome
+abbrev pub Met : Outcome → Answer → List ℕ → List ℕ → Type 0
+Met x a t o = (a ≡ x .answer) × ((t ≡ x .table) × (o ≡ x .out))
+
+pub met : {x y : Outcome} → x ≡ y → {a : Answer} {t o : List ℕ} → Met x a t o → Met y a t o
+met e (p, q) = (p ∙ ap (λ (z : Outcome). z .answer) e, (q .0 ∙ ap (λ (z : Outcome). z .table) e, q .1 ∙ ap (λ (z : Outcome). z .out) e))
+
+pub refused : (r : Refusal) (t o : List ℕ) → Met (refuse r t o) (Refused r) t o
+refused r t o = (refl, (refl, refl))
+
+pub acted-is : (s : ℕ) (t out : List ℕ) (o j : ℕ) {x y : Step} {at : ℕ} {a : Answer} {t₁ o₁ : List ℕ} → x ≡ y → at ≡ placeOf s o j
+    → a ≡ Event o j (length (outBytes x)) → t₁ ≡ splice t at (recordBytes (x .entry)) → o₁ ≡ splice out 0 (outBytes x) → Met (acted s t out o j y) a t₁ o₁
+unfolding acted
+acted-is s t out o j {x} e p a b c = (
+  a ∙ ap (λ (z : Step). Event o j (length (outBytes z))) e,
+  (
+    b ∙ ap (λ (k : ℕ). splice t k (recordBytes (x .entry))) p ∙ ap (λ (z : Step). splice t (placeOf s o j) (recordBytes (z .entry))) e,
+    c ∙ ap (λ (z : Step). splice out 0 (outBytes z)) e,
+  ),
+)
+
+setup-of : (n s c : ℕ) (t : List ℕ) → fits n s c t ≡ true → setupOk n s c ≡ true
+unfolding fits
+setup-of n s c t h = and-true (setupOk n s c) _ h .0
+
+-- Recover
+module _ (n s c : ℕ) (t out : List ℕ) (o j : ℕ) where
+  pub recover-6 : instanceOk n s o j ≡ false → refuse why.Instance t out ≡ recoverOpen n s c t out o j
+  unfolding recoverOpen
+  recover-6 p = rw p
+
+  pub recover-8 : instanceOk n s o j ≡ true → isCommitted (recordIn s t o j) ≡ true → refuse why.Committed t out ≡ recoverOpen n s c t out o j
+  unfolding recoverOpen
+  recover-8 p q = rw (p, q)
+
+  pub recover-7 : instanceOk n s o j ≡ true → isCommitted (recordIn s t o j) ≡ false → outOfBallots (recordIn s t o j) ≡ true
+      → refuse why.Ballots t out ≡ recoverOpen n s c t out o j
+  unfolding recoverOpen
+  recover-7 p q r = rw (p, q, r)
+
+  pub recover-ok : instanceOk n s o j ≡ true → isCommitted (recordIn s t o j) ≡ false → outOfBallots (recordIn s t o j) ≡ false
+      → acted s t out o j (onRecover n c (recordsIn s t) o j) ≡ recoverOpen n s c t out o j
+  unfolding recoverOpen
+  recover-ok p q r = rw (p, q, r)
+
+  pub recover-room : Bytes t → Passed n s c t (length out) → instanceOk n s o j ≡ true → isCommitted (recordIn s t o j) ≡ false
+      → outOfBallots (recordIn s t o j) ≡ false → length (outBytes (onRecover n c (recordsIn s t) o j)) ≤ 222
+  recover-room b p i k l =
+      let setup = setup-of n s c t (p .setup) in
+      out-short n s c setup _ (recover-event n s c setup (recordsIn s t) (sound-records n s c t b (p .setup) (p .sound)) o j i k l .sent)
+
+  pub nudge-6 : instanceOk n s o j ≡ false → refuse why.Instance t out ≡ nudgeOpen n s c t out o j
+  unfolding nudgeOpen
+  nudge-6 p = rw p
+
+  pub nudge-9 : instanceOk n s o j ≡ true → nothingToNudge (recordIn s t o j) ≡ true → refuse why.Idle t out ≡ nudgeOpen n s c t out o j
+  unfolding nudgeOpen
+  nudge-9 p q = rw (p, q)
+
+  pub nudge-ok : instanceOk n s o j ≡ true → nothingToNudge (recordIn s t o j) ≡ false
+      → acted s t out o j (onNudge n c (recordsIn s t) o j) ≡ nudgeOpen n s c t out o j
+  unfolding nudgeOpen
+  nudge-ok p q = rw (p, q)
+
+  pub nudge-room : Bytes t → Passed n s c t (length out) → instanceOk n s o j ≡ true → nothingToNudge (recordIn s t o j) ≡ false
+      → length (outBytes (onNudge n c (recordsIn s t) o j)) ≤ 222
+  nudge-room b p i k =
+      let setup = setup-of n s c t (p .setup) in
+      out-short n s c setup _ (nudge-event n s c setup (recordsIn s t) (sound-records n s c t b (p .setup) (p .sound)) o j i k .sent)
+
+  -- the step that was taken is the rule's
+  pub recover-step : {bc bo bj at : ℕ} {r : Record} {x : Step} → bc ≡ c → bo ≡ o → bj ≡ j → at ≡ placeOf s o j → r ≡ recordAt (partAt t at)
+      → x ≡ recover n bc bo bj r → x ≡ onRecover n c (recordsIn s t) o j
+  unfolding onRecover
+  recover-step ec eo ej ea er ex = rw (ex, er, ea, ec, eo, ej)
+
+  pub nudge-step : {bc bo bj at : ℕ} {r : Record} {x : Step} → bc ≡ c → bo ≡ o → bj ≡ j → at ≡ placeOf s o j → r ≡ recordAt (partAt t at)
+      → x ≡ nudge n bc bo bj r → x ≡ onNudge n c (recordsIn s t) o j
+  unfolding onNudge
+  nudge-step ec eo ej ea er ex = rw (ex, er, ea, ec, eo, ej)
+
+-- a setup has three copies or more
+pub three : (n s c : ℕ) (t : List ℕ) → fits n s c t ≡ true → 3 ≤ n
+unfolding setupOk
+three n s c t h = go (eqb n 3) (eqb n 5) refl refl (and-true (copiesOk n) (numbersOk s) (and-true (copiesOk n && numbersOk s) (copyOk n c) (setup-of n s c t h) .0) .0)
+  where
+    go : (a b : Bool) → eqb n 3 ≡ a → eqb n 5 ≡ b → (a || b || eqb n 7) ≡ true → 3 ≤ n
+    go true b e f k = omega (arith, eqb-true n 3 e)
+    go false true e f k = omega (arith, eqb-true n 5 f)
+    go false false e f k = omega (arith, eqb-true n 7 k)

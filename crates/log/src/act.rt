@@ -1,0 +1,42 @@
+// What every event does last: its record is put, its messages are written.
+use crate::Answer;
+use crate::send::send_all;
+use rules::Step;
+use table::store;
+ghost use mathlib.Core.Path.{_≡_};
+ghost use Prim.Native.Nat.{_+_, _≤_, _<_};
+ghost use lib.ListN.{length};
+ghost use Rattle.num.specs.Num.{splice};
+ghost use Rattle.record.specs.Layout.{recordBytes};
+ghost use Rattle.log.specs.Out.{outBytes};
+
+pub fn byte(x: usize) -> u8
+    requires { ⌜ x < 256 ⌝ }
+    ensures { λ r. ⌜ r ≡ x ⌝ }
+{
+    x as u8
+}
+
+pub fn short(x: usize) -> u16
+    requires { ⌜ x < 65_536 ⌝ }
+    ensures { λ r. ⌜ r ≡ x ⌝ }
+{
+    x as u16
+}
+
+pub fn act(t: &mut [u8], out: &mut [u8], at: usize, o: usize, j: usize, x: Step) -> Answer
+    requires { ⌜ (at + 263 ≤ length (now t)) × (256 ≤ length (now out)) × (length (outBytes x) ≤ 222) ⌝ }
+    ensures answers { λ r. ⌜ r ≡ Answer.Event o j (length (outBytes x)) ⌝ }
+    ensures table { λ _. ⌜ now (t .exit) ≡ splice (now (t .entry)) at (recordBytes (x .entry)) ⌝ }
+    ensures room { λ _. ⌜ now (out .exit) ≡ splice (now (out .entry)) 0 (outBytes x) ⌝ }
+{
+    let entry = x.entry;
+    let message = x.message;
+    store(t, at, entry);
+    let written = send_all(out, x.to, message);
+    Answer::Event {
+        owner: o,
+        number: j,
+        written,
+    }
+}

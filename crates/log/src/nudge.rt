@@ -1,0 +1,66 @@
+// "Nudge I", as a public call.
+use crate::Answer;
+use crate::Gate;
+use crate::act::act;
+use crate::act::byte;
+use crate::act::short;
+use crate::entrance::gate_of;
+use nouns::logic::both;
+use nouns::logic::equal;
+use nouns::logic::wide8;
+use nouns::setup::instance_ok;
+use paper::Refusal;
+use step::made::is_committed;
+use step::nudge::on_nudge;
+use table::load;
+use table::place_of;
+ghost use mathlib.Core.Path.{_≡_};
+ghost use lib.ListN.{length};
+ghost use Rattle.log.specs.Events.{Passed, nudgeOpen, nudged};
+
+// Past the gate.
+fn nudge_open(
+    t: &mut [u8],
+    out: &mut [u8],
+    n: usize,
+    s: usize,
+    c: usize,
+    o: usize,
+    j: usize,
+) -> Answer
+    requires { ⌜ Passed n s c (now t) (length (now out)) ⌝ }
+    ensures answers { λ r. ⌜ r ≡ nudgeOpen n s c (now (t .entry)) (now (out .entry)) o j .answer ⌝ }
+    ensures table { λ _. ⌜ now (t .exit) ≡ nudgeOpen n s c (now (t .entry)) (now (out .entry)) o j .table ⌝ }
+    ensures room { λ _. ⌜ now (out .exit) ≡ nudgeOpen n s c (now (t .entry)) (now (out .entry)) o j .out ⌝ }
+{
+    if !instance_ok(n, s, o, j) {
+        return Answer::Refused(Refusal::Instance);
+    }
+    let at = place_of(n, s, o, j);
+    let r = load(&*t, at);
+    if both(!is_committed(r), equal(wide8(r.phase), 0)) {
+        return Answer::Refused(Refusal::Idle);
+    }
+    let x = on_nudge(n, byte(c), byte(o), short(j), r);
+    act(t, out, at, o, j, x)
+}
+
+pub fn nudge(
+    t: &mut [u8],
+    n: usize,
+    s: usize,
+    c: usize,
+    out: &mut [u8],
+    o: usize,
+    j: usize,
+) -> Answer
+    ensures answers { λ r. ⌜ r ≡ nudged n s c (now (t .entry)) (now (out .entry)) o j .answer ⌝ }
+    ensures table { λ _. ⌜ now (t .exit) ≡ nudged n s c (now (t .entry)) (now (out .entry)) o j .table ⌝ }
+    ensures room { λ _. ⌜ now (out .exit) ≡ nudged n s c (now (t .entry)) (now (out .entry)) o j .out ⌝ }
+{
+    let gate = gate_of(&*t, n, s, c, out.len());
+    if let Gate::Shut(why) = gate {
+        return Answer::Refused(why);
+    }
+    nudge_open(t, out, n, s, c, o, j)
+}
