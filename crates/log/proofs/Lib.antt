@@ -2,3 +2,4 @@ pub mod Worked
 pub mod Sent
 pub mod Held
 pub mod Calls
+pub mod Unique
