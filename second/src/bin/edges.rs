@@ -221,12 +221,8 @@ fn valid(n: usize, c: usize, kind: u8, r: u32) -> Message {
     m
 }
 
-/// Both sides of each bound of a ballot, and each lead. Ballots do not depend
-/// on S, so only a few are tried beside S = 64, to keep the text short.
-fn ballots(n: usize, s: usize) -> Vec<u32> {
-    if s > 1 {
-        return few_ballots(n).to_vec();
-    }
+/// Ballots at both sides of each bound.
+fn ballots(n: usize) -> Vec<u32> {
     let n = n as u32;
     let mut all = vec![0, 1, 7, 8 + n - 1, 8 + n, 15, 16, u32::MAX];
     all.extend(8..8 + n);
@@ -248,7 +244,7 @@ fn names_changed(n: usize, s: usize, m: Message) -> Vec<Message> {
     all.extend(copies().map(|owner| Message { owner, ..m }));
     let numbers = [0, 1, s as u16, s as u16 + 1, 256, 257, u16::MAX];
     all.extend(numbers.map(|number| Message { number, ..m }));
-    all.extend(ballots(n, s).into_iter().map(|ballot| Message { ballot, ..m }));
+    all.extend(ballots(n).into_iter().map(|ballot| Message { ballot, ..m }));
     all
 }
 
@@ -293,13 +289,13 @@ fn rest_changed(n: usize, s: usize, m: Message) -> Vec<Message> {
     let mut all = Vec::new();
     if m.kind == 7 {
         let near = [m.ballot - 1, m.ballot, m.ballot + 1, m.ballot + 8];
-        all.extend(ballots(n, s).into_iter().chain(near).map(|voted| Message { voted, ..m }));
+        all.extend(ballots(n).into_iter().chain(near).map(|voted| Message { voted, ..m }));
         all.extend([0, 1, 2, 3, 4, 255].map(|status| Message { status, ..m }));
         all.extend(told_nothing(m));
     }
     if m.kind == 8 {
         let near = [m.ballot.saturating_sub(8), m.ballot, m.ballot + 1, m.ballot + 8];
-        all.extend(ballots(n, s).into_iter().chain(near).map(|joined| Message { joined, ..m }));
+        all.extend(ballots(n).into_iter().chain(near).map(|joined| Message { joined, ..m }));
     }
     all
 }
@@ -833,14 +829,14 @@ fn edges() -> Script {
                     judged(&mut script, c, &few_cases(n, s, c));
                 }
             }
+            lengths(&mut script, 1);
+            kinds(&mut script, n - 1);
             every_place(&mut script, 0);
             if s == 1 {
                 every_byte(&mut script, 1);
             }
         }
     }
-    lengths(&mut script, 1);
-    kinds(&mut script, 2);
     script
 }
 
