@@ -1,0 +1,16 @@
+// The settled question and the hand-out, as public calls.
+use paper::Command;
+use paper::Refusal;
+
+// What the settled question answers: the command, or the uncommitted instance that comes first.
+pub enum Settling {
+    Settled(Command),
+    Waits { owner: usize, number: usize },
+    Refused(Refusal),
+}
+
+// How many codes a hand-out listed.
+pub enum Handing {
+    Codes(usize),
+    Refused(Refusal),
+}
