@@ -92,7 +92,7 @@ acted-is s t out o j {x} e p a b c = (
   ),
 )
 
-setup-of : (n s c : ℕ) (t : List ℕ) → fits n s c t ≡ true → setupOk n s c ≡ true
+pub setup-of : (n s c : ℕ) (t : List ℕ) → fits n s c t ≡ true → setupOk n s c ≡ true
 unfolding fits
 setup-of n s c t h = and-true (setupOk n s c) _ h .0
 

@@ -1,0 +1,40 @@
+use borrow.Author.Needs.{needs}
+use Rattle.receive.proofs.by_kind.is_refused10.Statement.{statement}
+use Rattle.receive.proofs.by_kind.is_refused10.Tie as tie
+use mathlib.Core.Path.{_≡_, _∙_}
+use mathlib.Core.Bool.{_&&_}
+use lib.Dec.{eqb}
+use Rattle.receive.proofs.Laws.{conflict-is}
+
+kind-of-requires : tie.Need-kind-of-requires
+kind-of-requires c κs = search needs
+
+wide8-requires : tie.Need-wide8-requires
+wide8-requires c κs = search needs
+
+equal-requires : tie.Need-equal-requires
+equal-requires c κs = search needs
+
+command-in-requires : tie.Need-command-in-requires
+command-in-requires c κs = search needs
+
+commit-differs-requires : tie.Need-commit-differs-requires
+commit-differs-requires c κs = search needs
+
+both-requires : tie.Need-both-requires
+both-requires c κs = search needs
+
+returns : tie.Need-returns
+returns c = (cc) ∙ conflict-is _ _ _
+
+pub is-refused10-spec : {M : Type 1} → statement M
+is-refused10-spec =
+    tie.close
+    (tie.spec
+    kind-of-requires
+    wide8-requires
+    equal-requires
+    command-in-requires
+    commit-differs-requires
+    both-requires
+    returns)

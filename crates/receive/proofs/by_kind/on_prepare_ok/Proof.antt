@@ -1,0 +1,41 @@
+use borrow.Author.Needs.{needs}
+use Rattle.receive.proofs.by_kind.on_prepare_ok.Statement.{statement}
+use Rattle.receive.proofs.by_kind.on_prepare_ok.Tie as tie
+use mathlib.Core.Path.{_≡_, refl, sym, ap, ap₂, _∙_}
+use Prim.Native.Nat.{ℕ, _+_, _≤_, _<_}
+use native.Mathlib.Omega.{arith}
+use borrow.Author.Tests.{not-true, not-false}
+use Rattle.receive.proofs.Laws.{unawaited, awaits}
+
+is-awaited-requires : tie.Need-is-awaited-requires
+is-awaited-requires c κs = search needs
+
+silently-requires : tie.Need-silently-requires
+silently-requires c κs = search needs
+
+returns : tie.Need-returns
+returns c = c .silently .ensures ∙ unawaited _ _ _ _ _ _ _ (sym (c .before .before .is-awaited .ensures) ∙ not-true _ (c .before .if1 .taken))
+
+told-requires : tie.Need-told-requires
+told-requires c κs = search needs
+
+collected-requires : tie.Need-collected-requires
+collected-requires c κs = search needs
+
+prepared-by-requires : tie.Need-prepared-by-requires
+prepared-by-requires c κs = search needs
+
+returns-2 : tie.Need-returns-2
+returns-2 c = c .prepared-by .ensures ∙ awaits _ _ _ _ _ _ _ (c .before .before .told .ensures) (c .before .collected .ensures) (sym (c .before .before .before .before .is-awaited .ensures) ∙ not-false _ (c .before .before .before .if1 .left))
+
+pub on-prepare-ok-spec : {M : Type 1} → statement M
+on-prepare-ok-spec =
+    tie.close
+    (tie.spec
+    is-awaited-requires
+    silently-requires
+    returns
+    told-requires
+    collected-requires
+    prepared-by-requires
+    returns-2)

@@ -1,0 +1,23 @@
+use borrow.Author.Needs.{needs}
+use Rattle.receive.proofs.by_kind.on_proposal.Statement.{statement}
+use Rattle.receive.proofs.by_kind.on_proposal.Tie as tie
+use mathlib.Core.Path.{_≡_, refl, sym, ap, ap₂, _∙_}
+use Prim.Native.Nat.{ℕ, _+_, _≤_, _<_}
+use native.Mathlib.Omega.{arith}
+use borrow.Author.Tests.{not-true, not-false}
+
+seen-for-requires : tie.Need-seen-for-requires
+seen-for-requires c κs = search needs
+
+byte-requires : tie.Need-byte-requires
+byte-requires c κs = search needs
+
+on-pre-accept-requires : tie.Need-on-pre-accept-requires
+on-pre-accept-requires c κs = search needs
+
+returns : tie.Need-returns
+returns c = cc
+
+pub on-proposal-spec : {M : Type 1} → statement M
+on-proposal-spec =
+    tie.close (tie.spec seen-for-requires byte-requires on-pre-accept-requires returns)

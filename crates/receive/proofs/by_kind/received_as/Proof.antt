@@ -1,0 +1,121 @@
+use borrow.Author.Needs.{needs}
+use Rattle.receive.proofs.by_kind.received_as.Statement.{statement}
+use Rattle.receive.proofs.by_kind.received_as.Tie as tie
+use mathlib.Core.Path.{_≡_, refl, sym, ap, ap₂, _∙_}
+use Prim.Native.Nat.{ℕ, _+_, _≤_, _<_}
+use native.Mathlib.Omega.{arith}
+use borrow.Author.Tests.{not-true, not-false}
+use Rattle.rules.specs.Received.{byKind}
+
+byte-requires : tie.Need-byte-requires
+byte-requires c κs = search needs
+
+enum-known-body : tie.Need-enum-known-body
+enum-known-body c = search needs
+
+on-proposal-requires : tie.Need-on-proposal-requires
+on-proposal-requires c κs = search needs
+
+enum-told : tie.Need-enum-told
+enum-told c = search needs
+
+on-pre-accept-ok-requires : tie.Need-on-pre-accept-ok-requires
+on-pre-accept-ok-requires c κs = search needs
+
+enum-known-body-2 : tie.Need-enum-known-body-2
+enum-known-body-2 c = search needs
+
+on-accept-requires : tie.Need-on-accept-requires
+on-accept-requires c κs = search needs
+
+enum-told-2 : tie.Need-enum-told-2
+enum-told-2 c = search needs
+
+on-accept-ok-requires : tie.Need-on-accept-ok-requires
+on-accept-ok-requires c κs = search needs
+
+enum-known-body-3 : tie.Need-enum-known-body-3
+enum-known-body-3 c = search needs
+
+on-commit-requires : tie.Need-on-commit-requires
+on-commit-requires c κs = search needs
+
+enum-told-3 : tie.Need-enum-told-3
+enum-told-3 c = search needs
+
+on-prepare-requires : tie.Need-on-prepare-requires
+on-prepare-requires c κs = search needs
+
+enum-told-4 : tie.Need-enum-told-4
+enum-told-4 c = search needs
+
+on-prepare-ok-requires : tie.Need-on-prepare-ok-requires
+on-prepare-ok-requires c κs = search needs
+
+enum-known-body-4 : tie.Need-enum-known-body-4
+enum-known-body-4 c = search needs
+
+on-nack-requires : tie.Need-on-nack-requires
+on-nack-requires c κs = search needs
+
+returns : tie.Need-returns
+unfolding byKind
+returns c = c .on-proposal .ensures ∙ rw (c .before .before .body .given .1)
+
+returns-2 : tie.Need-returns-2
+unfolding byKind
+returns-2 c = c .on-pre-accept-ok .ensures ∙ rw (c .before .before .before .byte .ensures, c .before .enum-told .given .1)
+
+returns-3 : tie.Need-returns-3
+unfolding byKind
+returns-3 c = c .on-accept .ensures ∙ rw (c .before .before .before .before .byte .ensures, c .before .before .body2 .given .1)
+
+returns-4 : tie.Need-returns-4
+unfolding byKind
+returns-4 c = c .on-accept-ok .ensures ∙ rw (c .before .before .before .byte .ensures, c .before .enum-told2 .given .1)
+
+returns-5 : tie.Need-returns-5
+unfolding byKind
+returns-5 c = c .on-commit .ensures ∙ rw (c .before .before .body3 .given .1)
+
+returns-6 : tie.Need-returns-6
+unfolding byKind
+returns-6 c = c .on-prepare .ensures ∙ rw (c .before .before .before .byte .ensures, c .before .enum-told3 .given .1)
+
+returns-7 : tie.Need-returns-7
+unfolding byKind
+returns-7 c = c .on-prepare-ok .ensures ∙ rw (c .before .enum-told4 .given .1)
+
+returns-8 : tie.Need-returns-8
+unfolding byKind
+returns-8 c = c .on-nack .ensures ∙ rw (c .before .before .body4 .given .1)
+
+pub received-as-spec : {M : Type 1} → statement M
+received-as-spec =
+    tie.close
+    (tie.spec
+    byte-requires
+    enum-known-body
+    on-proposal-requires
+    enum-told
+    on-pre-accept-ok-requires
+    enum-known-body-2
+    on-accept-requires
+    enum-told-2
+    on-accept-ok-requires
+    enum-known-body-3
+    on-commit-requires
+    enum-told-3
+    on-prepare-requires
+    enum-told-4
+    on-prepare-ok-requires
+    enum-known-body-4
+    on-nack-requires
+    returns
+    returns-2
+    returns-3
+    returns-4
+    returns-5
+    returns-6
+    returns-7
+    returns-8)

@@ -1,0 +1,137 @@
+// What a valid message does to its instance's record, by its kind.
+use decide::afresh_command;
+use decide::decide_on;
+use decide::has_quorum;
+use log::act::byte;
+use nouns::logic::both;
+use nouns::logic::equal;
+use nouns::logic::wide16;
+use nouns::logic::wide8;
+use nouns::message::command_in;
+use nouns::message::kind_of;
+use nouns::message::status_in;
+use nouns::message::voted_in;
+use paper::Body;
+use paper::Command;
+use paper::Message;
+use paper::Record;
+use paper::Vote;
+use rules::Step;
+use seen::seen_of;
+use step::accept::on_accept;
+use step::accept_ok::on_accept_ok;
+use step::commit::commit_differs;
+use step::commit::on_commit;
+use step::made::collected;
+use step::made::is_awaited;
+use step::made::silently;
+use step::nack::on_nack;
+use step::pre_accept::on_pre_accept;
+use step::pre_accept_ok::on_pre_accept_ok;
+use step::prepare::on_prepare;
+ghost use mathlib.Core.Path.{_≡_};
+ghost use Prim.Native.Nat.{_<_, _≤_};
+ghost use Rattle.paper.specs.Message.{voteIn};
+ghost use Rattle.rules.specs.PreAccept.{preAccept};
+ghost use Rattle.rules.specs.PrepareOk.{onPrepareOk, preparedBy};
+ghost use Rattle.rules.specs.Received.{received, refused10};
+ghost use Rattle.rules.specs.Seen.{seen};
+ghost use Rattle.seen.specs.Records.{recordsIn};
+ghost use Rattle.table.specs.Sizes.{Sizes};
+ghost use Rattle.receive.specs.Message.{Ready};
+
+// A Commit that differs from the stored one: refusal 10.
+pub fn is_refused10(r: Record, m: Message) -> bool
+    ensures { λ x. ⌜ x ≡ refused10 r m ⌝ }
+{
+    let body = m.body;
+    let is_commit = equal(wide8(kind_of(body)), 5);
+    both(is_commit, commit_differs(r, m, command_in(body)))
+}
+
+// Seen of a command for the message's instance.
+fn seen_for(t: &[u8], n: usize, s: usize, c: usize, m: Message, k: Command) -> [u16; 7]
+    requires { ⌜ Sizes n s c (now t) ⌝ }
+    ensures { λ x. ⌜ x ≡ seen n s (recordsIn s (now (t .entry))) (m .owner) (m .number) k ⌝ }
+{
+    seen_of(t, n, s, c, wide8(m.owner), wide16(m.number), k)
+}
+
+fn on_proposal(
+    t: &[u8],
+    n: usize,
+    s: usize,
+    c: usize,
+    r: Record,
+    m: Message,
+    k: Command,
+) -> Step
+    requires { ⌜ Ready n s c (now t) m ⌝ }
+    ensures { λ x. ⌜ x ≡ preAccept c (m .owner) (m .number) r m k (seen n s (recordsIn s (now (t .entry))) (m .owner) (m .number) k) ⌝ }
+{
+    let seen = seen_for(t, n, s, c, m, k);
+    on_pre_accept(byte(c), m.owner, m.number, r, m, k, seen)
+}
+
+// What a PrepareOK tells.
+fn told(m: Message) -> Vote
+    ensures { λ x. ⌜ x ≡ voteIn m ⌝ }
+{
+    let body = m.body;
+    let voted = voted_in(body);
+    let status = status_in(body);
+    let command = command_in(body);
+    let deps = m.deps;
+    Vote {
+        voted,
+        status,
+        command,
+        deps,
+    }
+}
+
+// With the reply collected: at F+1 replies, own included, the lead decides.
+fn prepared_by(t: &[u8], n: usize, s: usize, c: usize, r: Record, m: Message) -> Step
+    requires { ⌜ Ready n s c (now t) m ⌝ }
+    ensures { λ x. ⌜ x ≡ preparedBy n c (m .owner) (m .number) r (seen n s (recordsIn s (now (t .entry))) (m .owner) (m .number)) ⌝ }
+{
+    if !has_quorum(n, r) {
+        return silently(r);
+    }
+    let seen = seen_for(t, n, s, c, m, afresh_command(r));
+    decide_on(n, byte(c), m.owner, m.number, r, seen)
+}
+
+fn on_prepare_ok(t: &[u8], n: usize, s: usize, c: usize, r: Record, m: Message) -> Step
+    requires { ⌜ Ready n s c (now t) m × (r .set < 128) ⌝ }
+    ensures { λ x. ⌜ x ≡ onPrepareOk n c (m .owner) (m .number) r m (seen n s (recordsIn s (now (t .entry))) (m .owner) (m .number)) ⌝ }
+{
+    if !is_awaited(1, r, m) {
+        return silently(r);
+    }
+    prepared_by(t, n, s, c, collected(r, m.from, told(m)), m)
+}
+
+pub fn received_as(t: &[u8], n: usize, s: usize, c: usize, r: Record, m: Message) -> Step
+    requires { ⌜ Ready n s c (now t) m × (r .set < 128) ⌝ }
+    ensures { λ x. ⌜ x ≡ received n c (seen n s (recordsIn s (now (t .entry))) (m .owner) (m .number)) r m ⌝ }
+{
+    let o = m.owner;
+    let j = m.number;
+    let body = m.body;
+    let own = byte(c);
+    match body {
+        Body::PreAccept(k) => on_proposal(t, n, s, c, r, m, k),
+        Body::PreAcceptOk => on_pre_accept_ok(n, own, o, j, r, m),
+        Body::Accept(k) => on_accept(own, o, j, r, m, k),
+        Body::AcceptOk => on_accept_ok(n, own, o, j, r, m),
+        Body::Commit(k) => on_commit(r, m, k),
+        Body::Prepare => on_prepare(own, o, j, r, m),
+        Body::PrepareOk {
+            voted: _,
+            status: _,
+            command: _,
+        } => on_prepare_ok(t, n, s, c, r, m),
+        Body::Nack(x) => on_nack(r, m, x),
+    }
+}

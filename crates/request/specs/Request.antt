@@ -1,0 +1,36 @@
+-- A request that is taken, at a table past the gate: what it does, and what its step rests on. Assumes nothing.
+use Prim.Native.Nat.{ℕ}
+use mathlib.Core.Path.{_≡_}
+use mathlib.Core.Bool.{Bool, true, false, _&&_, cond}
+use mathlib.Core.List.{List}
+use lib.Dec.{ltb, eqb}
+use Rattle.paper.specs.Command.{isNoop, commandOk}
+use Rattle.paper.specs.declared.Command.{Command}
+use Rattle.paper.specs.declared.Record.{Record}
+use Rattle.paper.specs.declared.Refusal.the-variants as why
+use Rattle.rules.specs.Events.{requestNumber, onRequest}
+use Rattle.table.specs.Table.{fits, soundTable}
+use Rattle.seen.specs.Records.{recordsIn}
+use Rattle.closed.specs.Fits.{CommandFits}
+use Rattle.log.specs.Events.{Outcome, refuse, acted, Passed}
+
+-- no ballot joined, no vote, no phase
+unfoldable pub isUntouched : Record → Bool
+isUntouched r = eqb (r .joined) 0 && eqb (r .vote .status) 0 && eqb (r .phase) 0
+
+-- 5, then the step
+unfoldable pub asked : ℕ → ℕ → ℕ → List ℕ → List ℕ → Command → Outcome
+asked n s c t out k =
+    cond (ltb s (requestNumber s c (recordsIn s t))) (refuse why.Full t out)
+    (acted s t out c (requestNumber s c (recordsIn s t)) (onRequest n s c (recordsIn s t) k))
+
+-- a table that was not refused
+pub record Judged (n s c : ℕ) (t : List ℕ) : Type 0 where
+  pub setup : fits n s c t ≡ true
+  pub sound : soundTable n s c t ≡ true
+
+pub record Asking (n s c : ℕ) (t : List ℕ) (room : ℕ) (k : Command) : Type 0 where
+  pub passed : Passed n s c t room
+  pub ok : commandOk k ≡ true
+  pub fits : CommandFits k
+  pub edit : isNoop k ≡ false

@@ -1,0 +1,109 @@
+// The call: refusals in the paper's order, then the step.
+use crate::lowest::lowest_blank;
+use codec::op_of;
+use log::Answer;
+use log::Gate;
+use log::act::act;
+use log::act::byte;
+use log::act::short;
+use log::entrance::gate_of;
+use nouns::logic::either;
+use nouns::logic::equal;
+use nouns::vote::no_vote;
+use paper::Command;
+use paper::Record;
+use paper::Refusal;
+use rules::Step;
+use seen::seen_of;
+use step::afresh::afresh_with;
+use step::made::begun_at;
+use table::place_of;
+ghost use mathlib.Core.Path.{_≡_};
+ghost use Prim.Native.Nat.{_≤_};
+ghost use lib.ListN.{length};
+ghost use Rattle.paper.specs.Vote.{blank};
+ghost use Rattle.rules.specs.Events.{requestNumber, onRequest};
+ghost use Rattle.table.specs.Sizes.{Sizes};
+ghost use Rattle.seen.specs.Records.{recordsIn};
+ghost use Rattle.log.specs.Events.{Passed, requestOpen, requested};
+ghost use Rattle.request.specs.Request.{Asking, asked};
+
+fn blank_record() -> Record
+    ensures { λ r. ⌜ r ≡ blank ⌝ }
+{
+    begun_at(0, no_vote(), 0, 0)
+}
+
+fn request_at(t: &[u8], n: usize, s: usize, c: usize, j: usize, k: Command) -> Step
+    requires { ⌜ Sizes n s c (now t) × (j ≤ s) × (j ≡ requestNumber s c (recordsIn s (now t))) ⌝ }
+    ensures { λ x. ⌜ x ≡ onRequest n s c (recordsIn s (now (t .entry))) k ⌝ }
+{
+    let seen = seen_of(t, n, s, c, c, j, k);
+    let own = byte(c);
+    afresh_with(n, own, own, short(j), blank_record(), k, seen)
+}
+
+// A command that is taken: 5, then the step.
+fn ask(t: &mut [u8], out: &mut [u8], n: usize, s: usize, c: usize, k: Command) -> Answer
+    requires { ⌜ Asking n s c (now t) (length (now out)) k ⌝ }
+    ensures answers { λ r. ⌜ r ≡ asked n s c (now (t .entry)) (now (out .entry)) k .answer ⌝ }
+    ensures table { λ _. ⌜ now (t .exit) ≡ asked n s c (now (t .entry)) (now (out .entry)) k .table ⌝ }
+    ensures room { λ _. ⌜ now (out .exit) ≡ asked n s c (now (t .entry)) (now (out .entry)) k .out ⌝ }
+{
+    let j = lowest_blank(&*t, n, s, c);
+    if s < j {
+        return Answer::Refused(Refusal::Full);
+    }
+    let at = place_of(n, s, c, j);
+    let x = request_at(&*t, n, s, c, j, k);
+    act(t, out, at, c, j, x)
+}
+
+// Past the gate.
+fn request_open(
+    t: &mut [u8],
+    out: &mut [u8],
+    n: usize,
+    s: usize,
+    c: usize,
+    op: usize,
+    key: u32,
+    edit: u64,
+) -> Answer
+    requires { ⌜ Passed n s c (now t) (length (now out)) ⌝ }
+    ensures answers { λ r. ⌜ r ≡ requestOpen n s c (now (t .entry)) (now (out .entry)) op key edit .answer ⌝ }
+    ensures table { λ _. ⌜ now (t .exit) ≡ requestOpen n s c (now (t .entry)) (now (out .entry)) op key edit .table ⌝ }
+    ensures room { λ _. ⌜ now (out .exit) ≡ requestOpen n s c (now (t .entry)) (now (out .entry)) op key edit .out ⌝ }
+{
+    if !either(equal(op, 1), equal(op, 2)) {
+        return Answer::Refused(Refusal::Op);
+    }
+    let taken = op_of(byte(op));
+    let k = Command {
+        op: taken,
+        key,
+        edit,
+    };
+    ask(t, out, n, s, c, k)
+}
+
+pub fn request(
+    t: &mut [u8],
+    n: usize,
+    s: usize,
+    c: usize,
+    out: &mut [u8],
+    op: usize,
+    key: u32,
+    edit: u64,
+) -> Answer
+    ensures answers { λ r. ⌜ r ≡ requested n s c (now (t .entry)) (now (out .entry)) op key edit .answer ⌝ }
+    ensures table { λ _. ⌜ now (t .exit) ≡ requested n s c (now (t .entry)) (now (out .entry)) op key edit .table ⌝ }
+    ensures room { λ _. ⌜ now (out .exit) ≡ requested n s c (now (t .entry)) (now (out .entry)) op key edit .out ⌝ }
+{
+    let gate = gate_of(&*t, n, s, c, out.len());
+    if let Gate::Shut(why) = gate {
+        return Answer::Refused(why);
+    }
+    request_open(t, out, n, s, c, op, key, edit)
+}

@@ -1,0 +1,3 @@
+// "Request", as a public call.
+pub mod ask;
+pub mod lowest;
