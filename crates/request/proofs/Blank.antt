@@ -1,0 +1,147 @@
+-- In a sound table an untouched record is blank, and the walk up the own row for the lowest of them. Assumes nothing.
+use mathlib.Core.Path.{_≡_, refl, sym, ap, _∙_}
+use mathlib.Core.Bool.{Bool, true, false, _&&_}
+use mathlib.Core.List.{List}
+use Prim.Native.Nat.{ℕ, zero, suc, _+_, _*_, _-_, _≤_, _<_}
+use native.Mathlib.Omega.{arith}
+use native.Mathlib.Nat.{mul-le-mul}
+use lib.Dec.{eqb, leb}
+use lib.ListN.{length, getD, take, drop}
+use borrow.Author.Tests.{eqb-true, eq-eqb, lt-ltb, le-leb}
+use Rattle.paper.specs.Logic.{allBelow}
+use Rattle.paper.specs.Instance.{instanceOk}
+use Rattle.paper.specs.Command.{isNoop, noop, sameCommand, commandOk}
+use Rattle.paper.specs.Deps.{noDeps, sameDeps, depsOk}
+use Rattle.paper.specs.Vote.{noVote, sameVote, noneIsBlank, votedOk, statusOk, voteOk, member}
+use Rattle.paper.specs.Sound.{soundRecord, replyOk, repliesOk}
+use Rattle.paper.proofs.Laws.{and-true, allBelow-at}
+use Rattle.paper.specs.declared.Command.{Command}
+use Rattle.paper.specs.declared.Vote.{Vote}
+use Rattle.paper.specs.declared.Record.{Record}
+use Rattle.record.specs.Layout.{recordAt}
+use Rattle.record.specs.Part.{opsFit, soundPart}
+use Rattle.rules.specs.Request.{isBlank, lowestBlank}
+use Rattle.rules.specs.Events.{requestNumber}
+use Rattle.table.specs.Place.{placeAt, placeOf, partAt, tableLength}
+use Rattle.table.specs.Sizes.{Sizes, Names}
+use Rattle.table.specs.Table.{recordIn}
+use Rattle.table.proofs.Laws.{sizes, place-end}
+use Rattle.table.proofs.Round.{sound-at}
+use Rattle.seen.specs.Records.{recordsIn}
+use Rattle.closed.proofs.Laws.{both, all-in, imp-at, three, four}
+use Rattle.closed.proofs.Sets.{member-none}
+use Rattle.closed.proofs.Sound.{Sound, sound-is}
+use Rattle.closed.proofs.Shapes.{unmarked}
+use Rattle.request.specs.Request.{Judged, isUntouched}
+
+-- status 0 of a sound record is no vote
+none-voted : (n s : ℕ) (v : Vote) → voteOk n s 4 v ≡ true → noneIsBlank v ≡ true → v .status ≡ 0 → sameVote v noVote ≡ true
+unfolding voteOk noneIsBlank sameVote sameCommand commandOk
+none-voted n s v ok none e =
+    let (a, b, c, d) = four (votedOk n v) (statusOk 4 v) (commandOk (v .command)) (depsOk n s (v .deps)) ok in
+    let (voted, noop, deps) = three (eqb (v .voted) 0) (isNoop (v .command)) (sameDeps (v .deps) noDeps) (imp-at _ _ none (eq-eqb _ _ e)) in
+    let (key, edit) = and-true (eqb (v .command .key) 0) (eqb (v .command .edit) 0) (imp-at _ _ c noop) in
+    both _ _ (both _ _ (both _ _ voted (eq-eqb _ _ e)) (both _ _ (both _ _ noop key) edit)) deps
+
+-- nothing collected: every place is zero
+none-told : (n s c : ℕ) (r : Record) → repliesOk n s c r ≡ true → r .set ≡ 0 → allBelow 7 (λ q. sameVote (getD (r .replies) q noVote) noVote) ≡ true
+unfolding repliesOk replyOk
+none-told n s c r ok e = all-in 7 _ (λ q l. at q (allBelow-at 7 (replyOk n s c r) ok q l))
+  where
+    at : (q : ℕ) → replyOk n s c r q ≡ true → sameVote (getD (r .replies) q noVote) noVote ≡ true
+    at q h = let f : member q (r .set) ≡ false = ap (member q) e ∙ member-none q in sym (rw f) ∙ h
+
+-- tests that fail with one of their parts
+no-phase : (a b c d : Bool) → false ≡ (a && b && false && c && d)
+no-phase true true c d = refl
+no-phase true false c d = refl
+no-phase false b c d = refl
+
+no-status : (a b c d e f g : Bool) → false ≡ ((a && false && b && c) && d && e && f && g)
+no-status true b c d e f g = refl
+no-status false b c d e f g = refl
+
+differing : (v : Vote) → eqb (v .status) 0 ≡ false → (d e g l : Bool) → false ≡ (sameVote v noVote && d && e && g && l)
+unfolding sameVote
+differing v y d e g l = rw y (no-status (eqb (v .voted) 0) _ _ d e g l)
+
+pub blank-is : (n s c o : ℕ) (r : Record) → soundRecord n s c o r ≡ true → isUntouched r ≡ isBlank r
+unfolding isUntouched isBlank
+blank-is n s c o r h = go (eqb (r .joined) 0) (eqb (r .vote .status) 0) (eqb (r .phase) 0) refl refl refl
+  where
+    f : Sound n s c o r
+    f = sound-is n s c o r h
+
+    go : (a b d : Bool) → eqb (r .joined) 0 ≡ a → eqb (r .vote .status) 0 ≡ b → eqb (r .phase) 0 ≡ d → isUntouched r ≡ isBlank r
+    go true true true x y z =
+        let st = eqb-true _ _ y in
+        let set = f .empty (eqb-true _ _ z) in
+        let v = none-voted n s (r .vote) (f .own) (f .none) st in
+        let k : eqb (r .mark) 0 ≡ true = eq-eqb _ _ (unmarked n s c o r f (λ g. absurd (omega arith))) in
+        let l : eqb (r .set) 0 ≡ true = eq-eqb _ _ set in
+        let w = none-told n s c r (f .replies) set in
+        both _ _ (both _ _ x y) z ∙ sym (both _ _ (both _ _ (both _ _ (both _ _ (both _ _ x v) k) z) l) w)
+    go true true false x y z = rw (x, y, z) (no-phase (sameVote (r .vote) noVote) (eqb (r .mark) 0) _ _)
+    go true false d x y z = rw (x, y) (differing (r .vote) y _ _ _ _)
+    go false b d x y z = rw x
+
+-- the walk up copy c's row: the numbers from j on are still to be looked at, and their records start at `at`
+module _ (n s c : ℕ) (t : List ℕ) where
+  pub record From (j at : ℕ) : Type 0 where
+    pub judged : Judged n s c t
+    pub so : requestNumber s c (recordsIn s t) ≡ lowestBlank (s + 1 - j) j (recordsIn s t c)
+    pub least : 1 ≤ j
+    pub most : j ≤ s + 1
+    pub place : at ≡ 3 + 263 * (c * s + (j - 1))
+
+  size : Judged n s c t → Sizes n s c t
+  size h = sizes n s c t (h .setup)
+
+  pub small-start : Judged n s c t → (c * s ≤ 448) × (s ≤ 64)
+  small-start h =
+      let z = size h in
+      let l : c ≤ 7 = omega (arith, z .copy, z .copies) in
+      (omega (arith, mul-le-mul l (z .numbers)), z .numbers)
+
+  pub start : Judged n s c t → From 1 (3 + 263 * (c * s))
+  unfolding requestNumber
+  start h = let e : s + 1 - 1 ≡ s = omega arith in record { judged = h; so = rw e; least = omega arith; most = omega arith; place = omega arith }
+
+  module _ (j at : ℕ) (f : From j at) (h : j ≤ s) where
+    own : Names n s c j
+    own = let z = size (f .judged) in record { copies = z .copies; numbers = z .numbers; owner = z .copy; first = f .least; last = h }
+
+    pub bounds : at + 263 ≤ length t
+    unfolding placeAt
+    bounds = omega (arith, place-end n s c j own, f .place, size (f .judged) .long)
+
+    part : take (at + 263 - at) (drop at t) ≡ partAt t (placeOf s c j)
+    unfolding placeAt
+    part =
+        let e : at + 263 - at ≡ 263 = omega arith in
+        let p = f .place in
+        rw (e, p)
+
+    -- the test that was made is the definition's
+    pub tested : {b : Bool} → b ≡ isUntouched (recordAt (take (at + 263 - at) (drop at t))) → isBlank (recordsIn s t c j) ≡ b
+    unfolding soundPart
+    tested eb =
+        let p = sound-at n s c t (f .judged .sound) c j own in
+        let q = and-true (opsFit (partAt t (placeOf s c j))) (soundRecord n s c c (recordAt (partAt t (placeOf s c j)))) p .1 in
+        sym (eb ∙ ap (λ (x : List ℕ). isUntouched (recordAt x)) part ∙ blank-is n s c c (recordAt (partAt t (placeOf s c j))) q)
+
+    pub here : isBlank (recordsIn s t c j) ≡ true → j ≡ requestNumber s c (recordsIn s t)
+    unfolding lowestBlank
+    here e = let k : s + 1 - j ≡ suc (s - j) = omega arith in sym (f .so ∙ rw (k, e))
+
+    pub next : isBlank (recordsIn s t c j) ≡ false → From (j + 1) (at + 263)
+    unfolding lowestBlank
+    next e =
+        let k : s + 1 - j ≡ suc (s + 1 - (j + 1)) = omega arith in
+        let p = f .place in
+        let l = f .least in
+        record { judged = f .judged; so = f .so ∙ rw (k, e); least = omega arith; most = omega arith; place = omega arith }
+
+  pub full : (j at : ℕ) → From j at → s < j → j ≡ requestNumber s c (recordsIn s t)
+  unfolding lowestBlank
+  full j at f h = let k : s + 1 - j ≡ 0 = omega arith in sym (f .so ∙ rw k)

@@ -1,0 +1,69 @@
+use borrow.Author.Needs.{needs}
+use Rattle.request.proofs.ask.request_open.Statement.{statement}
+use Rattle.request.proofs.ask.request_open.Tie as tie
+use mathlib.Core.Path.{_≡_, refl, sym, ap, ap₂, _∙_}
+use Prim.Native.Nat.{ℕ, _+_, _*_, _-_, _≤_, _<_}
+use native.Mathlib.Omega.{arith}
+use borrow.Author.Tests.{not-true, not-false}
+use mathlib.Core.Bool.{_||_}
+use Rattle.codec.specs.Parts.{opOf}
+use Rattle.paper.specs.declared.Refusal.the-variants as why
+use Rattle.log.proofs.Calls.{met, refused}
+use Rattle.request.proofs.Laws.{request-4, request-ok, small-op, asking}
+
+equal-requires : tie.Need-equal-requires
+equal-requires c κs = search needs
+
+equal-requires-2 : tie.Need-equal-requires-2
+equal-requires-2 c κs = search needs
+
+either-requires : tie.Need-either-requires
+either-requires c κs = search needs
+
+returns : tie.Need-returns
+returns c = let z = c .before .before .before .before .before .before in
+    let a = z .args in
+    let t = a .t .now in
+    met (request-4 (a .n) (a .s) (a .c) t (a .out .now) (a .op) (a .key) (a .edit) (sym (c .before .either .ensures ∙ ap₂ _||_ (c .before .before .before .equal .ensures) (c .before .before .equal2 .ensures)) ∙ not-true _ (c .if1 .taken))) (refused why.Op _ _)
+
+byte-requires : tie.Need-byte-requires
+byte-requires c κs = let z = c .before .before .before .before .before .before in
+    let a = z .args in
+    let t = a .t .now in
+    small-op (a .n) (a .s) (a .c) t (a .out .now) (a .op) (a .key) (a .edit) (sym (c .before .either .ensures ∙ ap₂ _||_ (c .before .before .before .equal .ensures) (c .before .before .equal2 .ensures)) ∙ not-false _ (c .if1 .left))
+
+op-of-requires : tie.Need-op-of-requires
+op-of-requires c κs = search needs
+
+ask-requires : tie.Need-ask-requires
+ask-requires c κs = let z = c .before .before .before .before .before .before .before .before .before .before in
+    let a = z .args in
+    let t = a .t .now in
+    asking (a .n) (a .s) (a .c) t (a .out .now) (a .op) (a .key) (a .edit) (z .pre) (omega (arith, z .fits .key)) (omega (arith, z .fits .edit)) (c .before .before .op-of .ensures ∙ ap opOf (c .before .before .before .byte .ensures)) (sym (c .before .before .before .before .before .either .ensures ∙ ap₂ _||_ (c .before .before .before .before .before .before .before .equal .ensures) (c .before .before .before .before .before .before .equal2 .ensures)) ∙ not-false _ (c .before .before .before .before .if1 .left))
+
+same-length : tie.Need-same-length
+same-length c = search needs
+
+same-length-2 : tie.Need-same-length-2
+same-length-2 c = search needs
+
+returns-2 : tie.Need-returns-2
+returns-2 c = let z = c .before .before .before .before .before .before .before .before .before .before .before .before .before .before .before in
+    let a = z .args in
+    let t = a .t .now in
+    met (request-ok (a .n) (a .s) (a .c) t (a .out .now) (a .op) (a .key) (a .edit) (c .before .before .before .before .before .before .before .op-of .ensures ∙ ap opOf (c .before .before .before .before .before .before .before .before .byte .ensures)) (sym (c .before .before .before .before .before .before .before .before .before .before .either .ensures ∙ ap₂ _||_ (c .before .before .before .before .before .before .before .before .before .before .before .before .equal .ensures) (c .before .before .before .before .before .before .before .before .before .before .before .equal2 .ensures)) ∙ not-false _ (c .before .before .before .before .before .before .before .before .before .if1 .left))) (c .before .before .before .before .ask .ensures)
+
+pub request-open-spec : {M : Type 1} → statement M
+request-open-spec =
+    tie.close
+    (tie.spec
+    equal-requires
+    equal-requires-2
+    either-requires
+    returns
+    byte-requires
+    op-of-requires
+    ask-requires
+    same-length
+    same-length-2
+    returns-2)
