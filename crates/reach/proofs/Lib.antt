@@ -1,0 +1,5 @@
+pub mod Tests
+pub mod Count
+pub mod Instances
+pub mod Reach
+pub mod High
