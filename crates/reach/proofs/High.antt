@@ -92,8 +92,7 @@ module _ (n s : ℕ) (t : Records) where
   covers-is p k o j h =
       let a = and-l (instanceOk n s o j) _ h in
       let b = and-r (instanceOk n s o j) _ h in
-      let c = and-r (ltb o n) (leb 1 j && leb j s) a in
-      (
+      let c = and-r (ltb o n) (leb 1 j && leb j s) a in (
         record { owner = ltb-lt o n (and-l (ltb o n) (leb 1 j && leb j s) a); first = leb-le 1 j (and-l (leb 1 j) (leb j s) c); last = leb-le j s (and-r (leb 1 j) (leb j s) c) },
         leb-le j (entryOf t p k o) (and-r (not (eqb o p && eqb j k) && leb 1 j) _ b),
       )
@@ -151,13 +150,13 @@ module _ (n s : ℕ) (t : Records) where
           few = v .few;
           holds = λ i l. omega (arith, e .holds i l, up i);
           closed = λ o j lo a b i li. by-age o j b
-          (λ (y : j ≤ getD r o 0). omega (arith, e .closed o j lo a y i li, up i))
-          (λ y z. rw (y, z) (v .holds i li))
-          (λ (y : getD (set r q x) o 0 < j). v .closed o j lo y b i li);
+              (λ (y : j ≤ getD r o 0). omega (arith, e .closed o j lo a y i li, up i))
+              (λ y z. rw (y, z) (v .holds i li))
+              (λ (y : getD (set r q x) o 0 < j). v .closed o j lo y b i li);
           from = λ o j lo a b. by-age o j b
-          (λ (y : j ≤ getD r o 0). e .from o j lo a y)
-          (λ y z. comes-on p k q x o j ip iq le (inl (y, z)))
-          (λ (y : getD (set r q x) o 0 < j). comes-on p k q x o j ip iq le (v .from o j lo y b));
+              (λ (y : j ≤ getD r o 0). e .from o j lo a y)
+              (λ y z. comes-on p k q x o j ip iq le (inl (y, z)))
+              (λ (y : getD (set r q x) o 0 < j). comes-on p k q x o j ip iq le (v .from o j lo y b));
         }
       where
         -- visited before, raised to, or visited since

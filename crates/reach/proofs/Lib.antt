@@ -3,3 +3,4 @@ pub mod Count
 pub mod Instances
 pub mod Reach
 pub mod High
+pub mod First

@@ -215,7 +215,7 @@ explore-explore-requires : (t : ℕ) → explore-lts.Need-explore-requires (
   explore-below t,
   explore.Post,
 ) (explore-at t) explore.Post explore-Inv-loop explore-μ-loop
-explore-explore-requires t c κs = 
+explore-explore-requires t c κs =
     let l = c .before .before .before .before .before .before .before .before in
     let e = l .before .before .before .before .before in
     let d = above (e .args .s) (e .args .t .now) (e .args .p) (e .args .k) (l .loop .q) (l .loop .m) (l .before .before .place-of .ensures .0) (l .before .deps-at .ensures) (c .before .before .before .before .before .wide8 .ensures) (c .before .before .before .before .wide16 .ensures) (c .before .before .before .if1 .taken) in
@@ -234,7 +234,7 @@ explore-loop-less : (t : ℕ) → explore-lts.Need-loop-less (
   explore-below t,
   explore.Post,
 ) (explore-at t) explore.Post explore-Inv-loop explore-μ-loop
-explore-loop-less t c = 
+explore-loop-less t c =
     let l = c .before .before .before .before .before .before .before .before .before .before .before in
     let e = l .before .before .before .before .before in
     let d = above (e .args .s) (e .args .t .now) (e .args .p) (e .args .k) (l .loop .q) (l .loop .m) (l .before .before .place-of .ensures .0) (l .before .deps-at .ensures) (c .before .before .before .before .before .before .before .before .wide8 .ensures) (c .before .before .before .before .before .before .before .wide16 .ensures) (c .before .before .before .before .before .before .if1 .taken) in
@@ -253,7 +253,7 @@ explore-loop-again : (t : ℕ) → explore-lts.Need-loop-again (
   explore-below t,
   explore.Post,
 ) (explore-at t) explore.Post explore-Inv-loop explore-μ-loop
-explore-loop-again t c = 
+explore-loop-again t c =
     let l = c .before .before .before .before .before .before .before .before .before .before .before in
     let e = l .before .before .before .before .before in
     let d = above (e .args .s) (e .args .t .now) (e .args .p) (e .args .k) (l .loop .q) (l .loop .m) (l .before .before .place-of .ensures .0) (l .before .deps-at .ensures) (c .before .before .before .before .before .before .before .before .wide8 .ensures) (c .before .before .before .before .before .before .before .wide16 .ensures) (c .before .before .before .before .before .before .if1 .taken) in
@@ -299,7 +299,7 @@ explore-loop-again-2 : (t : ℕ) → explore-lts.Need-loop-again-2 (
   explore-below t,
   explore.Post,
 ) (explore-at t) explore.Post explore-Inv-loop explore-μ-loop
-explore-loop-again-2 t c = 
+explore-loop-again-2 t c =
     let l = c .before .before .before .before .before in
     let e = l .before .before .before .before .before in
     (explore-skip _ _ _ _ _ _ _ _ _ (l .loop .inv .0) refl (reached (e .args .s) (e .args .t .now) (e .args .p) (e .args .k) (l .loop .q) (l .loop .m) (l .before .before .place-of .ensures .0) (l .before .deps-at .ensures) (c .before .before .wide8 .ensures) (c .before .wide16 .ensures) (c .if1 .left)), omega arith)
@@ -330,7 +330,7 @@ explore-returns : (t : ℕ) → explore-lts.Need-returns (
   explore-below t,
   explore.Post,
 ) (explore-at t) explore.Post explore-Inv-loop explore-μ-loop
-explore-returns t c = 
+explore-returns t c =
     let l = c .before in
     let e = l .before .before .before .before .before in
     let z : l .loop .q ≡ e .args .n = omega arith in
