@@ -115,3 +115,50 @@ module _ (n s : ℕ) (f : ℕ → ℕ → Bool) where
           let z = every-at n s (λ o j. not (f o j)) h o j (w .0 .owner) (w .0 .first) (w .0 .last) in
           let y : not true ≡ true = rw (w .1) at z in
           clash (cc)
+
+-- a nested walk over numbers, then owners
+module _ (n s : ℕ) (f : ℕ → ℕ → Bool) where
+  -- no number below j passed
+  pub record Walk (j : ℕ) : Type 0 where
+    pub first : 1 ≤ j
+    pub last : j ≤ s + 1
+    pub so : firstNumber s n 1 f ≡ firstNumber (s + 1 - j) n j f
+
+  -- nor did an owner below o at j
+  pub record Row (j o : ℕ) : Type 0 where
+    pub first : 1 ≤ j
+    pub last : j ≤ s
+    pub owner : o ≤ n
+    pub so : firstNumber s n 1 f ≡ firstOwner (n - o) o j f (firstNumber (s - j) n (j + 1) f)
+
+  pub walk-start : 1 ≤ s + 1 → Walk 1
+  walk-start h = let e : s + 1 - 1 ≡ s = omega arith in record { first = omega arith; last = h; so = rw e }
+
+  pub row-start : (j : ℕ) → Walk j → j ≤ s → Row j 0
+  row-start j w l =
+      let e : n - 0 ≡ n = omega arith in
+      record { first = w .first; last = l; owner = omega arith; so = w .so ∙ rw e (first-row n f (s + 1 - j) (s - j) j (j + 1) (omega arith) refl) }
+
+  pub row-inst : (j o : ℕ) → Row j o → o < n → Inst n s o j
+  row-inst j o r l = record { owner = l; first = r .first; last = r .last }
+
+  pub row-on : (j o o′ : ℕ) → Row j o → o < n → o + 1 ≡ o′ → f o j ≡ false → Row j o′
+  row-on j o o′ r l e h =
+      record { first = r .first; last = r .last; owner = omega arith; so = r .so ∙ first-on n f (n - o) (n - o′) o o′ j _ (omega arith) e h }
+
+  row-later : (j o : ℕ) → Row j o → n ≤ o → firstNumber s n 1 f ≡ firstNumber (s - j) n (j + 1) f
+  row-later j o r l = r .so ∙ first-end n f (n - o) o j _ (omega arith)
+
+  pub row-end : (j j′ o : ℕ) → Row j o → n ≤ o → j + 1 ≡ j′ → Walk j′
+  row-end j j′ o r l e =
+      let z : s + 1 - j′ ≡ s - j = omega (arith, r .last) in
+      record { first = omega arith; last = omega (arith, r .last); so = row-later j o r l ∙ rw (z, e) }
+
+  pub row-hit : (j o : ℕ) → Row j o → o < n → f o j ≡ true → At o j ≡ firstNumber s n 1 f
+  row-hit j o r l h = sym (r .so ∙ first-hit n f (n - o) (n - o - 1) o j _ (omega arith) h)
+
+  pub walk-none : (j : ℕ) → Walk j → s < j → Nowhere ≡ firstNumber s n 1 f
+  walk-none j w l = sym (w .so ∙ first-none n f (s + 1 - j) j (omega arith))
+
+  pub row-none : (j o : ℕ) → Row j o → n ≤ o → s ≤ j → Nowhere ≡ firstNumber s n 1 f
+  row-none j o r l h = sym (row-later j o r l ∙ first-none n f (s - j) (j + 1) (omega arith))
