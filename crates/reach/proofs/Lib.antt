@@ -4,3 +4,4 @@ pub mod Instances
 pub mod Reach
 pub mod High
 pub mod First
+pub mod Same

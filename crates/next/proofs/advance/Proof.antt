@@ -35,7 +35,7 @@ loop-less : tie.Need-loop-less Inv-loop μ-loop
 loop-less c = omega arith
 
 loop-again : tie.Need-loop-again Inv-loop μ-loop
-loop-again c = 
+loop-again c =
     let l = c .before .before .before in
     let e = l .before .before .before .before in
     let m = mark-at (e .args .h .now) _ (e .args .p) (e .args .k) (l .loop .z / 64) (l .before .slot-of .ensures .0) (c .before .mark-of .ensures) in
@@ -46,7 +46,7 @@ add-passes : tie.Need-add-passes Inv-loop μ-loop
 add-passes c = omega arith
 
 passes-requires : tie.Need-passes-requires Inv-loop μ-loop
-passes-requires c κs = 
+passes-requires c κs =
     let l = c .before .before .before in
     let e = l .before .before .before .before in
     there _ _ _ _ _ _ (e .pre .lists) (e .pre .inst) (l .loop .z) (omega (arith, c .before .before .loop-test .taken, l .loop .inv .1))
@@ -58,7 +58,7 @@ loop-less-2 : tie.Need-loop-less-2 Inv-loop μ-loop
 loop-less-2 c = omega arith
 
 loop-again-2 : tie.Need-loop-again-2 Inv-loop μ-loop
-loop-again-2 c = 
+loop-again-2 c =
     let l = c .before .before .before .before .before in
     let e = l .before .before .before .before in
     let m = mark-at (e .args .h .now) _ (e .args .p) (e .args .k) (l .loop .z / 64) (l .before .slot-of .ensures .0) (c .before .before .before .mark-of .ensures) in
@@ -66,7 +66,7 @@ loop-again-2 c =
     (one-passes _ _ _ _ _ _ (e .pre .lists) (e .pre .inst) (l .loop .z) (omega (arith, c .before .before .before .before .loop-test .taken, l .loop .inv .1)) y (c .before .passes .ensures) (c .if2 .taken) (l .loop .inv .0), l .loop .inv .1)
 
 returns : tie.Need-returns Inv-loop μ-loop
-returns c = 
+returns c =
     let l = c .before .before .before .before .before in
     let e = l .before .before .before .before in
     let m = mark-at (e .args .h .now) _ (e .args .p) (e .args .k) (l .loop .z / 64) (l .before .slot-of .ensures .0) (c .before .before .before .mark-of .ensures) in

@@ -43,7 +43,7 @@ same-length : tie.Need-same-length
 same-length c = search needs
 
 returns-2 : tie.Need-returns-2
-returns-2 c = 
+returns-2 c =
     let e = c .before .before .before .before .before .before .before .before .before .before in
     let x = c .before .before .before .before .before .before .slot-of .ensures .0 in
     let a = c .before .advance .ensures in
