@@ -1,2 +1,5 @@
 pub mod Passed
 pub mod Asked
+pub mod Charts
+pub mod Marked
+pub mod Listed

@@ -39,7 +39,7 @@ pub record Charted (n s : ℕ) (u : Records) (h : List ℕ) : Type 0 where
 -- x is the state of p.k: 2 handed out, 1 settled and not handed out
 pub record State (n s : ℕ) (u : Records) (p k x : ℕ) : Type 0 where
   pub out : eqb x 2 ≡ isMarked (u p k)
-  pub open : eqb x 1 ≡ (isSettled n s u p k && not (isMarked (u p k)))
+  pub ready : eqb x 1 ≡ (isSettled n s u p k && not (isMarked (u p k)))
 
 pub record Stated (n s : ℕ) (u : Records) (st : List ℕ) : Type 0 where
   pub long : length st ≡ 448
