@@ -206,3 +206,6 @@ module _ (n s : ℕ) (t st : List ℕ) (z : ℕ) (g : Sized n s t) (c : States n
 
 pub states-all : (n s : ℕ) (t st : List ℕ) (z : ℕ) → s ≤ 64 → States n s t z st → 64 * n ≤ z → Stated n s (recordsIn s t) st
 states-all n s t st z l c e = record { long = c .long; each = λ p k i. c .done p k i (omega (arith, i .owner, i .last, i .first)) }
+
+pub marked-is : (s : ℕ) (t : List ℕ) (p k : ℕ) {at : ℕ} {r : Bool} → at ≡ placeOf s p k → r ≡ isMarked (recordAt (partAt t at)) → r ≡ isMarked (recordsIn s t p k)
+marked-is s t p k ea er = er ∙ rw ea
