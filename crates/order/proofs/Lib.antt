@@ -3,3 +3,5 @@ pub mod Asked
 pub mod Charts
 pub mod Marked
 pub mod Listed
+pub mod Handed
+pub mod Unique

@@ -55,8 +55,10 @@ module _ (n s : ℕ) (u : Records) (h st : List ℕ) (c : Charted n s u h) (d : 
   ready-is : (p k : ℕ) → Inst n s p k → readyIn n s h st p k ≡ candidate n s u p k
   unfolding readyIn candidate
   ready-is p k i =
-      rw (d .each p k i .ready,
-      every-same n s (lets h st p k) (λ o j. implies (reaches n s u p k o j && not (reaches n s u o j p k)) (isMarked (u o j))) (λ o j io. lets-is p k o j i io))
+      rw (
+        d .each p k i .ready,
+        every-same n s (lets h st p k) (λ o j. implies (reaches n s u p k o j && not (reaches n s u o j p k)) (isMarked (u o j))) (λ o j io. lets-is p k o j i io),
+      )
 
   pub next-is : nextIn n s h st ≡ nextOut n s u
   unfolding nextIn nextOut
@@ -135,8 +137,13 @@ module _ (n s : ℕ) (t₀ list₀ h t st up list : List ℕ) (count : ℕ) (l :
         long = length-set list count code ∙ l .long;
         within = omega arith;
         codes = l .codes
-        ∙ rw (codes-one (length list₀ - count) (length list₀ - (count + 1)) n s t h st up o j (l .listing) i (omega arith) z, tk, et, ec,
-        append-snoc (take count list) (codeOf o j) (handedCodes (length list₀ - (count + 1)) n s (markIn s t o j)));
+            ∙ rw (
+              codes-one (length list₀ - count) (length list₀ - (count + 1)) n s t h st up o j (l .listing) i (omega arith) z,
+              tk,
+              et,
+              ec,
+              append-snoc (take count list) (codeOf o j) (handedCodes (length list₀ - (count + 1)) n s (markIn s t o j)),
+            );
         table = l .table ∙ rw et (table-one (length list₀ - count) (length list₀ - (count + 1)) n s t o j (omega arith) z);
         rest = dr ∙ dd;
       }

@@ -28,7 +28,7 @@ equal-requires : tie.Need-equal-requires
 equal-requires c κs = search needs
 
 returns : tie.Need-returns
-returns c = 
+returns c =
     let a = c .before .before .before .before .before .args in
     c .equal .ensures ∙ ap (λ (x : ℕ). eqb x 1) (c .before .wide8 .ensures ∙ mark-read (a .t .now) (a .at) (c .before .before .get-u8 .ensures))
 

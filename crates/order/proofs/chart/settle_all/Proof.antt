@@ -35,7 +35,7 @@ loop-less : tie.Need-loop-less Inv-loop μ-loop
 loop-less c = omega arith
 
 loop-again : tie.Need-loop-again Inv-loop μ-loop
-loop-again c = 
+loop-again c =
     let l = c .before .before in
     let e = l .before .before .before .before in
     let z : l .loop .z < 64 * e .args .n = omega (arith, c .before .loop-test .taken, l .loop .inv .1) in

@@ -41,7 +41,7 @@ returns : tie.Need-returns Inv-loop μ-loop
 returns c = listed-none _ _ _ _ _ _ _ _ _ _ (c .before .before .before .before .before .before .before .before .loop .inv) (sym (c .enum-told .given .1) ∙ c .before .before .before .before .next-out .ensures .0)
 
 slot-of-requires : tie.Need-slot-of-requires Inv-loop μ-loop
-slot-of-requires c κs = 
+slot-of-requires c κs =
     let l = c .before .before .before .before .before .before .before .before .before .loop .inv in
     let i = found-inst _ _ _ _ _ _ _ _ _ _ l _ _ (sym (c .before .found .given .1) ∙ c .before .before .before .before .before .next-out .ensures .0) in
     (omega (arith, i .owner, l .listing .going .lists .copies), i .first, omega (arith, i .last, l .listing .going .lists .numbers))
@@ -50,19 +50,21 @@ slice-write-st : tie.Need-slice-write-st Inv-loop μ-loop
 slice-write-st c = omega (arith, c .slot-of .ensures .1, c .before .before .before .before .before .before .before .before .before .before .loop .inv .listing .stated .long)
 
 set-mark-requires : tie.Need-set-mark-requires Inv-loop μ-loop
-set-mark-requires c κs = 
+set-mark-requires c κs =
     let l = c .before .before .before .before .before .before .before .before .before .before .before .loop .inv in
     let i = found-inst _ _ _ _ _ _ _ _ _ _ l _ _ (sym (c .before .before .before .found .given .1) ∙ c .before .before .before .before .before .before .before .next-out .ensures .0) in
     record { copies = l .listing .going .lists .copies; numbers = l .listing .going .lists .numbers; long = l .listing .long; inst = i }
 
 code-of-requires : tie.Need-code-of-requires Inv-loop μ-loop
-code-of-requires c κs = 
+code-of-requires c κs =
     let l = c .before .before .before .before .before .before .before .before .before .before .before .before .before .before .loop .inv in
     let i = found-inst _ _ _ _ _ _ _ _ _ _ l _ _ (sym (c .before .before .before .before .before .before .found .given .1) ∙ c .before .before .before .before .before .before .before .before .before .before .next-out .ensures .0) in
     (omega (arith, i .owner, l .listing .going .lists .copies), omega (arith, i .last, l .listing .going .lists .numbers))
 
 mul-list : tie.Need-mul-list Inv-loop μ-loop
-mul-list c = omega (arith, c .before .before .before .before .before .before .before .before .before .before .before .before .before .before .loop-test .taken, c .before .before .before .before .before .before .before .before .before .before .before .before .before .before .before .loop .inv .long, c .before .before .before .before .before .before .before .before .before .before .before .before .before .before .before .before .before .before .before .before .before .good .1 .1 .1 .1 .1 .1 .0 .0)
+mul-list c =
+    let g = c .before .before .before .before .before .before .before .before .before .before .before .before .before .before .before .before .before .before .before .before .before .good .1 .1 .1 .1 .1 .1 .0 in
+    omega (arith, c .before .before .before .before .before .before .before .before .before .before .before .before .before .before .loop-test .taken, c .before .before .before .before .before .before .before .before .before .before .before .before .before .before .before .loop .inv .long, g .0, g .1)
 
 slice-write-list : tie.Need-slice-write-list Inv-loop μ-loop
 slice-write-list c = omega (arith, c .before .before .before .before .before .before .before .before .before .before .before .before .before .before .loop-test .taken)
