@@ -3,7 +3,7 @@
 //     copy 0 requests write key 7 edit 100      or: requests read key 7
 //     deliver 0 to 1 · drop 0 to 1 · repeat 0 to 1      the oldest message on the way from 0 to 1
 //     deliver all                               until nothing is on the way
-//     cut copy 0 before saving                  its next step, that is; or: before sending, after 1 marks
+//     cut copy 0 before saving                  its next step, that is; or: before sending, after 1 mark
 //     stop copy 0 · restart copy 0
 //     copy 2 recovers 0.1 · copy 0 nudges 0.1
 //     copy 1 is asked about 0.1 · copy 1 hands out · copy 1 hands out up to 2

@@ -57,7 +57,15 @@ fn cut(line: &[u8]) -> Step {
     if fits(line, b"cut copy # before sending", &mut v) {
         return Step::Cut(size(v[0]), Moment::Sending);
     }
+    cut_marks(line)
+}
+
+fn cut_marks(line: &[u8]) -> Step {
+    let mut v = [0u64; 4];
     if fits(line, b"cut copy # after # marks", &mut v) {
+        return Step::Cut(size(v[0]), Moment::Marks(size(v[1])));
+    }
+    if fits(line, b"cut copy # after # mark", &mut v) {
         return Step::Cut(size(v[0]), Moment::Marks(size(v[1])));
     }
     Step::Bad(Reason::Cut)
