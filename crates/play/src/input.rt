@@ -1,7 +1,7 @@
 // Reads the script and plays it line by line, until a line cannot be played.
 use crate::step::play_line;
-use crate::turn::Turn;
-use crate::turn::went;
+use course::turn::Turn;
+use course::turn::went;
 use say::reason::put_reason;
 use say::value::begin;
 use scene::copies::no_scene;

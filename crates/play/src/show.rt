@@ -37,9 +37,28 @@ fn show_rows(t: &[u8], w: Scene, c: usize, out: &mut [u8]) {
     }
 }
 
-fn say_copy(out: &mut [u8], w: Scene, c: usize) {
+fn holds_nothing(t: &[u8]) -> bool {
+    if t.len() < 3 {
+        return true;
+    }
+    is_blank(&t[3..])
+}
+
+fn say_down(out: &mut [u8], c: usize, nothing: bool) {
+    if nothing {
+        say(out, b"  copy # is down, and has saved nothing", c, 0, 0);
+        return;
+    }
+    say(out, b"  copy # is down, and has saved", c, 0, 0);
+}
+
+fn say_copy(out: &mut [u8], w: Scene, c: usize, nothing: bool) {
     if is_down(w, c) {
-        say(out, b"  copy # is down, and has saved", c, 0, 0);
+        say_down(out, c, nothing);
+        return;
+    }
+    if nothing {
+        say(out, b"  copy # holds nothing", c, 0, 0);
         return;
     }
     say(out, b"  copy # holds", c, 0, 0);
@@ -47,8 +66,9 @@ fn say_copy(out: &mut [u8], w: Scene, c: usize) {
 
 // What a copy has saved; a copy that is up holds nothing else.
 pub fn show_copy(all: &[u8], w: Scene, c: usize, out: &mut [u8]) {
-    say_copy(&mut *out, w, c);
-    show_rows(table_in(all, w, saved(c)), w, c, out);
+    let t = table_in(all, w, saved(c));
+    say_copy(&mut *out, w, c, holds_nothing(t));
+    show_rows(t, w, c, out);
 }
 
 fn show_copies(all: &[u8], w: Scene, out: &mut [u8]) {

@@ -1,14 +1,14 @@
 // One line of the script.
-use crate::ask::ask;
-use crate::ask::hand_out;
-use crate::deliver::between;
-use crate::deliver::deliver_all;
 use crate::show::show_all;
 use crate::show::show_copy;
-use crate::turn::Turn;
-use crate::turn::halted;
-use crate::turn::went;
-use crate::work::event;
+use course::ask::ask;
+use course::ask::hand_out;
+use course::deliver::between;
+use course::deliver::deliver_all;
+use course::turn::Turn;
+use course::turn::halted;
+use course::turn::went;
+use course::work::event;
 use nouns::setup::setup_ok;
 use say::value::say;
 use scene::Scene;

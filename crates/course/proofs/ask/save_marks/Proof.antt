@@ -2,8 +2,8 @@ use borrow.Author.Needs.{needs}
 use Prim.Native.Nat.{_-_}
 use mathlib.Core.Path.{_≡_}
 use lib.ListN.{length}
-use Rattle.play.proofs.ask.save_marks.Statement.{statement}
-use Rattle.play.proofs.ask.save_marks.Tie as tie
+use Rattle.course.proofs.ask.save_marks.Statement.{statement}
+use Rattle.course.proofs.ask.save_marks.Tie as tie
 
 abbrev Inv-loop : tie.InvT-loop
 Inv-loop all₀ w c list count out₀ i₀ all out i = (length all ≡ length all₀) × (length out ≡ length out₀)

@@ -1,8 +1,8 @@
 use borrow.Author.Needs.{needs}
 use mathlib.Core.Path.{_≡_}
 use lib.ListN.{length}
-use Rattle.play.proofs.deliver.deliver_all.Statement.{statement}
-use Rattle.play.proofs.deliver.deliver_all.Tie as tie
+use Rattle.course.proofs.deliver.deliver_all.Statement.{statement}
+use Rattle.course.proofs.deliver.deliver_all.Tie as tie
 
 abbrev Inv-loop : tie.InvT-loop
 Inv-loop all₀ way₀ out₀ turn₀ left₀ all way out turn left = (length all ≡ length all₀) × (length way ≡ length way₀) × (length out ≡ length out₀)

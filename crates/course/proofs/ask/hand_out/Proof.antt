@@ -4,8 +4,8 @@ use mathlib.Core.Path.{sym}
 use lib.ListN.{length}
 use lib.Seq.{length-take-le}
 use borrow.Author.Needs.{needs}
-use Rattle.play.proofs.ask.hand_out.Statement.{statement}
-use Rattle.play.proofs.ask.hand_out.Tie as tie
+use Rattle.course.proofs.ask.hand_out.Statement.{statement}
+use Rattle.course.proofs.ask.hand_out.Tie as tie
 
 went-requires : tie.Need-went-requires
 went-requires c κs = search needs

@@ -2,8 +2,8 @@ use borrow.Author.Needs.{needs}
 use Prim.Native.Nat.{_-_}
 use mathlib.Core.Path.{_≡_}
 use lib.ListN.{length}
-use Rattle.play.proofs.work.send_all.Statement.{statement}
-use Rattle.play.proofs.work.send_all.Tie as tie
+use Rattle.course.proofs.work.send_all.Statement.{statement}
+use Rattle.course.proofs.work.send_all.Tie as tie
 
 abbrev Inv-loop : tie.InvT-loop
 Inv-loop way₀ room written out₀ now₀ at₀ way out now at = (length way ≡ length way₀) × (length out ≡ length out₀)
