@@ -1,0 +1,56 @@
+// Writes parts of the picture, by their forms.
+use crate::picture::Picture;
+use forms::put_form;
+use text::put::finish;
+use text::put::put_byte;
+use text::put::put_bytes;
+use text::put::wide;
+
+// A part with up to four numbers.
+pub fn draw(p: Picture, form: &[u8], v: [usize; 4], out: &mut [u8]) {
+    if !p.writes {
+        return;
+    }
+    let numbers = [wide(v[0]), wide(v[1]), wide(v[2]), wide(v[3])];
+    let end = put_form(&mut *out, 0, form, numbers);
+    finish(&mut *out, end);
+}
+
+// A text at a place.
+pub fn write(p: Picture, x: usize, y: usize, class: &[u8], words: &[u8], out: &mut [u8]) {
+    if !p.writes {
+        return;
+    }
+    let start = put_form(
+        &mut *out,
+        0,
+        b"<text x=\"#\" y=\"#\" class=\"",
+        [wide(x), wide(y), 0, 0],
+    );
+    let named = put_bytes(&mut *out, start, class);
+    let open = put_bytes(&mut *out, named, b"\">");
+    let said = put_bytes(&mut *out, open, words);
+    let end = put_bytes(&mut *out, said, b"</text>");
+    finish(&mut *out, end);
+}
+
+fn instance(room: &mut [u8], o: usize, j: usize) -> usize {
+    put_form(room, 0, b"#.#", [wide(o), wide(j), 0, 0])
+}
+
+// The name of an instance at a place.
+pub fn write_instance(p: Picture, x: usize, y: usize, o: usize, j: usize, out: &mut [u8]) {
+    let mut room = [0u8; 48];
+    let k = instance(&mut room, o, j);
+    if 48 < k {
+        return;
+    }
+    write(p, x, y, b"name", &room[..k], out);
+}
+
+// The same as one byte after the other; the picture's own text has none that SVG takes for its own.
+pub fn put_line(line: &[u8], out: &mut [u8]) {
+    let at = put_bytes(&mut *out, 0, line);
+    let end = put_byte(&mut *out, at, b' ');
+    finish(&mut *out, end);
+}

@@ -1,0 +1,124 @@
+// What a line of a played script says, as far as it is drawn.
+use forms::fits;
+use text::words::size;
+use text::words::word_is;
+ghost use Prim.Native.Nat.{_≤_};
+ghost use lib.ListN.{length};
+
+pub enum Sight {
+    Copies(usize),
+    Leaves { id: usize, from: usize, to: usize },
+    Arrives { id: usize, to: usize },
+    Lost(usize),
+    Commits { c: usize, o: usize, j: usize },
+    HandsOut { c: usize, o: usize, j: usize },
+    Stops(usize),
+    GoesOn(usize),
+    Nothing,
+}
+
+// Where the line's head ends: at its first colon, or at its end.
+pub fn head_end(line: &[u8]) -> usize
+    ensures { λ r. ⌜ r ≤ length (now (line .entry)) ⌝ }
+{
+    let mut i = 0;
+    while i < line.len() {
+        if line[i] == b':' {
+            break;
+        }
+        i += 1;
+    }
+    i
+}
+
+fn of_message(head: &[u8]) -> Sight {
+    let mut v = [0u64; 4];
+    if fits(head, b"  message # leaves # for #", &mut v) {
+        return Sight::Leaves {
+            id: size(v[0]),
+            from: size(v[1]),
+            to: size(v[2]),
+        };
+    }
+    if fits(head, b"  message # arrives at #", &mut v) {
+        return Sight::Arrives {
+            id: size(v[0]),
+            to: size(v[1]),
+        };
+    }
+    if fits(head, b"  message # is lost on the way", &mut v) {
+        return Sight::Lost(size(v[0]));
+    }
+    if fits(head, b"  message # is lost", &mut v) {
+        return Sight::Lost(size(v[0]));
+    }
+    Sight::Nothing
+}
+
+fn of_cut(head: &[u8]) -> Sight {
+    let mut v = [0u64; 4];
+    if fits(head, b"  copy # stops", &mut v) {
+        return Sight::Stops(size(v[0]));
+    }
+    if fits(head, b"  copy # is cut off before it saves #.#", &mut v) {
+        return Sight::Stops(size(v[0]));
+    }
+    if fits(head, b"  copy # is cut off before it sends", &mut v) {
+        return Sight::Stops(size(v[0]));
+    }
+    if fits(
+        head,
+        b"  copy # is cut off after # of # marks are saved",
+        &mut v,
+    ) {
+        return Sight::Stops(size(v[0]));
+    }
+    Sight::Nothing
+}
+
+fn of_copy(head: &[u8], is_commit: bool) -> Sight {
+    let mut v = [0u64; 4];
+    if fits(head, b"  copy # hands out #.#", &mut v) {
+        return Sight::HandsOut {
+            c: size(v[0]),
+            o: size(v[1]),
+            j: size(v[2]),
+        };
+    }
+    if fits(head, b"  copy # goes on with what it saved", &mut v) {
+        return Sight::GoesOn(size(v[0]));
+    }
+    if fits(head, b"  copy # saves #.#", &mut v) {
+        return saved(size(v[0]), size(v[1]), size(v[2]), is_commit);
+    }
+    of_cut(head)
+}
+
+fn saved(c: usize, o: usize, j: usize, is_commit: bool) -> Sight {
+    if is_commit {
+        return Sight::Commits { c, o, j };
+    }
+    Sight::Nothing
+}
+
+fn of_head(head: &[u8], is_commit: bool) -> Sight {
+    let mut v = [0u64; 4];
+    if fits(head, b"copies #, numbers #", &mut v) {
+        return Sight::Copies(size(v[0]));
+    }
+    if word_is(head, 2, b"message") {
+        return of_message(head);
+    }
+    of_copy(head, is_commit)
+}
+
+pub fn sight_of(line: &[u8]) -> Sight {
+    let end = head_end(line);
+    let is_commit = word_is(line, past(end), b"committed");
+    of_head(&line[..end], is_commit)
+}
+
+// Past the colon and its space.
+pub fn past(end: usize) -> usize {
+    if end < 65536 { end + 2 } else { end }
+}
