@@ -3,7 +3,8 @@
 use Prim.Native.Nat.{ℕ, _+_, _*_}
 use mathlib.Core.Bool.{Bool, _&&_}
 use mathlib.Core.List.{List}
-use lib.Dec.{leb}
+use lib.Dec.{leb, eqb}
+use lib.ListN.{getD}
 use Rattle.num.specs.Num.{numAt}
 use Rattle.paper.specs.Logic.{allBelow}
 use Rattle.paper.specs.Sound.{rangesOk, votesOk, phasesOk, replyOk, soundRecord}
@@ -30,3 +31,7 @@ frontOk n s c o b =
 
 unfoldable pub replyPart : ℕ → ℕ → ℕ → List ℕ → ℕ → Bool
 replyPart n s c b q = opFits b (replyPlace q) && replyOk n s c (recordAt b) q
+
+-- the bytes of the set and of all replies are zero: nothing is collected, and each reply's place is as it must be then
+unfoldable pub noneCollected : List ℕ → Bool
+noneCollected b = allBelow 225 (λ i. eqb (getD b (38 + i) 0) 0)

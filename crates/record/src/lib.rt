@@ -16,7 +16,7 @@ ghost use Prim.Native.Nat.{_+_, _*_, _≤_, _<_};
 ghost use lib.ListN.{length};
 ghost use Rattle.num.specs.Num.{splice};
 ghost use Rattle.record.specs.Layout.{votesAt, votesBytes, recordAt, frontBytes, recordBytes};
-ghost use Rattle.record.specs.Part.{opFits, frontOk, replyPart, soundPart};
+ghost use Rattle.record.specs.Part.{opFits, frontOk, replyPart, noneCollected, soundPart};
 
 fn read_votes(b: &[u8], at: usize) -> [Vote; 7]
     requires { ⌜ at + 224 ≤ length (now b) ⌝ }
@@ -133,6 +133,20 @@ fn reply_ok(b: &[u8], n: usize, s: usize, c: usize, q: usize) -> bool
     same_vote(v, no_vote())
 }
 
+// Most records have nothing collected: then no reply has to be looked at.
+fn none_collected(b: &[u8]) -> bool
+    requires { ⌜ 263 ≤ length (now b) ⌝ }
+    ensures { λ r. ⌜ r ≡ noneCollected (now (b .entry)) ⌝ }
+{
+    let mut any = 0;
+    let mut i = 38;
+    while i < 263 {
+        any |= b[i];
+        i += 1;
+    }
+    any == 0
+}
+
 // The record in these bytes is sound at copy c for an instance of owner o.
 pub fn sound_part(b: &[u8], n: usize, s: usize, c: usize, o: usize) -> bool
     requires { ⌜ (263 ≤ length (now b)) × (1 ≤ n) × (n ≤ 7) × (c < 8) ⌝ }
@@ -140,6 +154,9 @@ pub fn sound_part(b: &[u8], n: usize, s: usize, c: usize, o: usize) -> bool
 {
     if !front_ok(b, n, s, c, o) {
         return false;
+    }
+    if none_collected(b) {
+        return true;
     }
     let mut left = 7;
     while 0 < left {
