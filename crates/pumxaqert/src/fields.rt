@@ -28,13 +28,13 @@ fn from16(x: u16) -> u64
     x as u64
 }
 
-fn from32(x: u32) -> u64
+pub fn from32(x: u32) -> u64
     ensures { λ r. ⌜ r ≡ x ⌝ }
 {
     x as u64
 }
 
-fn from_size(x: usize) -> u64
+pub fn from_size(x: usize) -> u64
     ensures { λ r. ⌜ r ≡ x ⌝ }
 {
     x as u64
