@@ -116,7 +116,7 @@ fn all_refusals() {
     table[at..at + 4].copy_from_slice(&4_294_967_288u32.to_le_bytes());
     let two = Instance { owner: 2, number: 1 };
     assert_eq!(s.recover(&mut table, &mut out, two), Err(Refusal::BallotsUsedUp));
-    table[at] = 1;
+    table[at] = 7;
     assert_eq!(s.judge(&table), Err(Refusal::Unsound));
     assert!(Refusal::ALL.iter().all(|&r| Refusal::from_number(r.number()) == Some(r)));
     assert_eq!((Refusal::from_number(0), Refusal::from_number(12)), (None, None));
