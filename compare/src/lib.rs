@@ -6,6 +6,7 @@ pub mod both;
 mod classify;
 pub mod demand;
 pub mod fields;
+pub mod guarded;
 pub mod linear;
 pub mod make;
 pub mod places;
