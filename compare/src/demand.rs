@@ -120,8 +120,69 @@ impl Demand {
         Ok(())
     }
 
-    /// What copy q handed out, in order, the interfering ones of each key by themselves.
+    /// How many marks copy q has saved.
     pub fn handed_out(&self, q: usize) -> usize {
         self.marks[q]
+    }
+}
+
+#[cfg(test)]
+mod tests {
+    use super::*;
+    use second::table::Vote;
+
+    const EDIT: Command = Command { op: 2, key: 7, edit: 100 };
+
+    fn committed(command: Command, deps: [u16; 3]) -> Record {
+        let mut all = [0; 7];
+        all[..3].copy_from_slice(&deps);
+        let own = Vote { voted: 0, status: COMMITTED, command, deps: all };
+        Record { own, ..Record::default() }
+    }
+
+    /// 0.1 and 1.1 of N = 3, both requested and committed, 0.1 with these dependencies.
+    fn two(deps: [u16; 3]) -> Result<Demand, String> {
+        let mut demand = Demand::new(3, 2);
+        demand.requested(0, 1, EDIT);
+        demand.requested(1, 1, EDIT);
+        let blank = Record::default();
+        demand.saved(0, 1, &blank, &committed(EDIT, deps))?;
+        demand.saved(1, 1, &blank, &committed(EDIT, [0; 3]))?;
+        Ok(demand)
+    }
+
+    #[test]
+    fn two_commands() {
+        let mut demand = two([0, 1, 0]).unwrap();
+        let blank = Record::default();
+        assert!(demand.saved(0, 1, &blank, &committed(EDIT, [0, 1, 0])).is_ok());
+        assert!(demand.saved(0, 1, &blank, &committed(EDIT, [0; 3])).is_err());
+        let no_op = committed(Command::default(), [0, 1, 0]);
+        assert!(demand.saved(0, 1, &blank, &no_op).is_err());
+        assert!(demand.saved(0, 1, &committed(EDIT, [0, 1, 0]), &no_op).is_err());
+        assert!(demand.saved(0, 1, &committed(EDIT, [0, 1, 0]), &blank).is_err());
+    }
+
+    #[test]
+    fn never_requested() {
+        let mut demand = Demand::new(3, 2);
+        let blank = Record::default();
+        assert!(demand.saved(2, 1, &blank, &committed(EDIT, [0; 3])).is_err());
+        assert!(demand.saved(2, 1, &blank, &committed(Command::default(), [0; 3])).is_ok());
+    }
+
+    #[test]
+    fn neither_covers() {
+        assert!(two([0; 3]).is_err());
+    }
+
+    #[test]
+    fn other_orders() {
+        let mut demand = two([0, 1, 0]).unwrap();
+        let marks = [(0, 1), (0, 0), (1, 1), (1, 0), (2, 0)];
+        assert!(marks.iter().all(|&(q, o)| demand.marked(q, o, 1).is_ok()));
+        assert!(demand.marked(2, 1, 1).is_err(), "the other way round than at 0 and 1");
+        assert!(demand.marked(0, 1, 1).is_err(), "twice");
+        assert!(demand.marked(0, 2, 1).is_err(), "not committed");
     }
 }

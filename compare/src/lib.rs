@@ -3,12 +3,14 @@
 #![allow(clippy::needless_range_loop)]
 
 pub mod both;
+pub mod cases;
 mod classify;
 pub mod demand;
 pub mod fields;
 pub mod guarded;
 pub mod linear;
 pub mod make;
+pub mod measure;
 pub mod places;
 pub mod probe;
 pub mod random;

@@ -187,7 +187,7 @@ pub fn damage(random: &mut Random, bytes: &mut [u8]) {
     for _ in 0..random.pick(&[1, 1, 1, 2, 3]) {
         let at = random.below(bytes.len());
         bytes[at] = match random.below(4) {
-            0 => random.next() as u8,
+            0 => random.word() as u8,
             1 => bytes[at] ^ 1 << random.below(8),
             2 => bytes[at].wrapping_add(1),
             _ => random.pick(&[0, 1, 2, 3, 4, 7, 8, 64, 255]),

@@ -132,7 +132,7 @@ fn some_call<'a>(
     match random.below(9) {
         0 => Call::Blank,
         1 => Call::Part(o, j),
-        2 => Call::Request(random.pick(&[0, 1, 2, 3, 258, usize::MAX]), 1, random.next()),
+        2 => Call::Request(random.pick(&[0, 1, 2, 3, 258, usize::MAX]), 1, random.word()),
         3 | 4 => Call::Recover(o, j),
         5 => Call::Nudge(o, j),
         6 => Call::Settled(o, j),

@@ -88,7 +88,7 @@ pub fn run(seed: u64, places: &mut Places) -> Result<(), (usize, String)> {
 impl World {
     fn new(seed: u64) -> World {
         let mut random = Random(seed);
-        random.next();
+        random.word();
         let n = random.pick(&[3, 3, 5, 5, 7]);
         let s = numbers(&mut random);
         let wild = random.chance(30);
@@ -142,7 +142,7 @@ impl World {
         if chosen < request {
             let op = self.random.between(1, 2);
             let key = self.random.below(self.pace.keys) as u32;
-            let edit = self.random.next();
+            let edit = self.random.word();
             self.event(q, Call::Request(op, key, edit))
         } else if chosen < request + recover {
             self.event(q, Call::Recover(o, j))

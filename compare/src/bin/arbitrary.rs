@@ -82,7 +82,7 @@ impl Tester {
     }
 
     fn one(&mut self, random: &mut Random, i: u64) -> Result<(), String> {
-        if i % 10 == 0 {
+        if i.is_multiple_of(10) {
             self.new_base(random);
         }
         let setup = some_setup(random, self.setup);
@@ -95,12 +95,21 @@ impl Tester {
         let before = table.clone();
         let (number, values) = self.second(setup, input, room, places, &bytes, &mut table);
         let got = c_call(setup, input, &mut self.areas);
-        self.compare(input, (number, &values), got, &table).and_then(|()| self.promise(setup, input, got, &before)).map_err(
-            |wrong| {
-                let lengths = (before.len(), room, places, bytes.len());
-                format!("{wrong}\n  {input:?} with {setup:?}, lengths of table, room, list and bytes {lengths:?}\n  second: {number} {values:?}\n  library: {got} {:?}", self.areas.values.contents())
-            },
-        )?;
+        let held = self
+            .compare(input, (number, &values), got, &table)
+            .and_then(|()| self.promise(setup, input, got, &before))
+            .and_then(|()| match self.areas.bytes.contents() == bytes {
+                true => Ok(()),
+                false => Err("the message was touched".into()),
+            });
+        if let Err(wrong) = held {
+            let lengths = [before.len(), room, places, bytes.len()];
+            let seen = self.areas.values.contents();
+            return Err(format!(
+                "{wrong}\n  {input:?} with {setup:?}; lengths of table, room, list, bytes: {lengths:?}\n  \
+                 second:  {number} {values:?}\n  library: {got} {seen:?}"
+            ));
+        }
         let refused = if matches!(input, Input::OnTable(Call::Part(..))) { 0 } else { number };
         self.answers[refused as usize] += 1;
         Ok(())
@@ -287,7 +296,7 @@ fn some_table(random: &mut Random, setup: Setup, base: &[u8]) -> Vec<u8> {
         0 => table.clear(),
         1 => table.truncate(random.below(base.len())),
         2 => table.push(0),
-        3 => table.iter_mut().for_each(|byte| *byte = random.next() as u8),
+        3 => table.iter_mut().for_each(|byte| *byte = random.word() as u8),
         4..7 => make::damage(random, &mut table),
         7..10 => {
             let at = make::place(setup, random.below(setup.n), random.between(1, setup.s));
@@ -304,7 +313,7 @@ fn some_bytes(random: &mut Random, setup: Setup, base: &[u8]) -> Vec<u8> {
     let mut bytes = bytes[..length].to_vec();
     match random.below(10) {
         0 => bytes.clear(),
-        1 => (0..random.below(64)).for_each(|at| bytes.resize(at, random.next() as u8)),
+        1 => bytes = (0..random.below(64)).map(|_| random.word() as u8).collect(),
         2 | 3 => make::damage(random, &mut bytes),
         4 => bytes.truncate(random.below(length)),
         5 => bytes.push(0),
@@ -326,7 +335,7 @@ fn some_input(random: &mut Random, setup: Setup) -> Input {
         2 => Input::OnTable(Call::Part(o, j)),
         3 => {
             let op = random.pick(&[0, 1, 2, 2, 3, 258, usize::MAX]);
-            Input::OnTable(Call::Request(op, random.below(4) as u32, random.next()))
+            Input::OnTable(Call::Request(op, random.below(4) as u32, random.word()))
         }
         4 | 5 => Input::OnTable(Call::Recover(o, j)),
         6 => Input::OnTable(Call::Nudge(o, j)),
