@@ -1,7 +1,8 @@
 //! Lent areas between guards, and the C calls on them with nothing in between.
 
 use crate::both::Call;
-use pumxaqert::{raw, Fields, Setup};
+use pumxaqert::raw::*;
+use pumxaqert::{Fields, Setup};
 
 const GUARD: usize = 64;
 
@@ -86,68 +87,63 @@ impl Input {
     }
 }
 
-/// The number that the C call returns; the part's start where there is no refusal.
+/// The number that the C call returns; for the part, its start.
 pub fn c_call(setup: Setup, input: Input, areas: &mut Areas) -> u64 {
     let Setup { n, s, copy: c } = setup;
-    let (t, t_len) = areas.table.lend();
     let (out, out_len) = areas.out.lend();
-    let (list, list_len) = areas.list.lend();
     let (bytes, bytes_len) = areas.bytes.lend();
     let (values, _) = areas.values.lend();
-    // SAFETY: each area is lent with its length, NULL only with 0; none overlaps; `values` has as many places as the
-    // call answers, and a size is as wide as a u64 on the only machine that the library runs on.
+    // SAFETY: here and below, each area is lent with its length, NULL only with 0, and none overlaps; `values` has as
+    // many places as the call answers, and a size is as wide as a u64 on the only machine that the library runs on.
+    match input {
+        Input::Read => unsafe {
+            pumxaqert_read_message(n, s, c, bytes, bytes_len, values.cast()) as u64
+        },
+        Input::Write(f) => unsafe {
+            pumxaqert_write_message(n, s, c, out, out_len, &f, values.cast()) as u64
+        },
+        Input::Message => event(setup, None, areas) as u64,
+        Input::OnTable(call) => on_table(setup, call, areas),
+    }
+}
+
+fn on_table(setup: Setup, call: Call, areas: &mut Areas) -> u64 {
+    let Setup { n, s, copy: c } = setup;
+    let (t, t_len) = areas.table.lend();
+    let (list, list_len) = areas.list.lend();
+    let (values, _) = areas.values.lend();
+    let sizes = values.cast::<usize>();
     let number = unsafe {
-        match input {
-            Input::Read => raw::pumxaqert_read_message(n, s, c, bytes, bytes_len, values.cast()),
-            Input::Write(f) => {
-                raw::pumxaqert_write_message(n, s, c, out, out_len, &f, values.cast())
-            }
-            Input::Message => raw::pumxaqert_message(
-                t,
-                t_len,
-                n,
-                s,
-                c,
-                out,
-                out_len,
-                bytes,
-                bytes_len,
-                values.cast(),
-            ),
-            Input::OnTable(call) => match call {
-                Call::Blank => raw::pumxaqert_blank(t, t_len, n, s, c),
-                Call::Judge => raw::pumxaqert_judge(t, t_len, n, s, c),
-                Call::Part(o, j) => {
-                    return raw::pumxaqert_part(t, t_len, n, s, c, o, j, values.cast()) as u64
-                }
-                Call::Request(op, key, edit) => raw::pumxaqert_request(
-                    t,
-                    t_len,
-                    n,
-                    s,
-                    c,
-                    out,
-                    out_len,
-                    op,
-                    key,
-                    edit,
-                    values.cast(),
-                ),
-                Call::Recover(o, j) => {
-                    raw::pumxaqert_recover(t, t_len, n, s, c, out, out_len, o, j, values.cast())
-                }
-                Call::Nudge(o, j) => {
-                    raw::pumxaqert_nudge(t, t_len, n, s, c, out, out_len, o, j, values.cast())
-                }
-                Call::Settled(o, j) => {
-                    raw::pumxaqert_settled(t, t_len, n, s, c, o, j, values.cast())
-                }
-                Call::HandOut(_) => {
-                    raw::pumxaqert_hand_out(t, t_len, n, s, c, list, list_len, values.cast())
-                }
-                Call::Message(_) => unreachable!("a message stands in its area"),
-            },
+        match call {
+            Call::Part(o, j) => return pumxaqert_part(t, t_len, n, s, c, o, j, sizes) as u64,
+            Call::Blank => pumxaqert_blank(t, t_len, n, s, c),
+            Call::Judge => pumxaqert_judge(t, t_len, n, s, c),
+            Call::Settled(o, j) => pumxaqert_settled(t, t_len, n, s, c, o, j, values.cast()),
+            Call::HandOut(_) => pumxaqert_hand_out(t, t_len, n, s, c, list, list_len, sizes),
+            _ => event(setup, Some(call), areas),
         }
     };
     number as u64
+}
+
+/// The calls with room for messages; none is the message in its area.
+fn event(setup: Setup, call: Option<Call>, areas: &mut Areas) -> u32 {
+    let Setup { n, s, copy: c } = setup;
+    let (t, t_len) = areas.table.lend();
+    let (out, out_len) = areas.out.lend();
+    let (bytes, bytes_len) = areas.bytes.lend();
+    let v = areas.values.lend().0.cast();
+    unsafe {
+        match call {
+            None => pumxaqert_message(t, t_len, n, s, c, out, out_len, bytes, bytes_len, v),
+            Some(Call::Request(op, key, edit)) => {
+                pumxaqert_request(t, t_len, n, s, c, out, out_len, op, key, edit, v)
+            }
+            Some(Call::Recover(o, j)) => {
+                pumxaqert_recover(t, t_len, n, s, c, out, out_len, o, j, v)
+            }
+            Some(Call::Nudge(o, j)) => pumxaqert_nudge(t, t_len, n, s, c, out, out_len, o, j, v),
+            Some(other) => unreachable!("{other:?} has no room for messages"),
+        }
+    }
 }

@@ -15,6 +15,7 @@ pub mod places;
 pub mod probe;
 pub mod random;
 pub mod shapes;
+pub mod stack;
 pub mod threads;
 pub mod world;
 

@@ -39,11 +39,20 @@ fn on_the_one_before(n: usize, o: usize, j: usize) -> [u16; 7] {
     deps
 }
 
+/// Each entry on its own, from the instance's number.
+fn random_table(setup: Setup, entry: impl Fn(&mut Random, usize) -> usize) -> Vec<u8> {
+    let mut random = Random(7);
+    table(setup, |_, j| {
+        let mut deps = [0; 7];
+        deps[..setup.n].fill_with(|| entry(&mut random, j).min(setup.s) as u16);
+        deps
+    })
+}
+
 /// Full tables by the name of their shape.
 pub fn orders(setup: Setup) -> Vec<(&'static str, Vec<u8>)> {
     let Setup { n, s, .. } = setup;
     let last = s as u16;
-    let mut random = Random(7);
     let cycle = |o, j| match (o, j) {
         (0, 1) => {
             let mut deps = [0; 7];
@@ -59,26 +68,15 @@ pub fn orders(setup: Setup) -> Vec<(&'static str, Vec<u8>)> {
         }
         deps
     };
-    let near = |_, j: usize| {
-        let mut deps = [0; 7];
-        for entry in deps.iter_mut().take(n) {
-            *entry = (j + random.below(3)).saturating_sub(2).min(s) as u16;
-        }
-        deps
-    };
-    let random_tables = table(setup, near);
-    let mut anything = Random(8);
-    let any = |_, _| {
-        let mut deps = [0; 7];
-        deps.iter_mut().take(n).for_each(|entry| *entry = anything.between(0, s) as u16);
-        deps
-    };
     vec![
         ("chain", table(setup, |o, j| on_the_one_before(n, o, j))),
         ("one cycle", table(setup, cycle)),
         ("no edges", full(setup)),
-        ("random", table(setup, any)),
-        ("random, near in number", random_tables),
+        ("random", random_table(setup, |random, _| random.between(0, s))),
+        (
+            "random, near in number",
+            random_table(setup, |random, j| (j + random.below(3)).saturating_sub(2)),
+        ),
         ("rows against the order", table(setup, against)),
     ]
 }

@@ -3,7 +3,7 @@
 use std::sync::atomic::{AtomicBool, AtomicU64, Ordering};
 use std::sync::Mutex;
 
-/// Does the jobs `0..count`, each thread with a state of its own, and hands back the states. The first failure stops all.
+/// Does the jobs `0..count`, each thread with a state of its own, and hands the states back. A failure stops all.
 pub fn over_all<State: Send, Failure: Send>(
     count: u64,
     start: impl Fn() -> State + Sync,

@@ -1,7 +1,7 @@
 //! One random run of several copies, on both sides at once.
 //!
-//! A clean run holds to docs/HOST.md, with loss, repetition, reordering and cuts, and demand 3 is watched. In a wild run
-//! damaged and invented messages are handed over and tables begin as any sound ones; both sides must still agree.
+//! A clean run holds to docs/HOST.md, with loss, repetition, reordering and cuts, and demand 3 is watched. In a wild
+//! run damaged and invented messages are handed over and tables begin as any sound ones; both sides must still agree.
 
 use crate::both::{Answer, Both, Call, Pair};
 use crate::demand::Demand;

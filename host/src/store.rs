@@ -1,7 +1,7 @@
 //! One copy's files: its table, a journal of the record being saved, and the order in which it handed edits out.
 //!
 //! A record is saved whole or not at all: first it goes into the journal with a check sum, then into the table. A cut
-//! while the journal is written leaves a bad sum, and the save did not happen; a cut after that is made good on opening.
+//! while the journal is written leaves a bad sum: the save did not happen. A cut after that is made good on opening.
 
 use std::fs::{File, OpenOptions};
 use std::io::{Error, ErrorKind, Read, Result, Seek, SeekFrom, Write};

@@ -85,7 +85,7 @@ impl Refusal {
     }
 }
 
-/// What an event did: its instance, and how many bytes at the front of the room are to be sent once the record is saved.
+/// What an event did: its instance, and how many bytes at the front of the room leave once the record is saved.
 #[derive(Clone, Copy, Debug, PartialEq, Eq)]
 pub struct Event {
     pub instance: Instance,

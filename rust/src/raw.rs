@@ -1,5 +1,5 @@
-//! The C calls as `include/pumxaqert.h` declares them. The wrapper is in the crate's root; these are for who has to hand
-//! over what it cannot express.
+//! The C calls as `include/pumxaqert.h` declares them. The wrapper is in the crate's root; these are for who has to
+//! hand over what it cannot express.
 
 extern "C" {
     pub fn pumxaqert_blank(table: *mut u8, table_len: usize, n: usize, s: usize, c: usize) -> u32;

@@ -1,6 +1,6 @@
-//! arbitrary COUNT [SEED]: so many arbitrary inputs to the C calls: any bytes, lengths and arguments, NULL with length 0,
-//! tables blank, sound, damaged or of any bytes. Each must end with an answer or a number of the paper, the same as the
-//! second program's, with all memory outside the promise as it was.
+//! arbitrary COUNT [SEED]: so many arbitrary inputs to the C calls: any bytes, lengths and arguments, NULL with length
+//! 0, tables blank, sound, damaged or of any bytes. Each must end with an answer or a number of the paper, the same as
+//! the second program's, with all memory outside the promise as it was.
 
 use compare::both::{second_side, Answer, Call, Lent, LIST, OUT};
 use compare::guarded::{c_call, Area, Areas, Input};

@@ -4,6 +4,7 @@
 use compare::both::{library_side, second_side, Call, Lent, LIST, OUT};
 use compare::cases::{self, Case};
 use compare::measure::Rounds;
+use compare::stack::Stack;
 use compare::{fields, linear, make, shapes, UNTOUCHED, UNTOUCHED_CODE};
 use pumxaqert::{raw, Setup};
 use second::table::RECORD_LEN;
@@ -25,6 +26,7 @@ fn main() {
     messages(&rounds);
     orders(&rounds);
     growth(&rounds);
+    stack();
 }
 
 /// The value counts as used.
@@ -156,7 +158,8 @@ fn messages(rounds: &Rounds) {
         "Nack",
     ];
     println!("\n## Messages: the C calls with their numbers, the second program with its struct\n");
-    println!("| kind | read: library | second | ratio (at most 1) | wrapper | write: library | second | ratio (at most 1) | wrapper |");
+    let heads = "library | second | ratio (at most 1) | wrapper";
+    println!("| kind | read: {heads} | write: {heads} |");
     println!("|---|---|---|---|---|---|---|---|---|");
     for (kind, name) in (1u8..).zip(NAMES) {
         let (from, owner, ballot) = match kind {
@@ -210,7 +213,8 @@ fn message(rounds: &Rounds, m: &second::Message) -> [[f64; 3]; 2] {
 
 fn orders(rounds: &Rounds) {
     println!("\n## Settled and hand-out, 448 instances\n");
-    println!("| shape | settled: library | second | ratio | hand-out: library | second | ratio (at most 1.5) | linear | ratio (under 5) |");
+    let hand_outs = "library | second | ratio (at most 1.5) | linear | ratio (under 5)";
+    println!("| shape | settled: library | second | ratio | hand-out: {hand_outs} |");
     println!("|---|---|---|---|---|---|---|---|---|");
     for (name, table) in shapes::orders(LARGEST) {
         let settled = settled(rounds, &table);
@@ -291,4 +295,40 @@ fn growth(rounds: &Rounds) {
             library / (7 * s) as f64
         );
     }
+}
+
+/// The C calls' greatest depth over the benchmark's inputs; the few frames between are measured and taken off.
+fn stack() {
+    println!("\n## Greatest depth of the stack, N = 7, S = 64\n");
+    println!("| calls | library | second |\n|---|---|---|");
+    let events: Vec<Case> =
+        [false, true].iter().flat_map(|&full| cases::events(LARGEST, full)).collect();
+    let mut inputs: Vec<(Call, &[u8])> =
+        events.iter().map(|c| (c.event.call(), &c.table[..])).collect();
+    depth_line("events", &inputs);
+    let orders = shapes::orders(LARGEST);
+    let last = Call::Settled(6, 64);
+    inputs = orders.iter().map(|(_, table)| (last, &table[..])).collect();
+    depth_line("settled", &inputs);
+    inputs = orders.iter().map(|(_, table)| (Call::HandOut(448), &table[..])).collect();
+    depth_line("hand-out", &inputs);
+    inputs = orders.iter().map(|(_, table)| (Call::Judge, &table[..])).collect();
+    depth_line("judge", &inputs);
+}
+
+fn depth_line(name: &str, inputs: &[(Call, &[u8])]) {
+    let (mut stack, mut memory) = (Stack::default(), lent());
+    let nothing = stack.depth(&mut || {});
+    let mut depths = [0, 0];
+    for &(call, table) in inputs {
+        let mut t = table.to_vec();
+        for (side, greatest) in [library_side, second_side].into_iter().zip(&mut depths) {
+            let depth = stack.depth(&mut || {
+                t.copy_from_slice(table);
+                keep(side(LARGEST, OUT, call, &mut t, &mut memory));
+            });
+            *greatest = depth.saturating_sub(nothing).max(*greatest);
+        }
+    }
+    println!("| {name} | {} bytes | {} bytes |", depths[0], depths[1]);
 }

@@ -1,5 +1,5 @@
-//! A stand-in for the proved library: every call of include/pumxaqert.h, answered by `second`. It exists to show that the
-//! comparison catches a difference: PUMXAQERT_PLANTED names one of those in `planted`; 0, or nothing, is none.
+//! A stand-in for the proved library: every call of include/pumxaqert.h, answered by `second`. It exists to show that
+//! the comparison catches a difference: PUMXAQERT_PLANTED names one of those in `planted`; 0, or nothing, is none.
 // The header says what each call is lent.
 #![allow(clippy::missing_safety_doc, clippy::too_many_arguments)]
 

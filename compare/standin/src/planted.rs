@@ -1,4 +1,4 @@
-//! Differences that can be planted: the paper's "errors that look reasonable", and one slip for each kind of lent memory.
+//! Differences that can be planted: the paper's "errors that look reasonable", and slips in each kind of lent memory.
 
 use second::table::{Record, Vote, RECORD_LEN};
 use second::{read_message, record_part, Event, Message};
@@ -117,21 +117,8 @@ fn changed_before(
                 record.own = Vote::default();
             }
         }
-        AgreeAmongThemselves if m.kind == 2 && record.phase == 2 && m.ballot == 0 => {
-            let agreeing = |r: &Record| {
-                (0..7).filter(|&q| r.set >> q & 1 == 1 && r.replies[q].deps == m.deps).count()
-            };
-            if record.joined == 0
-                && record.set >> m.from & 1 == 0
-                && agreeing(&record) + 1 >= 2 * f - 1
-            {
-                for q in 0..7 {
-                    if record.set >> q & 1 == 1 && record.replies[q].deps == m.deps {
-                        record.replies[q].deps = own.deps;
-                    }
-                }
-                m.deps = own.deps;
-            }
+        AgreeAmongThemselves if m.kind == 2 && record.phase == 2 => {
+            count_agreeing(f, &mut m, &mut record);
         }
         OwnerAmongReplies if m.kind == 7 && record.phase == 1 => {
             take_matching(f, &mut m, &mut record);
@@ -142,6 +129,21 @@ fn changed_before(
     let mut room = [0; 256];
     let length = second::write_message(setup.n, setup.s, setup.copy, &mut room, &m).ok()?;
     Some(room[..length].to_vec())
+}
+
+/// With 2F-1 replies that agree at ballot 0, they are made to agree with what was sent.
+fn count_agreeing(f: usize, m: &mut Message, record: &mut Record) {
+    if m.ballot != 0 || record.joined != 0 || record.set >> m.from & 1 == 1 {
+        return;
+    }
+    let (set, deps) = (record.set, m.deps);
+    let inside = |q: usize| set >> q & 1 == 1;
+    let replies = record.replies.iter_mut().enumerate().filter(|(q, _)| inside(*q));
+    let agreeing: Vec<&mut Vote> = replies.map(|(_, r)| r).filter(|r| r.deps == deps).collect();
+    if agreeing.len() + 1 >= 2 * f - 1 {
+        agreeing.into_iter().for_each(|r| r.deps = record.own.deps);
+        m.deps = record.own.deps;
+    }
 }
 
 /// With F of status 2 at ballot 0 and nothing higher, the lowest of them is made to count as accepted.
@@ -157,13 +159,12 @@ fn take_matching(f: usize, m: &mut Message, record: &mut Record) {
     };
     let inside = || (0..7u8).filter(|&q| set >> q & 1 == 1);
     let higher = inside().any(|q| vote(q).0 > 0 || vote(q).1 == 3);
-    let matching = inside().filter(|&q| vote(q).1 == 2);
-    if higher || matching.clone().count() < f {
+    let matching = inside().filter(|&q| vote(q).1 == 2).count();
+    if higher || matching < f {
         return;
     }
-    // The own reply is the record's and stays; another one of them will do.
-    if let Some(q) = matching.clone().find(|&q| q == m.from) {
-        debug_assert_eq!(q, m.from);
+    // The replies that are stored must stay sound; the one that has just come will do.
+    if m.status == 2 {
         m.status = 3;
     }
 }
