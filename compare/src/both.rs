@@ -1,8 +1,9 @@
 //! One call on both sides: answers, outgoing bytes, lists and tables are compared to the last byte.
 
-use crate::fields;
+use crate::{fields, make};
 use crate::{UNTOUCHED, UNTOUCHED_CODE};
 use pumxaqert::{raw, Command, Event, Instance, Op, Refusal, Settling, Setup};
+use second::table::{HEAD_LEN, RECORD_LEN};
 use second::Settled;
 
 /// A little more than any event needs, so that writing past 256 would show.
@@ -103,11 +104,13 @@ impl Both {
         } else {
             return Ok(ours);
         };
-        let at = tables.ours.iter().zip(&tables.theirs).position(|(a, b)| a != b);
-        Err(format!(
-            "{differs} differ in {call:?} with {setup:?}, room {room}\n  second:  {ours:?}\n  library: {theirs:?}\n  \
-             first table byte that differs: {at:?}"
-        ))
+        let mut text = format!("{differs} differ in {call:?} with {setup:?}, room {room}\n");
+        text += &format!("  second:  {ours:?}\n  library: {theirs:?}");
+        if differs == "outgoing bytes" {
+            let [a, b] = [&self.ours.out, &self.theirs.out];
+            text += &format!("\n  second:  {a:02x?}\n  library: {b:02x?}");
+        }
+        Err(text + &first_byte(setup, tables))
     }
 
     /// The message as the copy reads it, where both sides agree; written back by both it must be the same bytes.
@@ -138,6 +141,22 @@ impl Both {
         }
         Ok(ours)
     }
+}
+
+/// Where the tables first differ, and that record on both sides.
+fn first_byte(setup: Setup, tables: &Pair) -> String {
+    let Some(at) = tables.ours.iter().zip(&tables.theirs).position(|(a, b)| a != b) else {
+        return String::new();
+    };
+    if at < HEAD_LEN {
+        return format!("\n  the tables differ first at byte {at}");
+    }
+    let (record, byte) = ((at - HEAD_LEN) / RECORD_LEN, (at - HEAD_LEN) % RECORD_LEN);
+    let (o, j) = (record / setup.s, record % setup.s + 1);
+    let [a, b] = [&tables.ours, &tables.theirs].map(|t| make::get(t, make::place(setup, o, j)));
+    format!(
+        "\n  the tables differ first at byte {byte} of {o}.{j}\n  second:  {a:?}\n  library: {b:?}"
+    )
 }
 
 pub fn second_side(setup: Setup, room: usize, call: Call, t: &mut [u8], lent: &mut Lent) -> Answer {

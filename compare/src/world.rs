@@ -187,7 +187,8 @@ impl World {
     fn event(&mut self, q: usize, call: Call) -> Result<(), String> {
         self.places.calls += 1;
         let copy = &mut self.copies[q];
-        let (o, j, written) = match self.both.call(copy.setup, ROOM, call, &mut copy.tables)? {
+        let answer = self.both.call(copy.setup, ROOM, call, &mut copy.tables);
+        let (o, j, written) = match answer.map_err(|wrong| wrong + &self.before(q, call))? {
             Answer::Refused(number) => return self.refused(q, number, call),
             Answer::Event(o, j, written) => (o, j, written),
             other => return Err(format!("{other:?} is no event's answer")),
@@ -214,6 +215,22 @@ impl World {
             self.demand.saved(o, j, &before, &after)?;
         }
         self.send(q, sent)
+    }
+
+    /// The record that a failed event met.
+    fn before(&self, q: usize, call: Call) -> String {
+        let Copy { setup, saved, .. } = &self.copies[q];
+        let (o, j) = match call {
+            Call::Recover(o, j) | Call::Nudge(o, j) => (o, j),
+            Call::Message(&[_, _, _, owner, low, high, ..]) => {
+                (owner as usize, u16::from_le_bytes([low, high]) as usize)
+            }
+            _ => return String::new(),
+        };
+        if o >= self.n || !(1..=self.s).contains(&j) {
+            return String::new();
+        }
+        format!("\n  before:  {:?}", make::get(saved, make::place(*setup, o, j)))
     }
 
     fn refused(&mut self, q: usize, number: u32, call: Call) -> Result<(), String> {

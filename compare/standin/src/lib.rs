@@ -58,7 +58,9 @@ pub unsafe extern "C" fn pumxaqert_judge(
     s: usize,
     c: usize,
 ) -> u32 {
-    second::judge_table(lent(table, table_len), n, s, c).err().unwrap_or(0) as u32
+    let t = lent(table, table_len);
+    let seen = planted::before_judge(Planted::now(), t);
+    second::judge_table(seen.as_deref().unwrap_or(t), n, s, c).err().unwrap_or(0) as u32
 }
 
 #[no_mangle]
@@ -147,7 +149,11 @@ pub unsafe extern "C" fn pumxaqert_nudge(
     let (t, out) = (lent_mut(table, table_len), lent_mut(out, out_len));
     let answer = second::nudge(t, n, s, c, out, owner, number);
     planted::after_nudge(Planted::now(), &answer, out);
-    answered(answer, &mut *values)
+    let number = answered(answer, &mut *values);
+    if number != 0 && Planted::now() == Planted::ValuesLeft {
+        *values = [owner, number as usize, 0];
+    }
+    number
 }
 
 #[no_mangle]
@@ -188,6 +194,9 @@ pub unsafe extern "C" fn pumxaqert_hand_out(
     let answer = second::hand_out(t, n, s, c, list);
     *codes = answer.unwrap_or(0);
     planted::after_hand_out(Planted::now(), *codes, list);
+    if Planted::now() == Planted::PastTheEnd && list_len > 0 {
+        list.as_mut_ptr().add(list_len).write(0);
+    }
     answer.err().unwrap_or(0) as u32
 }
 

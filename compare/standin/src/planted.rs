@@ -23,11 +23,17 @@ pub enum Planted {
     MarkForgotten,
     /// A refused Commit leaves its edit behind.
     RefusedButStored,
+    /// A refused nudge leaves values behind.
+    ValuesLeft,
+    /// The hand-out writes one place past the list.
+    PastTheEnd,
+    /// The judge does not look at a record's last byte.
+    LastByteUnjudged,
 }
 
 use Planted::*;
 
-const ALL: [Planted; 9] = [
+const ALL: [Planted; 12] = [
     Nothing,
     JoinedAsVoted,
     WorkedOutAnew,
@@ -37,6 +43,9 @@ const ALL: [Planted; 9] = [
     ListTouched,
     MarkForgotten,
     RefusedButStored,
+    ValuesLeft,
+    PastTheEnd,
+    LastByteUnjudged,
 ];
 
 impl Planted {
@@ -66,8 +75,9 @@ pub fn message(
 ) -> Result<Event, u8> {
     let Setup { n, s, copy } = setup;
     let found = match planted {
-        Nothing | RoomTouched | ListTouched => None,
-        _ => at_message(setup, t, bytes),
+        JoinedAsVoted | WorkedOutAnew | AgreeAmongThemselves | OwnerAmongReplies
+        | MarkForgotten | RefusedButStored => at_message(setup, t, bytes),
+        _ => None,
     };
     let Some((m, at, record)) = found else {
         return second::message(t, n, s, copy, out, bytes);
@@ -204,4 +214,12 @@ pub fn after_hand_out(planted: Planted, codes: usize, list: &mut [u16]) {
             *place = 0;
         }
     }
+}
+
+/// The table as the judge then sees it: the last byte of its last record is nothing.
+pub fn before_judge(planted: Planted, t: &[u8]) -> Option<Vec<u8>> {
+    let last = t.len().checked_sub(1).filter(|_| planted == LastByteUnjudged)?;
+    let mut seen = t.to_vec();
+    seen[last] = 0;
+    Some(seen)
 }
