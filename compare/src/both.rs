@@ -71,16 +71,22 @@ pub struct Both {
     pub ours: Lent,
     /// The library's.
     theirs: Lent,
+    /// The library stands on both sides: nothing is compared, and only what is asked of a run by itself can fail.
+    alone: bool,
 }
 
 impl Default for Both {
     fn default() -> Both {
-        let lent = || Lent { out: [UNTOUCHED; OUT], list: [UNTOUCHED_CODE; LIST] };
-        Both { ours: lent(), theirs: lent() }
+        Both::new(false)
     }
 }
 
 impl Both {
+    pub fn new(alone: bool) -> Both {
+        let lent = || Lent { out: [UNTOUCHED; OUT], list: [UNTOUCHED_CODE; LIST] };
+        Both { ours: lent(), theirs: lent(), alone }
+    }
+
     /// The answer, where both sides agree on it and on every byte.
     pub fn call(
         &mut self,
@@ -91,7 +97,8 @@ impl Both {
     ) -> Result<Answer, String> {
         self.ours.clear();
         self.theirs.clear();
-        let ours = second_side(setup, room, call, &mut tables.ours, &mut self.ours);
+        let side = if self.alone { library_side } else { second_side };
+        let ours = side(setup, room, call, &mut tables.ours, &mut self.ours);
         let theirs = library_side(setup, room, call, &mut tables.theirs, &mut self.theirs);
         let differs = if ours != theirs {
             "answers"

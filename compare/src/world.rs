@@ -47,6 +47,8 @@ pub struct World {
     pace: Pace,
     pub copies: Vec<Copy>,
     flying: Vec<Letter>,
+    /// A copy that no message reaches or leaves for a while; none has this number where it is N or more.
+    apart: usize,
     demand: Demand,
     pub both: Both,
     pub random: Random,
@@ -58,10 +60,10 @@ fn pace(random: &mut Random) -> Pace {
     Pace {
         keys: random.pick(&[1, 1, 2, 3]),
         loss: random.pick(&[0, 0, 5, 20, 40]),
-        repeat: random.pick(&[0, 5, 20]),
+        repeat: random.pick(&[0, 5, 20, 50]),
         cut: random.pick(&[0, 0, 3, 10]),
         request: random.pick(&[4, 10, 25]),
-        recover: random.pick(&[0, 1, 2, 5]),
+        recover: random.pick(&[0, 1, 3, 10, 25]),
         nudge: random.pick(&[1, 3, 10]),
         window: random.pick(&[1, 4, 1000]),
     }
@@ -78,15 +80,15 @@ fn numbers(random: &mut Random) -> usize {
 }
 
 /// The run of this seed: what it reached, or the step at which something went wrong and what.
-pub fn run(seed: u64, places: &mut Places) -> Result<(), (usize, String)> {
-    let mut world = World::new(seed);
+pub fn run(seed: u64, alone: bool, places: &mut Places) -> Result<(), (usize, String)> {
+    let mut world = World::new(seed, alone);
     let ended = world.play();
     places.add(&world.places);
     ended.map_err(|wrong| (world.step, wrong))
 }
 
 impl World {
-    fn new(seed: u64) -> World {
+    fn new(seed: u64, alone: bool) -> World {
         let mut random = Random(seed);
         random.word();
         let n = random.pick(&[3, 3, 5, 5, 7]);
@@ -110,8 +112,9 @@ impl World {
             pace: pace(&mut random),
             copies,
             flying: Vec::new(),
+            apart: n,
             demand: Demand::new(n, s),
-            both: Both::default(),
+            both: Both::new(alone),
             random,
             places,
             step: 0,
@@ -122,6 +125,9 @@ impl World {
         let steps = self.random.between(40, 100 + 20 * self.n * self.s.min(8));
         for _ in 0..steps {
             self.step += 1;
+            if self.random.chance(2) {
+                self.apart = self.random.below(2 * self.n);
+            }
             self.one_step()?;
             if self.random.chance(4) {
                 let q = self.random.below(self.n);
@@ -285,7 +291,8 @@ impl World {
                 return Err(format!("copy {to} refuses {number} what copy {q} sent: {sent:02x?}"));
             }
             last = Some(to);
-            if self.random.chance(if cut { 60 } else { self.pace.loss }) {
+            let apart = self.apart == q || self.apart == to;
+            if apart || self.random.chance(if cut { 60 } else { self.pace.loss }) {
                 self.places.reach(Place::Lost);
             } else {
                 let mut bytes = [0; 42];
@@ -372,6 +379,7 @@ impl World {
     /// out, and as much of it.
     fn drain(&mut self) -> Result<(), String> {
         self.pace = Pace { loss: 0, repeat: 0, cut: 0, window: 1, ..self.pace };
+        self.apart = self.n;
         self.deliver_all()?;
         for (o, j) in self.begun() {
             // A Nack tells copy 0 of one higher ballot; the next try may meet another, but never the same.

@@ -1,5 +1,6 @@
 //! runs COUNT [SEED]: so many random runs on both sides; run i has the seed SEED + i (SEED is 1 if left out).
 //! runs COUNT SEED only: the same, and it does not matter which places are reached.
+//! runs COUNT SEED alone: the library stands on both sides, so that only demand 3 can fail.
 //!
 //! A difference, or a break of demand 3, prints the run's seed and step and what differed.
 
@@ -15,18 +16,20 @@ fn main() -> ExitCode {
         None => left_out,
     };
     let (Some(count), Some(seed)) = (number(0, None), number(1, Some(1))) else {
-        eprintln!("usage: runs COUNT [SEED [only]]");
+        eprintln!("usage: runs COUNT [SEED [only | alone]]");
         return ExitCode::from(2);
     };
+    let alone = words.get(2).is_some_and(|word| word == "alone");
     let begun = Instant::now();
     let job = |places: &mut Places, i: u64| {
         let seed = seed.wrapping_add(i);
-        world::run(seed, places).map_err(|(step, wrong)| (seed, step, wrong))
+        world::run(seed, alone, places).map_err(|(step, wrong)| (seed, step, wrong))
     };
     let states = match threads::over_all(count, Places::default, job) {
         Ok(states) => states,
         Err((seed, step, wrong)) => {
-            println!("seed {seed}, step {step}: {wrong}\nagain: runs 1 {seed} only");
+            let word = if alone { "alone" } else { "only" };
+            println!("seed {seed}, step {step}: {wrong}\nagain: runs 1 {seed} {word}");
             return ExitCode::FAILURE;
         }
     };

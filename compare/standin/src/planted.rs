@@ -123,7 +123,7 @@ fn changed_before(
     let own = record.own;
     match planted {
         WorkedOutAnew if m.kind == 1 && matches!(own.status, 1 | 2) => {
-            if own.voted == m.ballot {
+            if own.voted == m.ballot && record.joined == m.ballot {
                 record.own = Vote::default();
             }
         }
@@ -190,9 +190,11 @@ fn changed_after(
 ) {
     match (planted, answer) {
         (JoinedAsVoted, Ok(event)) if event.written > 0 && out[0] == 7 => {
-            // What was joined before this Prepare: the one ballot where document 003 has the two meet.
+            // What was joined before this Prepare; a reply must still be valid to do harm.
             let joined: [u8; 4] = before[..4].try_into().expect("four bytes");
-            out[10..14].copy_from_slice(&joined);
+            if out[14] > 0 && u32::from_le_bytes(joined) < m.ballot {
+                out[10..14].copy_from_slice(&joined);
+            }
         }
         (MarkForgotten, Ok(_)) if m.kind == 5 => t[at + 36] = 0,
         (RefusedButStored, Err(10)) => t[at + 14] ^= 1,
