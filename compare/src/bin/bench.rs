@@ -17,7 +17,8 @@ fn main() {
     let quick = std::env::args().nth(1).is_some_and(|word| word == "quick");
     let rounds = match quick {
         true => Rounds { rounds: 5, each: Duration::from_micros(100) },
-        false => Rounds { rounds: 31, each: Duration::from_millis(1) },
+        // Short turns and many of them: what another program takes of the processor then falls into few of them.
+        false => Rounds { rounds: 101, each: Duration::from_micros(200) },
     };
     limits(&rounds);
     largest(&rounds);
@@ -35,6 +36,7 @@ fn keep<T>(value: T) {
 }
 
 /// One load and one add a byte: an empty piece of assembly holds the sum, so that no two bytes are added at once.
+#[inline(never)]
 fn sum_by_bytes(t: &[u8]) -> u64 {
     let mut sum = 0u64;
     for &byte in t {
@@ -48,11 +50,13 @@ fn sum_by_bytes(t: &[u8]) -> u64 {
 }
 
 /// The plain loop, which the compiler adds many bytes at a time.
+#[inline(never)]
 fn sum_by_vectors(t: &[u8]) -> u64 {
     t.iter().map(|&byte| byte as u64).sum()
 }
 
 /// Each byte goes through memory of its own on its way.
+#[inline(never)]
 fn sum_by_black_box(t: &[u8]) -> u64 {
     t.iter().map(|&byte| black_box(byte) as u64).sum()
 }
@@ -82,35 +86,34 @@ fn lent() -> Lent {
     Lent { out: [UNTOUCHED; OUT], list: [UNTOUCHED_CODE; LIST] }
 }
 
-/// Library, second program: the event alone. Putting the record back is measured too and taken off both.
-fn event(rounds: &Rounds, case: &Case) -> [f64; 2] {
-    let (mut ours, mut theirs, mut bare) =
-        (case.table.clone(), case.table.clone(), case.table.clone());
+/// Library, second program, byte sum: the event alone. Putting the record back is measured too and taken off both.
+fn event(rounds: &Rounds, case: &Case) -> [f64; 3] {
+    let mut tables = vec![case.table.clone(); 3];
+    let [ours, theirs, bare] = &mut tables[..] else { unreachable!("three tables") };
     let (mut a, mut b) = (lent(), lent());
     let (at, end) = (case.at, case.at + RECORD_LEN);
     let (setup, call) = (case.setup, case.event.call());
     let times = rounds.medians(&mut [
         &mut || {
-            black_box(library_side(setup, OUT, black_box(call), &mut theirs, &mut a));
+            keep(library_side(setup, OUT, black_box(call), theirs, &mut a));
             theirs[at..end].copy_from_slice(black_box(&case.record));
         },
         &mut || {
-            black_box(second_side(setup, OUT, black_box(call), &mut ours, &mut b));
+            keep(second_side(setup, OUT, black_box(call), ours, &mut b));
             ours[at..end].copy_from_slice(black_box(&case.record));
         },
-        &mut || black_box(&mut bare)[at..end].copy_from_slice(black_box(&case.record)),
+        &mut || black_box(&mut *bare)[at..end].copy_from_slice(black_box(&case.record)),
+        &mut || keep(sum_by_bytes(black_box(&case.table))),
     ]);
-    [times[0] - times[2], times[1] - times[2]]
+    [times[0] - times[2], times[1] - times[2], times[3]]
 }
 
 fn largest(rounds: &Rounds) {
-    let t = shapes::full(LARGEST);
-    let sum = rounds.medians(&mut [&mut || keep(sum_by_bytes(black_box(&t)))])[0];
     println!("\n## Events on a full table of N = 7, S = 64\n");
     println!("| event | library | second | ratio (at most 1.1) | of the byte sum (at most 2) |");
     println!("|---|---|---|---|---|");
     for case in cases::events(LARGEST, true) {
-        line(case.name, event(rounds, &case), sum);
+        line(case.name, event(rounds, &case));
     }
     // The table that is dearest to judge.
     let busy = cases::busy(LARGEST);
@@ -118,10 +121,10 @@ fn largest(rounds: &Rounds) {
     let at = last.at;
     last.table = busy;
     last.table[at..at + RECORD_LEN].copy_from_slice(&last.record);
-    line("PreAccept, all records in a phase with all replies", event(rounds, &last), sum);
+    line("PreAccept, all records in a phase with all replies", event(rounds, &last));
 }
 
-fn line(name: &str, [library, second]: [f64; 2], sum: f64) {
+fn line(name: &str, [library, second, sum]: [f64; 3]) {
     let (ratio, of_sum) = (library / second, library / sum);
     println!("| {name} | {} | {} | {ratio:.2} | {of_sum:.2} |", time(library), time(second));
 }
@@ -139,7 +142,7 @@ fn sizes(rounds: &Rounds, full: bool) {
     for at in 0..all[0].len() {
         print!("| {} |", all[0][at].name);
         for cases in &all {
-            let [library, second] = event(rounds, &cases[at]);
+            let [library, second, _] = event(rounds, &cases[at]);
             print!(" {}, {:.2} |", time(library), library / second);
         }
         println!();
@@ -157,10 +160,10 @@ fn messages(rounds: &Rounds) {
         "PrepareOK",
         "Nack",
     ];
-    println!("\n## Messages: the C calls with their numbers, the second program with its struct\n");
-    let heads = "library | second | ratio (at most 1) | wrapper";
+    println!("\n## Messages, N = 7, S = 64: the C calls, and the second program to and from the same numbers\n");
+    let heads = "library | second | ratio (at most 1) | second, its own struct | wrapper";
     println!("| kind | read: {heads} | write: {heads} |");
-    println!("|---|---|---|---|---|---|---|---|---|");
+    println!("|---|{}", "---|".repeat(10));
     for (kind, name) in (1u8..).zip(NAMES) {
         let (from, owner, ballot) = match kind {
             6 => (2, 1, 10),
@@ -168,47 +171,47 @@ fn messages(rounds: &Rounds) {
             _ => (1, (kind % 2) as usize, 0),
         };
         let [read, write] = message(rounds, &cases::message(kind, from, owner, 64, ballot));
-        let cells = |[library, second, wrapper]: [f64; 3]| {
-            format!("{library:.1} ns | {second:.1} ns | {:.2} | {wrapper:.1} ns", library / second)
+        let cells = |[library, second, own, wrapper]: [f64; 4]| {
+            let ratio = library / second;
+            format!("{library:.1} ns | {second:.1} ns | {ratio:.2} | {own:.1} ns | {wrapper:.1} ns")
         };
         println!("| {name} | {} | {} |", cells(read), cells(write));
     }
 }
 
-/// Reading and writing: the C call, the second program, and the wrapper, which makes an enum of the numbers.
-fn message(rounds: &Rounds, m: &second::Message) -> [[f64; 3]; 2] {
-    let setup = LARGEST;
-    let (mut out, mut other, mut third) = ([0; 256], [0; 256], [0; 256]);
-    let length = second::write_message(7, 64, 0, &mut out, m).expect("a valid message");
-    let copied = out;
+/// Reading and writing: the C call, the second program with numbers and with its struct, and the wrapper, which makes
+/// an enum of the numbers.
+fn message(rounds: &Rounds, m: &second::Message) -> [[f64; 4]; 2] {
+    let mut outs = [[0; 256]; 4];
+    let length = second::write_message(7, 64, 0, &mut outs[0], m).expect("a valid message");
+    let copied = outs[0];
     let bytes = &copied[..length];
-    let wrapped = setup.read_message(bytes).expect("a valid message");
-    let (numbers, mut read) = (fields::fields(m), [0; 18]);
-    let mut written = 0;
+    let wrapped = LARGEST.read_message(bytes).expect("a valid message");
+    let numbers = fields::fields(m);
+    let [c_out, numbers_out, struct_out, wrapper_out] = &mut outs;
+    let (mut read, mut other, mut written) = ([0; 18], [0; 18], 0);
     // SAFETY: all areas are arrays, lent with their lengths.
     let times = rounds.medians(&mut [
         &mut || unsafe {
-            let bytes = black_box(bytes);
-            keep(raw::pumxaqert_read_message(7, 64, 0, bytes.as_ptr(), bytes.len(), &mut read));
+            let (at, length) = (black_box(bytes).as_ptr(), bytes.len());
+            keep(raw::pumxaqert_read_message(7, 64, 0, at, length, black_box(&mut read)));
+        },
+        &mut || {
+            if let Ok(m) = second::read_message(7, 64, 0, black_box(bytes)) {
+                *black_box(&mut other) = fields::fields(&m);
+            }
         },
         &mut || keep(second::read_message(7, 64, 0, black_box(bytes))),
-        &mut || keep(setup.read_message(black_box(bytes))),
+        &mut || keep(LARGEST.read_message(black_box(bytes))),
         &mut || unsafe {
-            let out = black_box(&mut out);
-            keep(raw::pumxaqert_write_message(
-                7,
-                64,
-                0,
-                out.as_mut_ptr(),
-                256,
-                black_box(&numbers),
-                &mut written,
-            ));
+            let (at, f) = (black_box(&mut *c_out).as_mut_ptr(), black_box(&numbers));
+            keep(raw::pumxaqert_write_message(7, 64, 0, at, 256, f, &mut written));
         },
-        &mut || keep(second::write_message(7, 64, 0, black_box(&mut other), black_box(m))),
-        &mut || keep(setup.write_message(black_box(&mut third), black_box(&wrapped))),
+        &mut || keep(fields::write(7, 64, 0, black_box(&mut *numbers_out), black_box(&numbers))),
+        &mut || keep(second::write_message(7, 64, 0, black_box(&mut *struct_out), black_box(m))),
+        &mut || keep(LARGEST.write_message(black_box(&mut *wrapper_out), black_box(&wrapped))),
     ]);
-    [[times[0], times[1], times[2]], [times[3], times[4], times[5]]]
+    [[times[0], times[1], times[2], times[3]], [times[4], times[5], times[6], times[7]]]
 }
 
 fn orders(rounds: &Rounds) {
@@ -283,12 +286,10 @@ fn growth(rounds: &Rounds) {
     for s in [1, 2, 4, 8, 16, 32, 64] {
         let setup = Setup { n: 7, s, copy: 0 };
         let case = cases::events(setup, true).remove(1);
-        let [library, second] = event(rounds, &case);
-        let t = &case.table;
-        let sum = rounds.medians(&mut [&mut || keep(sum_by_bytes(black_box(t)))])[0];
+        let [library, second, sum] = event(rounds, &case);
         println!(
             "| {s} | {} | {} | {} | {} | {:.1} ns |",
-            t.len(),
+            case.table.len(),
             time(library),
             time(second),
             time(sum),
