@@ -5,14 +5,28 @@ use second::Message;
 
 pub fn fields(m: &Message) -> Fields {
     let mut f = [0; 18];
-    // A message carries a voted ballot or a joined one, never both.
-    let other = if m.kind == second::message::NACK { m.joined } else { m.voted };
-    let head = [m.kind as u64, m.from as u64, m.to as u64, m.owner as u64, m.number as u64];
-    f[..5].copy_from_slice(&head);
-    f[5..8].copy_from_slice(&[m.ballot as u64, other as u64, m.status as u64]);
-    f[8..11].copy_from_slice(&[m.op as u64, m.key as u64, m.edit]);
-    f[11..].copy_from_slice(&m.deps.map(u64::from));
+    put(m, &mut f);
     f
+}
+
+/// The same into a place that is lent.
+#[inline]
+pub fn put(m: &Message, f: &mut Fields) {
+    f[0] = m.kind as u64;
+    f[1] = m.from as u64;
+    f[2] = m.to as u64;
+    f[3] = m.owner as u64;
+    f[4] = m.number as u64;
+    f[5] = m.ballot as u64;
+    // A message carries a voted ballot or a joined one, never both.
+    f[6] = (m.voted | m.joined) as u64;
+    f[7] = m.status as u64;
+    f[8] = m.op as u64;
+    f[9] = m.key as u64;
+    f[10] = m.edit;
+    for q in 0..7 {
+        f[11 + q] = m.deps[q] as u64;
+    }
 }
 
 /// None where a number does not fit its place.
