@@ -4,9 +4,7 @@ mod answer;
 mod input;
 mod messages;
 mod play;
-mod setup;
 mod tables;
-mod words;
 
 fn main() {
     input::play_input();

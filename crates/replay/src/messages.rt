@@ -1,21 +1,22 @@
 // The calls on messages: read and write.
-use crate::answer::bad_line;
 use crate::answer::begin;
-use crate::answer::put_bytes;
-use crate::answer::put_hex;
 use crate::answer::put_message;
-use crate::answer::put_refused;
-use crate::answer::put_size;
-use crate::setup::Setup;
-use crate::words::hex;
-use crate::words::low8;
-use crate::words::numbers;
-use crate::words::size;
 use nouns::logic::both;
 use paper::Body;
 use paper::Command;
 use paper::Message;
 use paper::Op;
+use text::put::bad_line;
+use text::put::put_bytes;
+use text::put::put_front;
+use text::put::put_hex;
+use text::put::put_size;
+use text::refusals::put_refused;
+use text::setup::Setup;
+use text::words::hex;
+use text::words::low8;
+use text::words::numbers;
+use text::words::size;
 use wire::Reading;
 use wire::Writing;
 
@@ -26,14 +27,6 @@ fn put_again(out: &mut [u8], at: usize, w: Setup, c: usize, m: Message) -> usize
         Writing::Refused(why) => put_refused(out, at, why),
         Writing::Bytes(k) => put_front(out, at, &room, k),
     }
-}
-
-// The first k bytes of the room, all of it where k is more.
-fn put_front(out: &mut [u8], at: usize, room: &[u8], k: usize) -> usize {
-    if room.len() < k {
-        return put_hex(out, at, room);
-    }
-    put_hex(out, at, &room[..k])
 }
 
 fn read_bytes(b: &[u8], w: Setup, c: usize, out: &mut [u8]) -> usize {

@@ -1,14 +1,15 @@
 // One line of the input: the setup, or a call and its answer.
-use crate::answer::bad_line;
-use crate::answer::finish;
 use crate::messages;
-use crate::setup;
-use crate::setup::Setup;
 use crate::tables;
-use crate::words::next_word;
-use crate::words::number;
-use crate::words::size;
-use crate::words::word_is;
+use text::put::bad_line;
+use text::put::finish;
+use text::put::say_bad;
+use text::setup;
+use text::setup::Setup;
+use text::words::next_word;
+use text::words::number;
+use text::words::size;
+use text::words::word_is;
 
 // A call at copy c; its name begins at a place of the line.
 fn call(line: &[u8], at: usize, w: Setup, c: usize, t: &mut [u8], out: &mut [u8]) -> usize {
@@ -49,8 +50,7 @@ fn play_run(line: &[u8], w: Setup, out: &mut [u8]) -> Setup {
     if told.good {
         return told.setup;
     }
-    let n = bad_line(&mut *out);
-    finish(&mut *out, n);
+    say_bad(out);
     w
 }
 

@@ -1,31 +1,24 @@
 // The calls on one table: judge, blank and part. The table's bytes are lent, as many as the longest table has.
-use crate::answer::bad_line;
 use crate::answer::begin;
-use crate::answer::put_byte;
-use crate::answer::put_bytes;
-use crate::answer::put_number;
-use crate::answer::put_refused;
-use crate::answer::put_size;
-use crate::setup::Setup;
-use crate::words::hex;
-use crate::words::low8;
-use crate::words::number;
-use crate::words::numbers;
-use crate::words::size;
 use nouns::logic::both;
-use std::num::wrapping_add_u64;
-use std::num::wrapping_sub_u64;
 use table::Blanking;
 use table::Judging;
+use text::bytes::checksum;
+use text::bytes::fill;
+use text::put::bad_line;
+use text::put::put_byte;
+use text::put::put_bytes;
+use text::put::put_number;
+use text::put::put_size;
+use text::refusals::put_refused;
+use text::setup::Setup;
+use text::setup::times;
+use text::words::hex;
+use text::words::low8;
+use text::words::number;
+use text::words::numbers;
+use text::words::size;
 ghost use Prim.Native.Nat.{_≤_};
-
-fn fill(t: &mut [u8], b: u8) {
-    let mut i = 0;
-    while i < t.len() {
-        t[i] = b;
-        i += 1;
-    }
-}
 
 // Byte i is i modulo 251.
 fn count_up(t: &mut [u8]) {
@@ -36,30 +29,6 @@ fn count_up(t: &mut [u8]) {
     }
 }
 
-fn twice(x: u64) -> u64 {
-    wrapping_add_u64(x, x)
-}
-
-fn wide(b: u8) -> u64 {
-    b as u64
-}
-
-// h * 31 + b modulo 2^64; 31 is 32 less 1.
-fn with_byte(h: u64, b: u8) -> u64 {
-    let much = twice(twice(twice(twice(twice(h)))));
-    wrapping_add_u64(wrapping_sub_u64(much, h), wide(b))
-}
-
-fn checksum(t: &[u8]) -> u64 {
-    let mut h: u64 = 0;
-    let mut i = 0;
-    while i < t.len() {
-        h = with_byte(h, t[i]);
-        i += 1;
-    }
-    h
-}
-
 struct Spot {
     at: usize,
     good: bool,
@@ -67,13 +36,6 @@ struct Spot {
 
 fn no_spot() -> Spot {
     Spot { at: 0, good: false }
-}
-
-fn times(o: usize, s: usize) -> usize
-    requires { ⌜ (o ≤ 8) × (s ≤ 4294967295) ⌝ }
-    ensures { λ r. ⌜ r ≤ 34359738360 ⌝ }
-{
-    o * s
 }
 
 // A place in the record of o.j, by the layout's rule whether or not a table has it.

@@ -1,21 +1,23 @@
 use borrow.Author.Needs.{needs}
-use Prim.Native.Nat.{_-_}
 use mathlib.Core.Path.{_≡_}
 use lib.ListN.{length}
 use Rattle.replay.proofs.input.play_lines.Statement.{statement}
 use Rattle.replay.proofs.input.play_lines.Tie as tie
 
 abbrev Inv-loop : tie.InvT-loop
-Inv-loop text t₀ out₀ w₀ at₀ t out w at = (length t ≡ length t₀) × (length out ≡ length out₀)
+Inv-loop buf₀ t₀ out₀ lines₀ w₀ line₀ buf t out lines w line = (length buf ≡ length buf₀) × (length t ≡ length t₀) × (length out ≡ length out₀)
 
 abbrev μ-loop : tie.MeasureT-loop
-μ-loop text t₀ out₀ w₀ at₀ t out w at = length text - at
+μ-loop buf₀ t₀ out₀ lines₀ w₀ line₀ buf t out lines w line = lines
+
+before-first-requires : tie.Need-before-first-requires Inv-loop μ-loop
+before-first-requires c κs = search needs
 
 loop-holds : tie.Need-loop-holds Inv-loop μ-loop
 loop-holds c = search needs
 
-line-end-requires : tie.Need-line-end-requires Inv-loop μ-loop
-line-end-requires c κs = search needs
+next-line-requires : tie.Need-next-line-requires Inv-loop μ-loop
+next-line-requires c κs = search needs
 
 sub-play-line : tie.Need-sub-play-line Inv-loop μ-loop
 sub-play-line c = search needs
@@ -29,8 +31,8 @@ part-play-line-end c = search needs
 play-line-requires : tie.Need-play-line-requires Inv-loop μ-loop
 play-line-requires c κs = search needs
 
-add-at : tie.Need-add-at Inv-loop μ-loop
-add-at c = search needs
+sub-lines : tie.Need-sub-lines Inv-loop μ-loop
+sub-lines c = search needs
 
 loop-less : tie.Need-loop-less Inv-loop μ-loop
 loop-less c = search needs
@@ -44,8 +46,23 @@ same-length c = search needs
 same-length-2 : tie.Need-same-length-2 Inv-loop μ-loop
 same-length-2 c = search needs
 
+same-length-3 : tie.Need-same-length-3 Inv-loop μ-loop
+same-length-3 c = search needs
+
 returns : tie.Need-returns Inv-loop μ-loop
 returns c = search needs
+
+same-length-4 : tie.Need-same-length-4 Inv-loop μ-loop
+same-length-4 c = search needs
+
+same-length-5 : tie.Need-same-length-5 Inv-loop μ-loop
+same-length-5 c = search needs
+
+same-length-6 : tie.Need-same-length-6 Inv-loop μ-loop
+same-length-6 c = search needs
+
+returns-2 : tie.Need-returns-2 Inv-loop μ-loop
+returns-2 c = search needs
 
 pub play-lines-spec : {M : Type 1} → statement M
 play-lines-spec =
@@ -53,15 +70,21 @@ play-lines-spec =
     (tie.spec
     Inv-loop
     μ-loop
+    before-first-requires
     loop-holds
-    line-end-requires
+    next-line-requires
     sub-play-line
     part-play-line-start
     part-play-line-end
     play-line-requires
-    add-at
+    sub-lines
     loop-less
     loop-again
     same-length
     same-length-2
-    returns)
+    same-length-3
+    returns
+    same-length-4
+    same-length-5
+    same-length-6
+    returns-2)
