@@ -119,10 +119,34 @@ module _ (n s c : ℕ) (b : List ℕ) (q : ℕ) (h : q < 7) where
 
 -- of the fields as they were read
 module _ (b : List ℕ) {j : ℕ} {v : Vote} {p t : ℕ} (ej : j ≡ numAt 4 b 0) (ev : v ≡ voteAt b 4) (ep : p ≡ numAt 1 b 37) (et : t ≡ numAt 1 b 38) where
-  pub plain-judged : (n s : ℕ) {m : ℕ} {a x y u r : Bool} → m ≡ numAt 1 b 36 → x ≡ rangesOk n s (front j v m p t) → y ≡ votesOk (front j v m 0 0) → a ≡ opFits b 4
-      → u ≡ (x && y) → r ≡ (a && u) → r ≡ plainOk n s b
-  unfolding plainOk recordAt rangesOk votesOk
-  plain-judged n s em ex ey ea eu er = rw (er, eu, ea, ex, ey, ej, ev, em, ep, et)
+  pub plain-op : (n s : ℕ) → opFits b 4 ≡ false → false ≡ plainOk n s b
+  unfolding plainOk
+  plain-op n s e = rw e
+
+  votes-judged : {m : ℕ} {y : Bool} → m ≡ numAt 1 b 36 → y ≡ votesOk (front j v m 0 0) → y ≡ votesOk (recordAt b)
+  unfolding recordAt votesOk
+  votes-judged em ey = rw (ey, ej, ev, em)
+
+  ranges-judged : (n s : ℕ) {m : ℕ} {x : Bool} → m ≡ numAt 1 b 36 → x ≡ rangesOk n s (front j v m p t) → x ≡ rangesOk n s (recordAt b)
+  unfolding recordAt rangesOk
+  ranges-judged n s em ex = rw (ex, ej, ev, em, ep, et)
+
+  pub plain-votes : (n s : ℕ) {m : ℕ} {y : Bool} → m ≡ numAt 1 b 36 → opFits b 4 ≡ true → y ≡ votesOk (front j v m 0 0) → y ≡ false → false ≡ plainOk n s b
+  unfolding plainOk
+  plain-votes n s em eo ey e = let q = sym (votes-judged em ey) ∙ e in rw (eo, q) (no (rangesOk n s (recordAt b)))
+    where
+      no : (a : Bool) → false ≡ (a && false)
+      no true = refl
+      no false = refl
+
+  pub plain-ranges : (n s : ℕ) {m : ℕ} {x y : Bool} → m ≡ numAt 1 b 36 → opFits b 4 ≡ true → y ≡ votesOk (front j v m 0 0) → y ≡ true
+      → x ≡ rangesOk n s (front j v m p t) → x ≡ plainOk n s b
+  unfolding plainOk
+  plain-ranges n s em eo ey e ex = let q = sym (votes-judged em ey) ∙ e in rw (eo, q) (ranges-judged n s em ex ∙ yes (rangesOk n s (recordAt b)))
+    where
+      yes : (a : Bool) → a ≡ (a && true)
+      yes true = refl
+      yes false = refl
 
   pub phase-judged : (n c o : ℕ) {z : Bool} → z ≡ phasesOk n c o (front j v 0 p t) → z ≡ phasesOk n c o (recordAt b)
   unfolding recordAt phasesOk preparingOk proposingOk busyOk

@@ -1,6 +1,5 @@
 // One record in its 263 bytes: read, written and judged.
 use nouns::logic::at_most;
-use nouns::logic::both;
 use nouns::logic::wide8;
 use nouns::vote::is_member;
 use nouns::vote::no_vote;
@@ -109,8 +108,13 @@ fn plain_ok(b: &[u8], n: usize, s: usize) -> bool
     let mark = num::get_u8(b, 36);
     let phase = num::get_u8(b, 37);
     let set = num::get_u8(b, 38);
-    let ranges = ranges_ok(n, s, joined, v, mark, phase, set);
-    both(op_ok(b, 4), both(ranges, votes_ok(joined, v, mark)))
+    if !op_ok(b, 4) {
+        return false;
+    }
+    if !votes_ok(joined, v, mark) {
+        return false;
+    }
+    ranges_ok(n, s, joined, v, mark, phase, set)
 }
 
 // What the phase asks.

@@ -6,7 +6,7 @@ use Prim.Native.Nat.{ℕ, _+_, _*_, _-_, _≤_, _<_}
 use native.Mathlib.Omega.{arith}
 use lib.ListN.{length}
 use borrow.Author.Tests.{not-true, not-false}
-use Rattle.record.proofs.Laws.{plain-judged}
+use Rattle.record.proofs.Laws.{plain-op, plain-votes, plain-ranges}
 
 get-u32-requires : tie.Need-get-u32-requires
 get-u32-requires c κs = search needs
@@ -23,23 +23,23 @@ get-u8-requires-2 c κs = search needs
 get-u8-requires-3 : tie.Need-get-u8-requires-3
 get-u8-requires-3 c κs = search needs
 
-ranges-ok-requires : tie.Need-ranges-ok-requires
-ranges-ok-requires c κs = search needs
-
 op-ok-requires : tie.Need-op-ok-requires
 op-ok-requires c κs = search needs
+
+returns : tie.Need-returns
+returns c = plain-op _ (c .before .before .before .before .before .before .get-u32 .ensures) (c .before .before .before .before .before .read-vote .ensures) (c .before .before .before .get-u82 .ensures) (c .before .before .get-u83 .ensures) _ _ (sym (c .before .op-ok .ensures) ∙ not-true _ (c .if1 .taken))
 
 votes-ok-requires : tie.Need-votes-ok-requires
 votes-ok-requires c κs = search needs
 
-both-requires : tie.Need-both-requires
-both-requires c κs = search needs
+returns-2 : tie.Need-returns-2
+returns-2 c = plain-votes _ (c .before .before .before .before .before .before .before .before .get-u32 .ensures) (c .before .before .before .before .before .before .before .read-vote .ensures) (c .before .before .before .before .before .get-u82 .ensures) (c .before .before .before .before .get-u83 .ensures) _ _ (c .before .before .before .before .before .before .get-u8 .ensures) (sym (c .before .before .before .op-ok .ensures) ∙ not-false _ (c .before .before .if1 .left)) (c .before .votes-ok .ensures) (not-true _ (c .if2 .taken))
 
-both-requires-2 : tie.Need-both-requires-2
-both-requires-2 c κs = search needs
+ranges-ok-requires : tie.Need-ranges-ok-requires
+ranges-ok-requires c κs = search needs
 
-returns : tie.Need-returns
-returns c = plain-judged _ (c .before .before .before .before .before .before .before .before .before .get-u32 .ensures) (c .before .before .before .before .before .before .before .before .read-vote .ensures) (c .before .before .before .before .before .before .get-u82 .ensures) (c .before .before .before .before .before .get-u83 .ensures) _ _ (c .before .before .before .before .before .before .before .get-u8 .ensures) (c .before .before .before .before .ranges-ok .ensures) (c .before .before .votes-ok .ensures) (c .before .before .before .op-ok .ensures) (c .before .both .ensures) (c .both2 .ensures)
+returns-3 : tie.Need-returns-3
+returns-3 c = plain-ranges _ (c .before .before .before .before .before .before .before .before .before .get-u32 .ensures) (c .before .before .before .before .before .before .before .before .read-vote .ensures) (c .before .before .before .before .before .before .get-u82 .ensures) (c .before .before .before .before .before .get-u83 .ensures) _ _ (c .before .before .before .before .before .before .before .get-u8 .ensures) (sym (c .before .before .before .before .op-ok .ensures) ∙ not-false _ (c .before .before .before .if1 .left)) (c .before .before .votes-ok .ensures) (not-false _ (c .before .if2 .left)) (c .ranges-ok .ensures)
 
 pub plain-ok-spec : {M : Type 1} → statement M
 plain-ok-spec =
@@ -50,9 +50,9 @@ plain-ok-spec =
     get-u8-requires
     get-u8-requires-2
     get-u8-requires-3
-    ranges-ok-requires
     op-ok-requires
+    returns
     votes-ok-requires
-    both-requires
-    both-requires-2
-    returns)
+    returns-2
+    ranges-ok-requires
+    returns-3)
