@@ -2,6 +2,10 @@
 use paper::Command;
 use paper::Refusal;
 
+pub mod chart;
+pub mod hand_out;
+pub mod settled;
+
 // What the settled question answers: the command, or the uncommitted instance that comes first.
 pub enum Settling {
     Settled(Command),

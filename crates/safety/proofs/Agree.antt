@@ -8,7 +8,7 @@ use mathlib.Core.Bool.{Bool, true, false}
 use native.Mathlib.Omega.{arith}
 use native.Mathlib.Decide.{decLt}
 use native.Mathlib.Nat.{eq-or-lt-of-le}
-use Rattle.safety.proofs.Count.{cnt, both, both-true, member, quorums-meet, fast-meet, cnt-mono}
+use Rattle.reach.proofs.Count.{cnt, both, both-true, member, quorums-meet, fast-meet, cnt-mono}
 use Rattle.safety.proofs.Hist.{St, s0, s1, s2, s3, s4, is2, Upto, u22, u23, u33, Reply, Outcome, accept, afresh, NoAcc, Decided, none-voted, accepted, fast, anew, Obeys, Hist, Rules, Slow}
 
 3≢0 : s3 ≡ s0 → ⊥

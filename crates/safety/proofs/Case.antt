@@ -9,7 +9,7 @@ use lib.ListN.{getD}
 use Rattle.paper.specs.Instance.{instanceOk, ownerOk, numberOk}
 use Rattle.paper.specs.declared.Command.{Command}
 use Rattle.safety.specs.Run.{Asked}
-use Rattle.safety.proofs.Tests.{and-l, and-r, and-in, leb-le, leb-in, ltb-lt, ltb-in, by-cond}
+use Rattle.reach.proofs.Tests.{and-l, and-r, and-in, leb-le, leb-in, ltb-lt, ltb-in, by-cond}
 use Rattle.safety.proofs.Value.{Value, Sub}
 
 -- N = 2F+1, S = s

@@ -22,7 +22,7 @@ use Rattle.rules.specs.Commit.{differs}
 use Rattle.rules.specs.Received.{conflict}
 use Rattle.safety.specs.Run.{State}
 use Rattle.safety.specs.Demand.{Committed}
-use Rattle.safety.proofs.Tests.{clash, tf, bool, and-l, and-r, and-in, not-true, eqb-eq, eqb-same, leb-in}
+use Rattle.reach.proofs.Tests.{clash, tf, bool, and-l, and-r, and-in, not-true, eqb-eq, eqb-same, leb-in}
 use Rattle.safety.proofs.Deps.{same-deps-refl, same-command-refl}
 use Rattle.safety.proofs.Value.{Value, cmd}
 use Rattle.safety.proofs.Case.{Case, copies, code, code-owner, code-number, own, Req, Cover, range}

@@ -9,7 +9,7 @@ use lib.Dec.{eqb}
 use Rattle.paper.specs.declared.Command.{Command}
 use Rattle.safety.specs.Run.{State, Setup, start, Run, stay}
 use Rattle.safety.specs.Demand.{Committed, Agreement, Requested, Covering, Order, Lasting, Demand}
-use Rattle.safety.proofs.Tests.{or-cases, eqb-eq}
+use Rattle.reach.proofs.Tests.{or-cases, eqb-eq}
 use Rattle.safety.proofs.Value.{Value, cmd}
 use Rattle.safety.proofs.Case.{Case, copies, code}
 use Rattle.safety.proofs.Rel.{val}

@@ -16,8 +16,9 @@ use Rattle.paper.specs.declared.Vote.{Vote}
 use Rattle.rules.specs.Sets.{highest}
 use Rattle.rules.specs.Accepting.{joinAll}
 use Rattle.rules.specs.Seen.{Records, met, seenEntry, seenFrom, seen}
-use Rattle.safety.proofs.Tests.{tf, and-in, eqb-eq, eqb-same, ltb-in}
-use Rattle.safety.proofs.Sets.{all-at, all-in, larger-l, larger-r}
+use Rattle.reach.proofs.Tests.{tf, and-in, eqb-eq, eqb-same, ltb-in}
+use Rattle.safety.proofs.Sets.{all-at, larger-l, larger-r}
+use Rattle.reach.proofs.Instances.{all-in}
 
 -- entry by entry at most
 abbrev pub Under : List ℕ → List ℕ → Type 0

@@ -11,7 +11,7 @@ use Rattle.rules.specs.Seen.{Records}
 use Rattle.rules.specs.Order.{nextOut, codeOf, found, handOut, handedOut, mark}
 use Rattle.safety.specs.Run.{Instance, State, replaced, marked, Run, stay, further}
 use Rattle.safety.specs.Run.{handOut as mv-handOut}
-use Rattle.safety.proofs.Tests.{eqb-same}
+use Rattle.reach.proofs.Tests.{eqb-same}
 
 run-on : {n s : ℕ} {x y z : State} → Run n s x y → Run n s y z → Run n s x z
 run-on r stay = r

@@ -6,7 +6,7 @@ use Rattle.safety.proofs.Value.{Value, cmd}
 use mathlib.Core.Path.{_≡_}
 use mathlib.Core.Logic.{_⊎_}
 use mathlib.Core.Bool.{Bool, true, false}
-use Rattle.safety.proofs.Count.{cnt, both}
+use Rattle.reach.proofs.Count.{cnt, both}
 
 pub data St : Type 0 where
   s0 s1 s2 s3 s4 : St

@@ -13,7 +13,7 @@ use Rattle.safety.proofs.Value.{Value, cmd}
 use mathlib.Core.Path.{_≡_}
 use mathlib.Core.Logic.{_⊎_}
 use mathlib.Core.Bool.{Bool, true, false}
-use Rattle.safety.proofs.Count.{cnt}
+use Rattle.reach.proofs.Count.{cnt}
 use Rattle.safety.proofs.Hist.{St, s0, s1, s2, s3, s4, Reply, Outcome, accept, afresh, Decided}
 use Rattle.safety.proofs.Sys.{idle, preparing, prephase, accphase, Rec, Msg, mPre, mPreOK, mAcc, mAccOK, mCommit, mPrepOK, Sys, W, Sent}
 use Rattle.safety.proofs.Older.{Le}

@@ -1,7 +1,5 @@
 -- Demand 3 is proved in four floors.
--- Plain facts: tests, counts of copies, sets of bits, dependencies.
-pub mod Tests
-pub mod Count
+-- Plain facts: sets of bits, dependencies.
 pub mod Sets
 pub mod Deps
 pub mod Value
@@ -18,7 +16,6 @@ pub mod Inv
 pub mod Rel
 pub mod Received
 pub mod Instances
-pub mod Reach
 -- Runs of tables beside runs of the model, the demand, and scripts which show that it is not empty.
 pub mod Sim
 pub mod Moves

@@ -18,7 +18,7 @@ use Rattle.rules.specs.Step.{isCommitted}
 use Rattle.rules.specs.Order.{everywhere, coversIn, reachesIn, reaches, waitsFor, isSettled, isMarked, candidate, nextOut}
 use Rattle.rules.specs.Order.{marked as with-mark}
 use Rattle.safety.specs.Run.{State, replaced, marked}
-use Rattle.safety.proofs.Tests.{tf, bool, and-l, and-r, and-in, not-not, not-true, or-cases, eqb-eq, eqb-same, eqb-false, leb-le, leb-in}
+use Rattle.reach.proofs.Tests.{tf, bool, and-l, and-r, and-in, not-not, not-true, or-cases, eqb-eq, eqb-same, eqb-false, leb-le, leb-in}
 use Rattle.safety.proofs.Hist.{s4}
 use Rattle.safety.proofs.Sys.{upd, upd-cases}
 use Rattle.safety.proofs.Value.{Value}
@@ -28,8 +28,9 @@ use Rattle.safety.proofs.Inv.HandOut.{Ready, m-mark}
 use Rattle.safety.proofs.Rel.{num, st-eq, Rel}
 use Rattle.safety.proofs.Case.{Case, copies, code, code-owner, code-number, Cover, range, in-range}
 use Rattle.safety.proofs.Sim.{newest, newest-more, at-saved, Tie, Next}
-use Rattle.safety.proofs.Instances.{every-at, every-in, at-first}
-use Rattle.safety.proofs.Reach.{InRange, inrange, hop-of, reach-one, reach-on}
+use Rattle.safety.proofs.Instances.{at-first}
+use Rattle.reach.proofs.Instances.{every-at, every-in}
+use Rattle.reach.proofs.Reach.{InRange, inrange, hop-of, reach-one, reach-on}
 
 module _ {C : Case} {x : State} (tie : Tie C x) (c : ℕ) (lc : c < copies C) where
   open Case C using (F, s, fit)

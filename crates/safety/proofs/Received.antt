@@ -12,7 +12,7 @@ use Rattle.paper.specs.declared.Message.{Message}
 use Rattle.paper.specs.declared.Body.{Body}
 use Rattle.paper.specs.declared.Body.the-variants.{PreAccept, PreAcceptOk, Accept, AcceptOk, Commit, Prepare, PrepareOk, Nack}
 use Rattle.rules.specs.Received.{byKind}
-use Rattle.safety.proofs.Tests.{and-l, and-r, and-in, not-not, eqb-eq, eqb-ne, ltb-lt}
+use Rattle.reach.proofs.Tests.{and-l, and-r, and-in, not-not, eqb-eq, eqb-ne, ltb-lt}
 use Rattle.safety.proofs.Deps.{Under}
 use Rattle.safety.proofs.Rel.{val, Means, Spot, Ref}
 use Rattle.safety.proofs.Rel.Votes.{on-prepare, on-preaccept, on-accept, on-commit, on-nack}

@@ -20,7 +20,7 @@ use Rattle.paper.specs.declared.Body.{Body}
 use Rattle.paper.specs.declared.Body.the-variants.{PreAccept, PreAcceptOk, Accept, AcceptOk, Commit, Prepare, PrepareOk, Nack}
 use Rattle.rules.specs.declared.Step.{Step}
 use Rattle.rules.specs.Step.{isCommitted, noReplies, begun, say, silent, sending, commitBack, nackBack}
-use Rattle.safety.proofs.Tests.{tf, eqb-eq, eqb-ne}
+use Rattle.reach.proofs.Tests.{tf, eqb-eq, eqb-ne}
 use Rattle.safety.proofs.Sets.{member-none}
 use Rattle.safety.proofs.Value.{Value}
 use Rattle.safety.proofs.Hist.{St, s0, s1, s2, s3, s4, Reply}

@@ -6,7 +6,7 @@ use native.Mathlib.Omega.{arith}
 use native.Mathlib.Decide.{ℕ-discrete}
 use Rattle.paper.specs.Vote.{noVote}
 use Rattle.safety.specs.Run.{Instance, Asked, State, start, replaced, Move, request, receive, recover, nudge, handOut, Run, stay, further}
-use Rattle.safety.proofs.Tests.{clash, eqb-same, eqb-false}
+use Rattle.reach.proofs.Tests.{clash, eqb-same, eqb-false}
 use Rattle.safety.proofs.Sys.{blankRec, blankSys}
 use Rattle.safety.proofs.Older.{le-refl, le-trans}
 use Rattle.safety.proofs.Inv.Multi.{g-init}

@@ -11,8 +11,8 @@ use Rattle.paper.specs.Logic.{allBelow}
 use Rattle.paper.specs.Deps.{larger}
 use Rattle.paper.specs.Vote.{member}
 use Rattle.rules.specs.Sets.{bitsBelow, those, lowestFrom, lowest, largestBelow}
-use Rattle.safety.proofs.Count.{cnt, one-if}
-use Rattle.safety.proofs.Tests.{tf, and-l, and-r, eqb-eq, eqb-ne, ltb-lt, ltb-ge, not-true, not-not}
+use Rattle.reach.proofs.Count.{cnt, one-if}
+use Rattle.reach.proofs.Tests.{tf, and-l, and-r, eqb-eq, eqb-ne, ltb-lt, ltb-ge, not-true, not-not}
 
 -- what is tested of each number below n holds of each
 pub all-at : (n : ℕ) (f : ℕ → Bool) → allBelow n f ≡ true → (k : ℕ) → k < n → f k ≡ true
@@ -21,11 +21,6 @@ all-at zero f h k l = absurd (omega arith)
 all-at (suc n) f h k l =
     ⊎-elim (λ (e : k ≡ n). rw e (and-l (f n) (allBelow n f) h)) (λ (m : k < n). all-at n f (and-r (f n) (allBelow n f) h) k m)
     (eq-or-lt-of-le {n = k} {m = n} (omega arith))
-
-pub all-in : (n : ℕ) (f : ℕ → Bool) → ((k : ℕ) → k < n → f k ≡ true) → allBelow n f ≡ true
-unfolding allBelow
-all-in zero f h = refl
-all-in (suc n) f h = rw (h n (omega arith), all-in n f (λ k l. h k (omega arith))) refl
 
 -- equality of tests
 same : Bool → Bool → Bool

@@ -19,7 +19,7 @@ use Rattle.rules.specs.Seen.{Records, met, seen}
 use Rattle.rules.specs.Events.{put, addressed, messagesFrom, messages}
 use Rattle.rules.specs.Order.{isMarked}
 use Rattle.safety.specs.Run.{Instance, State, replaced, saved, Among}
-use Rattle.safety.proofs.Tests.{tf, bool, and-l, and-r, and-in, not-true, eqb-eq, eqb-same, eqb-false, leb-in}
+use Rattle.reach.proofs.Tests.{tf, bool, and-l, and-r, and-in, not-true, eqb-eq, eqb-same, eqb-false, leb-in}
 use Rattle.safety.proofs.Deps.{Under, seen-counts}
 use Rattle.safety.proofs.Value.{Value, cmd, Interf}
 use Rattle.safety.proofs.Case.{Case, copies, code, code-owner, code-number, own, own-code, Req, Cover, range}

@@ -8,7 +8,7 @@ use mathlib.Core.Logic.{_⊎_}
 use mathlib.Core.Bool.{Bool, true, false}
 use mathlib.Core.List.{List, [], _∷_, _++_, List·Memᴰ}
 use native.Mathlib.Decide.{ℕ-discrete}
-use Rattle.safety.proofs.Count.{cnt}
+use Rattle.reach.proofs.Count.{cnt}
 use Rattle.safety.proofs.Hist.{St, s0, s1, s2, s3, s4, Reply, accept, afresh, Decided}
 
 pub data Ph : Type 0 where

@@ -13,7 +13,7 @@ use mathlib.Core.Bool.{Bool, true, false, _&&_, not}
 use lib.Dec.{eqb}
 use Rattle.paper.specs.Deps.{noDeps}
 use Rattle.paper.specs.Ballot.{lead}
-use Rattle.safety.proofs.Tests.{eqb-false}
+use Rattle.reach.proofs.Tests.{eqb-false}
 
 pub record Value : Type 0 where
   pub command : Command

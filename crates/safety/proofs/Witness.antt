@@ -42,7 +42,7 @@ use Rattle.rules.specs.Events.{put, requestNumber, onRequest, onMessage, onReco
 use Rattle.rules.specs.Order.{everywhere, somewhere, firstOwner, firstNumber, coversIn, reachesIn, reaches, waitsFor, isSettled, candidate, nextOut, found}
 use Rattle.safety.specs.Run.{State, start, saved, asked, marked, Move, request, receive, recover, nudge, handOut, Run, stay, further}
 use Rattle.safety.specs.Demand.{Committed}
-use Rattle.safety.proofs.Tests.{clash, and-l, and-r, not-not, eqb-eq, leb-le, ltb-lt}
+use Rattle.reach.proofs.Tests.{clash, and-l, and-r, not-not, eqb-eq, leb-le, ltb-lt}
 
 -- a line of a script: copy c is asked for k; the message sent as number i arrives; copy c recovers or nudges o.j; copy c saves the mark of o.j
 data Line : Type 0 where

@@ -9,7 +9,7 @@ use mathlib.Core.Bool.{Bool, true, false}
 use mathlib.Core.List.{List, List·Memᴰ·tail, List·Memᴰ·not-nil}
 use native.Mathlib.Omega.{arith}
 use native.Mathlib.Decide.{ℕ-discrete}
-use Rattle.safety.proofs.Count.{cnt, one-if, both, both-true, member}
+use Rattle.reach.proofs.Count.{cnt, one-if, both, both-true, member}
 use Rattle.safety.proofs.Hist.{St, s0, s1, s2, s3, s4, is2, Reply, Outcome, accept, Top, twos, Decided, none-voted, accepted, fast, anew}
 use Rattle.safety.proofs.Agree.{cmd-votes}
 use Rattle.safety.proofs.Sys.{preparing, prephase, Rec, Msg, mAcc, Sys, upd, upd-cases, push, W, HasPre, HasPrep, Trans, repeat, request, pre-same, pre-more, collect-pre, fast-commit, to-accept, acc, collect-acc, slow-commit, learn, join, promise, recover, collect-prep, decide-accept, decide-afresh, Reach, init, step}
@@ -18,7 +18,7 @@ use Rattle.safety.proofs.Inv.Keep.{up-vote, which}
 use Rattle.safety.proofs.Inv.Facts.{vote-one, vote-back1, vote-back2, near, now-in, loc-now, own-at, has-pre, has-prep}
 use Rattle.safety.proofs.Inv.Good.{holds}
 use Rattle.safety.proofs.Inv.Laws.{hist, rules}
-use Rattle.safety.proofs.Tests.{clash}
+use Rattle.reach.proofs.Tests.{clash}
 
 -- adding a member
 cnt-other : (n : ℕ) (p : ℕ → Bool) (o : ℕ) → n ≤ o → cnt n (upd p o true) ≡ cnt n p

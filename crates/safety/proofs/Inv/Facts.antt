@@ -5,7 +5,7 @@ use Rattle.safety.proofs.Value.{Value, cmd}
 use mathlib.Core.Path.{_≡_, refl, sym, ap, _∙_}
 use mathlib.Core.Logic.{_⊎_, inl, inr}
 use native.Mathlib.Omega.{arith}
-use Rattle.safety.proofs.Tests.{clash}
+use Rattle.reach.proofs.Tests.{clash}
 use Rattle.safety.proofs.Hist.{St, s0, s1, s2, s3, s4, Reply}
 use Rattle.safety.proofs.Sys.{preparing, prephase, Rec, Sys, W, HasPre, HasPrep}
 use Rattle.safety.proofs.Older.{rank, Le, le-same, le-new, le-com}

@@ -8,10 +8,10 @@ use mathlib.Core.Logic.{_⊎_, inl, inr}
 use mathlib.Core.Bool.{Bool, true, false}
 use mathlib.Core.List.{List, [], _∷_, List·Memᴰ, List·Memᴰ·head, List·Memᴰ·tail, List·Memᴰ·not-nil, List·Memᴰ·eq-of-singleton}
 use native.Mathlib.Omega.{arith}
-use Rattle.safety.proofs.Tests.{clash}
+use Rattle.reach.proofs.Tests.{clash}
 use native.Mathlib.Decide.{ℕ-discrete}
 use native.Mathlib.Nat.{eq-or-lt-of-le}
-use Rattle.safety.proofs.Count.{cnt}
+use Rattle.reach.proofs.Count.{cnt}
 use Rattle.safety.proofs.Hist.{St, s0, s1, s2, s3, s4, Reply, Outcome, accept, afresh}
 use Rattle.safety.proofs.Sys.{Ph, idle, preparing, prephase, accphase, Rec, mk, reply-of, Msg, mPre, mPreOK, mAcc, mAccOK, mCommit, mPrepOK, Sys, if-eq, upd, upd-same, nobody, push, W, Fresh, Says, say-ok1, say-ok2, say-pre, say-acc, say-commit, HasPre, HasAcc, Trans, repeat, request, pre-same, pre-more, collect-pre, fast-commit, to-accept, acc, collect-acc, slow-commit, learn, join, promise, recover, collect-prep, decide-accept, decide-afresh, Reach, init, step}
 use Rattle.safety.proofs.Older.{rank, rank-le, Le, le-same, le-new, le-com, le-refl}

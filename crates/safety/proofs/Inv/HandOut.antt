@@ -13,7 +13,7 @@ use Rattle.safety.proofs.Inv.{ComE, Inv}
 use Rattle.safety.proofs.Inv.Keep.{up-com}
 use Rattle.safety.proofs.Inv.Facts.{now-in}
 use Rattle.safety.proofs.Inv.Good.{good, holds}
-use Rattle.safety.proofs.Tests.{clash}
+use Rattle.reach.proofs.Tests.{clash}
 use Rattle.safety.proofs.Inv.Multi.{Guard, GReach, g-step, alone, agree, covered}
 use Rattle.safety.proofs.Star.{Star, here, on, star-trans, star-map, star-map2}
 

@@ -6,8 +6,8 @@ use mathlib.Core.Path.{_≡_, refl, sym, ap, _∙_}
 use mathlib.Core.Logic.{_⊎_, inl, inr}
 use mathlib.Core.Bool.{Bool, true}
 use native.Mathlib.Omega.{arith}
-use Rattle.safety.proofs.Tests.{clash}
-use Rattle.safety.proofs.Count.{cnt}
+use Rattle.reach.proofs.Tests.{clash}
+use Rattle.reach.proofs.Count.{cnt}
 use Rattle.safety.proofs.Hist.{St, s0, s1, s2, s3, s4, Upto, u11, u13, u22, u23, u33, Reply, Outcome, accept, afresh, Decided, Obeys, Hist, Rules}
 use Rattle.safety.proofs.Agree.{Commit, slow, quick}
 use Rattle.safety.proofs.Sys.{Rec, Sys, W}

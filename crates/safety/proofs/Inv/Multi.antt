@@ -6,7 +6,7 @@ use mathlib.Core.Path.{_≡_, refl, sym, ap, _∙_}
 use mathlib.Core.Logic.{_⊎_, inl, inr, ⊎-elim}
 use mathlib.Core.List.{List, List·Memᴰ·tail, List·Memᴰ·not-nil}
 use native.Mathlib.Omega.{arith}
-use Rattle.safety.proofs.Count.{quorums-meet}
+use Rattle.reach.proofs.Count.{quorums-meet}
 use Rattle.safety.proofs.Hist.{St, s0, s1, s2, s3, s4}
 use Rattle.safety.proofs.Agree.{agreement}
 use Rattle.safety.proofs.Sys.{Rec, Msg, Sys, upd, upd-cases, push, W, blankSys, Trans, Reach, init, step}
@@ -16,7 +16,7 @@ use Rattle.safety.proofs.Inv.Keep.{which}
 use Rattle.safety.proofs.Inv.Facts.{now-in, loc-now}
 use Rattle.safety.proofs.Inv.Good.{holds}
 use Rattle.safety.proofs.Inv.Laws.{hist, rules, commit}
-use Rattle.safety.proofs.Tests.{clash}
+use Rattle.reach.proofs.Tests.{clash}
 use Rattle.safety.proofs.Inv.Cover.{PQ, AllPQ, all-pq, pq-cmd, pq-com}
 
 module _ (C : Case) where

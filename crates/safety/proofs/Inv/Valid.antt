@@ -9,14 +9,14 @@ use mathlib.Core.Logic.{_⊎_, inl, inr}
 use mathlib.Core.Bool.{Bool, true}
 use mathlib.Core.List.{List, List·Memᴰ·not-nil}
 use native.Mathlib.Omega.{arith}
-use Rattle.safety.proofs.Count.{member}
+use Rattle.reach.proofs.Count.{member}
 use Rattle.safety.proofs.Hist.{St, s0, s2, s3, Reply, Outcome, accept, afresh, Decided, none-voted, accepted, fast, anew}
 use Rattle.safety.proofs.Sys.{preparing, Rec, Msg, mPre, mAcc, mCommit, Sys, W, HasPrep, Trans, repeat, request, pre-same, pre-more, collect-pre, fast-commit, to-accept, acc, collect-acc, slow-commit, learn, join, promise, recover, collect-prep, decide-accept, decide-afresh, Reach, init, step}
 use Rattle.safety.proofs.Inv.{Vote, OkE, ComE, com-slow, com-fast, Inv}
 use Rattle.safety.proofs.Inv.Keep.{which}
 use Rattle.safety.proofs.Inv.Facts.{now-in, loc-now, has-prep}
 use Rattle.safety.proofs.Inv.Good.{holds}
-use Rattle.safety.proofs.Tests.{clash}
+use Rattle.reach.proofs.Tests.{clash}
 
 -- a command that is voted for or committed was put in by the owner's request, or is the no-op
 module _ (F owner : ℕ) (Req : Command → Type 0) (pos : 0 < F) where

@@ -12,8 +12,8 @@ use Rattle.paper.specs.Vote.{noVote, member}
 use Rattle.paper.specs.declared.Vote.{Vote}
 use Rattle.paper.specs.declared.Record.{Record}
 use Rattle.rules.specs.Step.{collect}
-use Rattle.safety.proofs.Tests.{and-l, and-r, and-in, or-cases, eqb-eq, eqb-false, eqb-same, ltb-in, ltb-lt}
-use Rattle.safety.proofs.Count.{cnt, cnt-mono}
+use Rattle.reach.proofs.Tests.{and-l, and-r, and-in, or-cases, eqb-eq, eqb-false, eqb-same, ltb-in, ltb-lt}
+use Rattle.reach.proofs.Count.{cnt, cnt-mono}
 use Rattle.safety.proofs.Sets.{member-with, with-small, cnt-cut}
 use Rattle.safety.proofs.Hist.{Reply}
 use Rattle.safety.proofs.Sys.{preparing, prephase, Rec, mk, upd, upd-cases}

@@ -14,9 +14,9 @@ use Rattle.paper.specs.declared.Command.{Command}
 use Rattle.paper.specs.declared.Record.{Record}
 use Rattle.rules.specs.Sets.{those, lowest, largestBelow}
 use Rattle.rules.specs.PrepareOk.{toldBy, voter, topVoted, topVoter, topAccepter, sameVoter, maybeFast, afreshCommand, acceptedFrom}
-use Rattle.safety.proofs.Tests.{clash, tf, and-l, and-r, and-in, not-not, eqb-eq, eqb-same, leb-le, leb-in, ltb-lt, ltb-in}
-use Rattle.safety.proofs.Count.{cnt, cnt-mono, both, both-true}
-use Rattle.safety.proofs.Count.{member as some-member}
+use Rattle.reach.proofs.Tests.{clash, tf, and-l, and-r, and-in, not-not, eqb-eq, eqb-same, leb-le, leb-in, ltb-lt, ltb-in}
+use Rattle.reach.proofs.Count.{cnt, cnt-mono, both, both-true}
+use Rattle.reach.proofs.Count.{member as some-member}
 use Rattle.safety.proofs.Sets.{ones-those, none-those, lowest-those, lowest-any, largest-ge, largest-one}
 use Rattle.safety.proofs.Hist.{St, s0, s1, s2, s3, s4, is2, Reply, Outcome, accept, afresh, Top, NoAcc, twos, Decided, none-voted, accepted, fast, anew}
 use Rattle.safety.proofs.Rel.{num, st-eq, valueOf, Tells}

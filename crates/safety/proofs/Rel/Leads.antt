@@ -22,8 +22,8 @@ use Rattle.rules.specs.Committing.{committing}
 use Rattle.rules.specs.PreAcceptOk.{added, addedVote, matching, different, fastEnough, slowEnough, someEnough, preAcceptedBy, onPreAcceptOk}
 use Rattle.rules.specs.AcceptOk.{acceptedBy, onAcceptOk}
 use Rattle.rules.specs.Nudge.{nothingToNudge, again, nudge}
-use Rattle.safety.proofs.Tests.{clash, tf, and-l, and-r, or-cases, not-not, eqb-eq, eqb-same, eqb-ne, leb-le, leb-in, ltb-lt, by-cond, not-true}
-use Rattle.safety.proofs.Count.{cnt}
+use Rattle.reach.proofs.Tests.{clash, tf, and-l, and-r, or-cases, not-not, eqb-eq, eqb-same, eqb-ne, leb-le, leb-in, ltb-lt, by-cond, not-true}
+use Rattle.reach.proofs.Count.{cnt}
 use Rattle.safety.proofs.Sets.{ones-cnt, ones-those}
 use Rattle.safety.proofs.Deps.{same-deps, joins-length, joins-own, joins-each}
 use Rattle.safety.proofs.Value.{Value, cmd, Sub, lead-0}

@@ -19,8 +19,8 @@ use Rattle.rules.specs.Step.{collect, awaited}
 use Rattle.rules.specs.Accepting.{accepting}
 use Rattle.rules.specs.Afresh.{afresh}
 use Rattle.rules.specs.PrepareOk.{toldBy, afreshCommand, acceptedFrom, decide, quorum, preparedBy, onPrepareOk}
-use Rattle.safety.proofs.Tests.{clash, tf, and-l, and-r, leb-le, ltb-lt, ltb-in, by-cond}
-use Rattle.safety.proofs.Count.{cnt}
+use Rattle.reach.proofs.Tests.{clash, tf, and-l, and-r, leb-le, ltb-lt, ltb-in, by-cond}
+use Rattle.reach.proofs.Count.{cnt}
 use Rattle.safety.proofs.Sets.{ones-cnt}
 use Rattle.safety.proofs.Deps.{Under, under-refl}
 use Rattle.safety.proofs.Value.{Value}

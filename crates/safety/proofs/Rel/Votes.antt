@@ -27,7 +27,7 @@ use Rattle.rules.specs.Nack.{nack}
 use Rattle.rules.specs.Recover.{nextBallot, recover}
 use Rattle.rules.specs.Request.{isBlank, request}
 use Rattle.rules.specs.Afresh.{afresh}
-use Rattle.safety.proofs.Tests.{clash, tf, and-l, and-r, not-not, eqb-eq, eqb-same, eqb-ne, leb-le, leb-gt, ltb-ge, not-true, by-cond}
+use Rattle.reach.proofs.Tests.{clash, tf, and-l, and-r, not-not, eqb-eq, eqb-same, eqb-ne, leb-le, leb-gt, ltb-ge, not-true, by-cond}
 use Rattle.safety.proofs.Sets.{member-only, only-small}
 use Rattle.safety.proofs.Deps.{Under, same-deps, same-deps-refl, join-length, join-r}
 use Rattle.safety.proofs.Value.{Value}

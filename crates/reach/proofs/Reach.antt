@@ -7,8 +7,8 @@ use native.Mathlib.Omega.{arith}
 use Rattle.paper.specs.Logic.{implies}
 use Rattle.rules.specs.Seen.{Records}
 use Rattle.rules.specs.Order.{everywhere, coversIn, reachesIn, reaches}
-use Rattle.safety.proofs.Tests.{clash, bool, or-cases}
-use Rattle.safety.proofs.Instances.{every-at, every-not, some-at, some-in, total, total-le, total-lt}
+use Rattle.reach.proofs.Tests.{clash, bool, or-cases}
+use Rattle.reach.proofs.Instances.{every-at, every-not, some-at, some-in, total, total-le, total-lt}
 
 or-l : (a b : Bool) → a ≡ true → (a || b) ≡ true
 or-l a b e = rw e refl

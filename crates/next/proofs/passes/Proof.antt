@@ -1,0 +1,43 @@
+use borrow.Author.Needs.{needs}
+use Rattle.next.proofs.passes.Statement.{statement}
+use Rattle.next.proofs.passes.Tie as tie
+use Rattle.next.proofs.Laws.{passes-is}
+
+slot-of-requires : tie.Need-slot-of-requires
+slot-of-requires c κs = search needs
+
+shared-slice-read-wide8 : tie.Need-shared-slice-read-wide8
+shared-slice-read-wide8 c = search needs
+
+wide8-requires : tie.Need-wide8-requires
+wide8-requires c κs = search needs
+
+equal-requires : tie.Need-equal-requires
+equal-requires c κs = search needs
+
+mark-of-requires : tie.Need-mark-of-requires
+mark-of-requires c κs = search needs
+
+at-most-requires : tie.Need-at-most-requires
+at-most-requires c κs = search needs
+
+either-requires : tie.Need-either-requires
+either-requires c κs = search needs
+
+returns : tie.Need-returns
+returns c =
+    let a = c .before .before .before .before .before .before .before .before .before .args in
+    passes-is (a .h .now) (a .st .now) (a .p) (a .k) (a .q) (a .i) (c .before .before .before .before .before .before .slot-of .ensures .0) (c .before .before .before .before .wide8 .ensures) (c .before .before .before .equal .ensures) (c .before .before .mark-of .ensures) (c .before .at-most .ensures) (c .either .ensures)
+
+pub passes-spec : {M : Type 1} → statement M
+passes-spec =
+    tie.close
+    (tie.spec
+    slot-of-requires
+    shared-slice-read-wide8
+    wide8-requires
+    equal-requires
+    mark-of-requires
+    at-most-requires
+    either-requires
+    returns)

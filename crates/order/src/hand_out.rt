@@ -1,0 +1,113 @@
+// The hand-out, as a public call.
+use crate::Handing;
+use crate::chart::reach_all;
+use crate::chart::settle_all;
+use next::next_out;
+use next::slot_of;
+use paper::Record;
+use rules::First;
+use table::Judging;
+use table::judge_table;
+use table::load;
+use table::place_of;
+use table::store;
+ghost use mathlib.Core.Path.{_≡_};
+ghost use Prim.Native.Nat.{_+_, _≤_, _<_};
+ghost use lib.ListN.{length};
+ghost use Rattle.num.specs.Num.{splice};
+ghost use Rattle.rules.specs.Order.{codeOf};
+ghost use Rattle.order.specs.Passed.{Passed};
+ghost use Rattle.order.specs.Chart.{Marking, Listing};
+ghost use Rattle.order.specs.Calls.{markIn, handedTable, handedCodes, handedOpen, handed};
+
+// The record is read, marked and written back.
+fn set_mark(t: &mut [u8], n: usize, s: usize, o: usize, j: usize)
+    requires { ⌜ Marking n s (now t) o j ⌝ }
+    ensures { λ _. ⌜ now (t .exit) ≡ markIn s (now (t .entry)) o j ⌝ }
+{
+    let at = place_of(n, s, o, j);
+    let r = load(&*t, at);
+    let vote = r.vote;
+    let replies = r.replies;
+    let joined = r.joined;
+    let phase = r.phase;
+    let set = r.set;
+    store(
+        t,
+        at,
+        Record {
+            joined,
+            vote,
+            mark: 1,
+            phase,
+            set,
+            replies,
+        },
+    );
+}
+
+// 256 x owner + number.
+fn code_of(o: usize, j: usize) -> u16
+    requires { ⌜ (o < 7) × (j ≤ 64) ⌝ }
+    ensures { λ r. ⌜ r ≡ codeOf o j ⌝ }
+{
+    (256 * o + j) as u16
+}
+
+// One place of the list at a time, until it is full or none is left.
+fn list_all(
+    t: &mut [u8],
+    n: usize,
+    s: usize,
+    h: &[u8],
+    st: &mut [u8],
+    upto: &mut [u16],
+    list: &mut [u16],
+) -> usize
+    requires { ⌜ Listing n s (now t) (now h) (now st) (now upto) ⌝ }
+    ensures count { λ r. ⌜ r ≡ length (handedCodes (length (now (list .entry))) n s (now (t .entry))) ⌝ }
+    ensures table { λ _. ⌜ now (t .exit) ≡ handedTable (length (now (list .entry))) n s (now (t .entry)) ⌝ }
+    ensures list { λ _. ⌜ now (list .exit) ≡ splice (now (list .entry)) 0 (handedCodes (length (now (list .entry))) n s (now (t .entry))) ⌝ }
+{
+    let mut count = 0;
+    while count < list.len() {
+        let found = next_out(n, s, h, &*st, &mut *upto);
+        let First::At { owner, number } = found else {
+            return count;
+        };
+        let x = slot_of(owner, number);
+        st[x] = 2;
+        set_mark(&mut *t, n, s, owner, number);
+        list[count] = code_of(owner, number);
+        count += 1;
+    }
+    count
+}
+
+// Past 1 and 11.
+fn hand_out_open(t: &mut [u8], n: usize, s: usize, c: usize, list: &mut [u16]) -> Handing
+    requires { ⌜ Passed n s c (now t) ⌝ }
+    ensures answers { λ r. ⌜ r ≡ handedOpen n s (now (t .entry)) (now (list .entry)) .answer ⌝ }
+    ensures table { λ _. ⌜ now (t .exit) ≡ handedOpen n s (now (t .entry)) (now (list .entry)) .table ⌝ }
+    ensures list { λ _. ⌜ now (list .exit) ≡ handedOpen n s (now (t .entry)) (now (list .entry)) .list ⌝ }
+{
+    let mut h = [0u8; 3136];
+    reach_all(&*t, n, s, &mut h);
+    let mut st = [0u8; 448];
+    settle_all(&*t, n, s, &h, &mut st);
+    let mut upto = [0u16; 448];
+    let count = list_all(t, n, s, &h, &mut st, &mut upto, list);
+    Handing::Codes(count)
+}
+
+pub fn hand_out(t: &mut [u8], n: usize, s: usize, c: usize, list: &mut [u16]) -> Handing
+    ensures answers { λ r. ⌜ r ≡ handed n s c (now (t .entry)) (now (list .entry)) .answer ⌝ }
+    ensures table { λ _. ⌜ now (t .exit) ≡ handed n s c (now (t .entry)) (now (list .entry)) .table ⌝ }
+    ensures list { λ _. ⌜ now (list .exit) ≡ handed n s c (now (t .entry)) (now (list .entry)) .list ⌝ }
+{
+    let judging = judge_table(&*t, n, s, c);
+    if let Judging::Refused(why) = judging {
+        return Handing::Refused(why);
+    }
+    hand_out_open(t, n, s, c, list)
+}

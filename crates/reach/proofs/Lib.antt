@@ -1,0 +1,7 @@
+pub mod Tests
+pub mod Count
+pub mod Instances
+pub mod Reach
+pub mod High
+pub mod First
+pub mod Same

@@ -1,0 +1,1 @@
+// What an instance reaches: theorems alone, under specs/ and proofs/.

@@ -1,0 +1,86 @@
+-- The search over a table's bytes: what it reads, and what each call rests on. Assumes nothing.
+use Prim.Native.Nat.{ℕ, _+_, _-_, _≤_, _<_}
+use mathlib.Core.Path.{_≡_, refl, sym, ap, _∙_}
+use mathlib.Core.Bool.{Bool, true, false, _&&_, _||_, not}
+use mathlib.Core.List.{List}
+use native.Mathlib.Omega.{arith}
+use native.Mathlib.Nat.{add-sub-cancel-left}
+use lib.Dec.{leb}
+use lib.ListN.{length, getD, set, take, drop, length-set}
+use Rattle.num.specs.Num.{numAt}
+use Rattle.codec.specs.Parts.{depsAt, voteAt}
+use Rattle.record.specs.Layout.{recordAt}
+use Rattle.table.specs.Place.{placeOf, partAt}
+use Rattle.table.specs.Sizes.{Names}
+use Rattle.rules.specs.Step.{isCommitted}
+use Rattle.rules.specs.Order.{waitsFor}
+use Rattle.seen.specs.Records.{recordsIn}
+use Rattle.reach.specs.High.{Inst, entryOf, Explored, itself}
+use Rattle.reach.proofs.High.{unvisited, unvisited-kept, unvisited-raised, raised-few, explore-skip, explore-more}
+use Rattle.search.specs.Searching.{Searching, Searched, Asked}
+
+-- the part that was lent is the record's
+whole : (t : List ℕ) (at : ℕ) → take (at + 263 - at) (drop at t) ≡ partAt t at
+whole t at = ap (λ (k : ℕ). take k (drop at t)) (add-sub-cancel-left at 263)
+
+pub deps-read : (t : List ℕ) (at : ℕ) {d : List ℕ} → d ≡ depsAt (take (at + 263 - at) (drop at t)) 22 → d ≡ recordAt (partAt t at) .vote .deps
+unfolding recordAt voteAt depsAt
+deps-read t at e = e ∙ ap (λ (b : List ℕ). depsAt b 22) (whole t at)
+
+pub status-read : (t : List ℕ) (at : ℕ) {x : ℕ} → x ≡ numAt 1 (take (at + 263 - at) (drop at t)) 8 → x ≡ recordAt (partAt t at) .vote .status
+unfolding recordAt voteAt
+status-read t at e = e ∙ ap (λ (b : List ℕ). numAt 1 b 8) (whole t at)
+
+-- the mark of q against the entry of q, as they were compared
+module _ (s : ℕ) (t : List ℕ) (p k q : ℕ) (r : List ℕ) {at : ℕ} {d : List ℕ} (ea : at ≡ placeOf s p k) (ed : d ≡ recordAt (partAt t at) .vote .deps)
+    {a b : ℕ} (ra : a ≡ getD r q 0) (rb : b ≡ getD d q 0) where
+  entry-read : getD d q 0 ≡ entryOf (recordsIn s t) p k q
+  entry-read = rw (ed, ea)
+
+  pub above : a < b → getD r q 0 + 1 ≤ entryOf (recordsIn s t) p k q
+  above l = omega (arith, entry-read)
+
+  pub reached : b ≤ a → entryOf (recordsIn s t) p k q ≤ getD r q 0
+  reached l = omega (arith, entry-read)
+
+pub inst : (n s o j : ℕ) → Names n s o j → Inst n s o j
+inst n s o j a = record { owner = a .owner; first = a .first; last = a .last }
+
+module _ (n s : ℕ) (t : List ℕ) (p k : ℕ) (m : List ℕ) (h : Searching n s t p k m) (q : ℕ) (r : List ℕ) (e : Explored n s (recordsIn s t) p k q m r) (lq : q < n) where
+  pub marks-long : q < length r
+  marks-long = omega (arith, e .long, h .seven, h .names .copies)
+
+  -- an entry above its mark: the mark goes up by one
+  module _ (x : ℕ) (ex : x ≡ getD r q 0 + 1) (lx : x ≤ entryOf (recordsIn s t) p k q) where
+    last : x ≤ s
+    last = omega (arith, h .fit p k (inst n s p k (h .names)) q lq)
+
+    pub fewer : unvisited n s (set r q x) < unvisited n s m
+    fewer = omega (arith, unvisited-raised r q x marks-long ex n s lq last, unvisited-kept n s m r (e .kept))
+
+    -- the number that is passed on is the mark's
+    pub onward : (y : ℕ) → y ≡ x → Searching n s t q y (set r q x)
+    onward y ey = record {
+      names = record { copies = h .names .copies; numbers = h .names .numbers; owner = lq; first = omega arith; last = omega (arith, last) };
+      long = h .long;
+      fit = h .fit;
+      seven = length-set r q x ∙ e .long ∙ h .seven;
+      few = raised-few r q x marks-long ex n s (e .few) last;
+    }
+
+    pub more : (y : ℕ) (u : List ℕ) → y ≡ x → Explored n s (recordsIn s t) q y n (set r q x) u → Explored n s (recordsIn s t) p k q m u
+    more y u ey v = explore-more n s (recordsIn s t) p k q x m r u (inst n s p k (h .names)) (h .fit) e lq marks-long ex lx (rw ey at v)
+
+    -- the loop's measure falls
+    pub shrinks : (y : ℕ) (u : List ℕ) → Explored n s (recordsIn s t) q y n (set r q x) u → unvisited n s u < unvisited n s r
+    shrinks y u v = omega (arith, unvisited-raised r q x marks-long ex n s lq last, unvisited-kept n s (set r q x) u (v .kept))
+
+-- the walk over what was visited
+module _ (n s : ℕ) (t : List ℕ) (p k : ℕ) (m : List ℕ) (o j : ℕ) (h : Asked n s t p k m o j) where
+  pub asked-names : Names n s o j
+  asked-names = record { copies = h .searched .copies; numbers = h .searched .numbers; owner = h .inst .owner; first = h .inst .first; last = h .inst .last }
+
+  pub waits-is : {at : ℕ} {a b x y z : Bool} {i : ℕ} → at ≡ placeOf s o j → a ≡ itself p k o j → i ≡ getD m o 0 → b ≡ leb j i → x ≡ (a || b)
+      → y ≡ isCommitted (recordAt (partAt t at)) → z ≡ (x && not y) → z ≡ waitsFor n s (recordsIn s t) p k o j
+  unfolding waitsFor
+  waits-is ea ra ri rb rx ry rz = rz ∙ rw (rx, ra, rb, ri, ry, ea, h .searched .highs o j (h .inst))
