@@ -1,7 +1,7 @@
 -- Answers as numbers: one law for each outcome. Assumes nothing.
 use mathlib.Core.Path.{_≡_, refl, sym, ap, _∙_}
 use mathlib.Core.Bool.{Bool, true, false, _&&_}
-use mathlib.Core.List.{List}
+use mathlib.Core.List.{List, [], _∷_}
 use Prim.Native.Nat.{ℕ, _≤_, _<_}
 use lib.Dec.{eqb}
 use lib.ListN.{replicate, take, drop}
@@ -20,7 +20,10 @@ use Rattle.wire.specs.declared.Reading.the-variants as reading
 use Rattle.wire.specs.declared.Received.{Received}
 use Rattle.wire.specs.declared.Writing.{Writing}
 use Rattle.wire.specs.Calls.{readingNumber, wrote, writingNumber, writingCount}
-use Rattle.pumxaqert.specs.Flat.{partStart, partLength}
+use Rattle.order.specs.declared.Settling.the-variants as settling
+use Rattle.paper.specs.Command.{opNumber}
+use Rattle.paper.specs.declared.Command.{Command}
+use Rattle.pumxaqert.specs.Flat.{partStart, partLength, settlingValues}
 use Rattle.pumxaqert.specs.Fields.{otherBallot, fieldsOf, readValues, messageFrom, sameFields, messageOf}
 
 pub other-8 : (b : Body) → kindOf b ≡ 8 → joinedIn b ≡ otherBallot b
@@ -87,3 +90,7 @@ pub wrote-as : (n s c : ℕ) (out fs : List ℕ) {m : Message} {x : Writing} {o 
 wrote-as n s c out fs em ex eo y e =
     let q = sym e ∙ ex ∙ ap (λ (k : Message). wrote n s c out k .answer) em in
     (ap writingNumber q, (ap writingCount q, eo ∙ ap (λ (k : Message). wrote n s c out k .out) em))
+
+-- a settled instance's command, as numbers
+pub settled-values : (k : Command) {a b : ℕ} → a ≡ opNumber (k .op) → b ≡ k .key → (1 ∷ a ∷ b ∷ k .edit ∷ []) ≡ settlingValues (settling.Settled k)
+settled-values k p q = λ i. 1 ∷ p i ∷ q i ∷ k .edit ∷ []

@@ -2,4 +2,5 @@
 pub mod events;
 pub mod fields;
 pub mod messages;
+pub mod ordering;
 pub mod tables;
