@@ -1,2 +1,4 @@
 pub mod Fits
 pub mod Saved
+pub mod Range
+pub mod Records
