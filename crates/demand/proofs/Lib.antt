@@ -2,3 +2,4 @@ pub mod Fits
 pub mod Saved
 pub mod Range
 pub mod Records
+pub mod Written
