@@ -3,3 +3,4 @@ pub mod Saved
 pub mod Range
 pub mod Records
 pub mod Written
+pub mod Handing

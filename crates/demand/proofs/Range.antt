@@ -13,6 +13,7 @@ use Rattle.paper.specs.declared.Record.{Record}
 use Rattle.paper.specs.declared.Message.{Message}
 use Rattle.rules.specs.declared.Step.{Step}
 use Rattle.rules.specs.declared.First.{First}
+use Rattle.rules.specs.declared.First.the-variants.{At, Nowhere}
 use Rattle.rules.specs.Sets.{highest}
 use Rattle.rules.specs.Step.{isCommitted}
 use Rattle.rules.specs.Seen.{Records, met, seenEntry, seenFrom, seen}
@@ -20,9 +21,10 @@ use Rattle.rules.specs.Request.{isBlank, lowestBlank, request}
 use Rattle.rules.specs.Received.{received}
 use Rattle.rules.specs.Recover.{recover}
 use Rattle.rules.specs.Nudge.{nudge}
-use Rattle.rules.specs.Events.{requestNumber, onRequest, onMessage, onRecover, onNudge}
-use Rattle.rules.specs.Order.{everywhere, somewhere, firstOwner, firstNumber, coversIn, reachesIn, reaches, waitsFor, isSettled, isMarked, candidate, nextOut}
+use Rattle.rules.specs.Events.{put, requestNumber, onRequest, onMessage, onRecover, onNudge}
+use Rattle.rules.specs.Order.{everywhere, somewhere, firstOwner, firstNumber, coversIn, reachesIn, reaches, waitsFor, isSettled, isMarked, candidate, marked, mark, nextOut, codeOf, found, handOut}
 use Rattle.closed.proofs.Laws.{two, both}
+use Rattle.closed.proofs.Mark.{Found, nextOut-found}
 
 -- an instance in range
 pub in-range : (n s o j : ℕ) → o < n → 1 ≤ j → j ≤ s → instanceOk n s o j ≡ true
@@ -148,3 +150,20 @@ module _ (n s : ℕ) where
     pub next-alike : nextOut n s t ≡ nextOut n s u
     unfolding nextOut
     next-alike = first-alike (candidate n s t) (candidate n s u) candidate-alike s 1 (omega arith) (omega arith)
+
+  put-alike : (t u : Records) → Alike t u → (o j : ℕ) (r : Record) → Alike (put t o j r) (put u o j r)
+  unfolding put
+  put-alike t u h o j r p i z = rw (h p i z)
+
+  mark-alike : (t u : Records) → Alike t u → (o j : ℕ) → instanceOk n s o j ≡ true → Alike (mark t o j) (mark u o j)
+  mark-alike t u h o j z = rw (h o j z) (put-alike t u h o j (marked (u o j)))
+
+  pub out-alike : (room : ℕ) (t u : Records) → Alike t u → handOut room n s t ≡ handOut room n s u
+  unfolding handOut
+  out-alike zero t u h = refl
+  out-alike (suc room) t u h = rw (next-alike t u h) (go (nextOut n s u) (nextOut-found n s u) (λ v w k. out-alike room v w k))
+    where
+      go : (f : First) → Found n s (candidate n s u) f → ((v w : Records) → Alike v w → handOut room n s v ≡ handOut room n s w)
+          → found f [] (λ o j. codeOf o j ∷ handOut room n s (mark t o j)) ≡ found f [] (λ o j. codeOf o j ∷ handOut room n s (mark u o j))
+      go Nowhere g more = refl
+      go (At o j) g more = ap (λ (l : List ℕ). codeOf o j ∷ l) (more (mark t o j) (mark u o j) (mark-alike t u h o j (g .0)))
