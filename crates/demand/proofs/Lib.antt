@@ -4,3 +4,5 @@ pub mod Range
 pub mod Records
 pub mod Written
 pub mod Handing
+pub mod Steps
+pub mod Bridge

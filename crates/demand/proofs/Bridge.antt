@@ -1,0 +1,267 @@
+-- A run over bytes beside a run of the rules: each saved table is sound and its records are the rules' table, and all that is
+-- sent is the bytes of a valid message of the rules. Assumes nothing.
+use Prim.Native.Nat.{ℕ, zero, suc, _/_, _%_, _<_}
+use mathlib.Core.Path.{_≡_, refl, sym, ap, ap₂, _∙_}
+use mathlib.Core.Bool.{Bool, true, false, cond}
+use mathlib.Core.Logic.{⊎-elim}
+use mathlib.Core.List.{List, [], _∷_, _++_, append-nil, map, List·Memᴰ, List·Memᴰ·not-nil, List·Memᴰ·append-cases, List·Memᴰ·eq-of-singleton, Memᴰ·append-left, Memᴰ·append-right}
+use native.Mathlib.Omega.{arith}
+use lib.Dec.{eqb}
+use lib.ListN.{length}
+use borrow.Author.Tests.{eqb-true, eqb-false, eq-eqb, ne-eqb}
+use Rattle.num.specs.Num.{splice}
+use Rattle.num.proofs.Laws.{splice-same}
+use Rattle.codec.specs.Parts.{opOf}
+use Rattle.paper.specs.Setup.{setupOk}
+use Rattle.paper.specs.Instance.{instanceOk}
+use Rattle.paper.specs.declared.Message.{Message}
+use Rattle.record.specs.Layout.{recordBytes}
+use Rattle.rules.specs.declared.Step.{Step}
+use Rattle.rules.specs.declared.First.the-variants.{At}
+use Rattle.rules.specs.Seen.{Records}
+use Rattle.rules.specs.Events.{put, messages}
+use Rattle.rules.specs.Order.{nextOut, mark}
+use Rattle.wire.specs.Wire.{messageBytes}
+use Rattle.table.specs.Place.{placeOf, partAt}
+use Rattle.table.specs.Table.{blankTable, putRecord}
+use Rattle.table.specs.Calls.{partOf}
+use Rattle.seen.specs.Records.{recordsIn}
+use Rattle.closed.specs.Held.{Closed}
+use Rattle.log.specs.Out.{outBytes}
+use Rattle.log.specs.declared.Answer.{Answer}
+use Rattle.log.specs.declared.Answer.the-variants.{Event}
+use Rattle.log.specs.Events.{Outcome, answerNumber, answerOwner, answerInstance, answerWritten}
+use Rattle.log.specs.Events as log
+use Rattle.log.proofs.Held.{out-short}
+use Rattle.order.specs.Calls.{markIn, handed}
+use Rattle.safety.specs.Run.{Instance, Asked, Setup, replaced}
+use Rattle.safety.specs.Run as rules
+use Rattle.demand.specs.Run.{Copy, State, start, Call, request, receive, recover, nudge, outcome, Possible, asks, written, savedPart, acted, handing, marking, restarted, changed, asked, Move, event, leave, handOut, cut, Run, stay, further}
+use Rattle.demand.specs.Run.{mark as mv-mark}
+use Rattle.demand.proofs.Saved.{Kept, setup-of, blank-kept, put-own, put-kept}
+use Rattle.demand.proofs.Range.{next-alike}
+use Rattle.demand.proofs.Records.{records, alike, setup-at, blank-records, put-records}
+use Rattle.demand.proofs.Written.{Carried, carried-more, sent-carried, written-is}
+use Rattle.demand.proofs.Handing.{Pending, part-at, none-pending, all-saved, listed-pending, Marked, marked-next, mark-kept, mark-records}
+use Rattle.demand.proofs.Steps.{Brought, Goes, Stepped, stepped}
+
+module _ (n s : ℕ) (setup : Setup n s) where
+  -- copy q as its host has it, beside the same copy of the rules
+  pub record Beside (y : rules.State) (q : ℕ) (k : Copy) : Type 0 where
+    pub table : y .tables q ≡ records n s (k .saved)
+    pub kept : q < n → Kept n s q (k .saved)
+    pub pending : Pending n s (k .saved) (k .lent) (k .listed)
+    pub leaving : (b : List ℕ) → List·Memᴰ b (k .leaving) → Carried n s (y .sent) b
+    pub marks : y .marks q ≡ k .marks
+
+  pub record Tie (x : State) (y : rules.State) : Type 0 where
+    pub copies : (q : ℕ) → Beside y q (x .copies q)
+    pub sent : (b : List ℕ) → List·Memᴰ b (x .sent) → Carried n s (y .sent) b
+    pub requested : y .requested ≡ x .requested
+
+  -- what the rules' run is after a move over bytes
+  pub record Next (y : rules.State) (x : State) : Type 0 where
+    pub later : rules.State
+    pub run : rules.Run n s y later
+    pub tie : Tie x later
+
+  -- one copy changes, the others are as they were
+  one-copy : (y : rules.State) (f : ℕ → Copy) (c : ℕ) (k : Copy) → ((q : ℕ) → (q ≡ c → ⊥) → Beside y q (f q)) → Beside y c k → (q : ℕ) → Beside y q (replaced f c k q)
+  one-copy y f c k others here q = go (eqb q c) refl
+    where
+      go : (b : Bool) → eqb q c ≡ b → Beside y q (cond b k (f q))
+      go true e = rw (eqb-true q c e) here
+      go false e = others q (eqb-false q c e)
+
+  other-stays : {A : Type 0} (f : ℕ → A) (c : ℕ) (a : A) (q : ℕ) → (q ≡ c → ⊥) → replaced f c a q ≡ f q
+  other-stays f c a q ne = rw (ne-eqb q c ne)
+
+  here-is : {A : Type 0} (f : ℕ → A) (c : ℕ) (a : A) → replaced f c a c ≡ a
+  here-is f c a = rw (eq-eqb c c refl)
+
+  -- a copy that a step of another left alone
+  beside-still : (y z : rules.State) (q : ℕ) (k : Copy) → z .tables q ≡ y .tables q → z .marks q ≡ y .marks q
+      → ((m : Message) → List·Memᴰ m (y .sent) → List·Memᴰ m (z .sent)) → Beside y q k → Beside z q k
+  beside-still y z q k t m more b =
+      record {
+        table = t ∙ b .table;
+        kept = b .kept;
+        pending = b .pending;
+        leaving = λ e i. carried-more n s (y .sent) (z .sent) e more (b .leaving e i);
+        marks = m ∙ b .marks;
+      }
+
+  -- the start
+  pub begin : Tie (start n s) rules.start
+  begin =
+      record {
+        copies = λ q.
+        record {
+          table = sym (blank-records n s setup q);
+          kept = λ l. blank-kept n s q (setup-at n s setup q l);
+          pending = none-pending n s (blankTable n s q);
+          leaving = λ b i. absurd (List·Memᴰ·not-nil i);
+          marks = refl;
+        };
+        sent = λ b i. absurd (List·Memᴰ·not-nil i);
+        requested = refl;
+      }
+
+  module _ (x : State) (y : rules.State) (tie : Tie x y) (c : ℕ) (copy : c < n) where
+    abbrev k : Copy
+    k = x .copies c
+
+    abbrev side : Beside y c (x .copies c)
+    side = tie .copies c
+
+    -- only copy c's host knows of it
+    quietly : (j : Copy) → Beside y c j → Next y (changed x c j)
+    quietly j b =
+        record { later = y; run = rules.stay; tie = record { copies = one-copy y (x .copies) c j (λ q ne. tie .copies q) b; sent = tie .sent; requested = tie .requested } }
+
+    -- an event
+    brought : (call : Call) → Possible x call → Brought n s (y .sent) call
+    brought (request op key edit) p = record { key = p .0; edit = p .1 }
+    brought (receive b) p = tie .sent b p
+    brought (recover o j) p = tt
+    brought (nudge o j) p = tt
+
+    -- the part that is saved is all that the event changed
+    part-saved : (t : List ℕ) (o j : ℕ) (e : Step) → Kept n s c t → instanceOk n s o j ≡ true → Closed n s c o e
+        → savedPart n s c t (putRecord s t o j (e .entry)) o j ≡ putRecord s t o j (e .entry)
+    part-saved t o j e h i d =
+        ap (splice t (placeOf s o j))
+        (part-at n s c (putRecord s t o j (e .entry)) (put-kept n s c t h o j i (e .entry) (d .held)) o j i ∙ put-own n s c t h o j i (e .entry) (d .held))
+
+    event-next : (call : Call) (out : List ℕ) (st : Stepped n s c (k .saved) out call y) (u : List ℕ) → u ≡ k .saved
+        → Next y (asked (changed x c (acted n s c k (outcome n s c u out call) (st .owner) (st .number) (length (outBytes (st .step))))) (asks (st .owner) (st .number) call))
+    unfolding log.acted
+    event-next call out st u eu =
+        let t : List ℕ = k .saved in
+        let o : ℕ = st .owner in
+        let j : ℕ = st .number in
+        let e : Step = st .step in
+        let g = st .goes in
+        let z : rules.State = g .later in
+        let h : Kept n s c t = side .kept copy in
+        let p : setupOk n s c ≡ true = setup-of n s c t (h .setup) in
+        let res : outcome n s c u out call ≡ log.acted s t out o j e = ap (λ (v : List ℕ). outcome n s c v out call) eu ∙ st .is in
+        let more : (m : Message) → List·Memᴰ m (y .sent) → List·Memᴰ m (z .sent) = λ m i. rw (g .sent) (Memᴰ·append-left (messages e) i) in
+        let new : (m : Message) → List·Memᴰ m (messages e) → List·Memᴰ m (z .sent) = λ m i. rw (g .sent) (Memᴰ·append-right (y .sent) i) in
+        let bytes = written-is e out (st .long) (out-short n s c p e (st .closed .sent)) in
+        let after : List ℕ = putRecord s t o j (e .entry) in
+        record {
+          later = z;
+          run = rules.further rules.stay (g .move);
+          tie = record {
+            copies = one-copy z (x .copies) c _
+            (λ q ne. beside-still y z q (x .copies q) (ap (λ (f : ℕ → Records). f q) (g .tables) ∙ other-stays (y .tables) c _ q ne) (ap (λ (f : ℕ → List Instance). f q) (g .marks)) more (tie .copies q))
+            (rw (res, part-saved t o j e h (st .range) (st .closed))
+            (record {
+              table = ap (λ (f : ℕ → Records). f c) (g .tables) ∙ here-is (y .tables) c (put (y .tables c) o j (e .entry))
+              ∙ ap (λ (f : Records). put f o j (e .entry)) (side .table) ∙ sym (put-records n s c t h o j (st .range) (e .entry) (st .closed .held));
+              kept = λ l. put-kept n s c t h o j (st .range) (e .entry) (st .closed .held);
+              pending = none-pending n s after;
+              leaving = λ b i.
+              ⊎-elim (λ (w : List·Memᴰ b (k .leaving)). carried-more n s (y .sent) (z .sent) b more (side .leaving b w))
+              (λ (w : List·Memᴰ b (written (length (outBytes e)) (splice out 0 (outBytes e)))).
+              carried-more n s (messages e) (z .sent) b new (sent-carried n s c p (setup-at n s setup) e (st .closed .sent) b (rw bytes at w)))
+              (List·Memᴰ·append-cases (k .leaving) i);
+              marks = ap (λ (f : ℕ → List Instance). f c) (g .marks) ∙ side .marks;
+            }));
+            sent = λ b i. carried-more n s (y .sent) (z .sent) b more (tie .sent b i);
+            requested = g .requested ∙ ap (λ (l : List Asked). l ++ asks o j call) (tie .requested);
+          };
+        }
+
+    -- one mark is saved
+    mark-next : (code : ℕ) (rest : List ℕ) → k .listed ≡ code ∷ rest → Next y (changed x c (marking n s c k code rest))
+    mark-next code rest e =
+        let t : List ℕ = k .saved in
+        let h : Kept n s c t = side .kept copy in
+        let m = marked-next n s c t (k .lent) code rest (k .listed) h (side .pending) e in
+        let o : ℕ = m .owner in
+        let j : ℕ = m .number in
+        let z : rules.State = rules.marked y c o j in
+        let out : nextOut n s (y .tables c) ≡ At o j =
+        ap (nextOut n s) (side .table) ∙ sym (next-alike n s (recordsIn s t) (records n s t) (alike n s t)) ∙ m .next in
+        record {
+          later = z;
+          run = rules.further rules.stay (rules.handOut c o j copy out);
+          tie = record {
+            copies = one-copy z (x .copies) c _
+            (λ q ne. beside-still y z q (x .copies q) (other-stays (y .tables) c _ q ne) (other-stays (y .marks) c _ q ne) (λ a i. i) (tie .copies q))
+            (rw (m .is-owner, m .is-number, m .saved)
+            (record {
+              table = here-is (y .tables) c (mark (y .tables c) o j) ∙ ap (λ (f : Records). mark f o j) (side .table) ∙ sym (mark-records n s c t h o j (m .found));
+              kept = λ l. mark-kept n s c t h o j (m .found);
+              pending = m .pending;
+              leaving = side .leaving;
+              marks = here-is (y .marks) c (y .marks c ++ (o, j) ∷ []) ∙ ap (λ (l : List Instance). l ++ (o, j) ∷ []) (side .marks);
+            }));
+            sent = tie .sent;
+            requested = tie .requested;
+          };
+        }
+
+  -- every move over bytes is a move of the rules, or none
+  pub move-next : {x z : State} (y : rules.State) → Tie x y → Move n s x z → Next y z
+  unfolding log.acted
+  move-next {x = x} y tie (event c call out o j w copy poss none ans) =
+      let side = tie .copies c in
+      let t : List ℕ = x .copies c .saved in
+      let eu : x .copies c .lent ≡ t = all-saved n s t (x .copies c .lent) (x .copies c .listed) (side .pending) none in
+      let res : outcome n s c t out call .answer ≡ Event o j w = ap (λ (v : List ℕ). outcome n s c v out call .answer) (sym eu) ∙ ans in
+      let st = stepped n s c t out (side .kept copy) copy y (side .table) call (brought x y tie c copy call poss) (ap answerNumber res) in
+      same x y c call out (x .copies c .lent) o j w st (sym res ∙ ap (λ (v : Outcome). v .answer) (st .is)) (event-next x y tie c copy call out st (x .copies c .lent) eu)
+    where
+      same : (x : State) (y : rules.State) (c : ℕ) (call : Call) (out u : List ℕ) (o j w : ℕ) (st : Stepped n s c (x .copies c .saved) out call y)
+          → Event o j w ≡ log.acted s (x .copies c .saved) out (st .owner) (st .number) (st .step) .answer
+          → Next y (asked (changed x c (acted n s c (x .copies c) (outcome n s c u out call) (st .owner) (st .number) (length (outBytes (st .step))))) (asks (st .owner) (st .number) call))
+          → Next y (asked (changed x c (acted n s c (x .copies c) (outcome n s c u out call) o j w)) (asks o j call))
+      same x y c call out u o j w st e h = rw (ap answerOwner e, ap answerInstance e, ap answerWritten e) h
+  move-next {x = x} y tie (leave c b copy i) =
+      record {
+        later = y;
+        run = rules.stay;
+        tie = record {
+          copies = tie .copies;
+          sent = λ d q. ⊎-elim (λ (h : List·Memᴰ d (x .sent)). tie .sent d h) (λ (h : List·Memᴰ d (b ∷ [])). rw (List·Memᴰ·eq-of-singleton h) (tie .copies c .leaving b i)) (List·Memᴰ·append-cases (x .sent) q);
+          requested = tie .requested;
+        };
+      }
+  move-next {x = x} y tie (handOut c list i copy none ans) =
+      let side = tie .copies c in
+      let t : List ℕ = x .copies c .saved in
+      let eu : x .copies c .lent ≡ t = all-saved n s t (x .copies c .lent) (x .copies c .listed) (side .pending) none in
+      quietly x y tie c copy (handing (x .copies c) (handed n s c (x .copies c .lent) list) i)
+      (record {
+        table = side .table;
+        kept = side .kept;
+        pending = rw eu (listed-pending n s c t list i (side .kept copy) (rw eu at ans));
+        leaving = side .leaving;
+        marks = side .marks;
+      })
+  move-next y tie (mv-mark c code rest copy e) = mark-next _ y tie c copy code rest e
+  move-next {x = x} y tie (cut c copy) =
+      let side = tie .copies c in
+      quietly x y tie c copy (restarted (x .copies c))
+      (record {
+        table = side .table;
+        kept = side .kept;
+        pending = none-pending n s (x .copies c .saved);
+        leaving = λ b i. absurd (List·Memᴰ·not-nil i);
+        marks = side .marks;
+      })
+
+  run-on : {x y z : rules.State} → rules.Run n s x y → rules.Run n s y z → rules.Run n s x z
+  run-on r rules.stay = r
+  run-on r (rules.further q m) = rules.further (run-on r q) m
+
+  -- the bridge
+  pub bridge : {x z : State} (y : rules.State) → Tie x y → Run n s x z → Next y z
+  bridge y tie stay = record { later = y; run = rules.stay; tie = tie }
+  bridge y tie (further r m) =
+      let a = bridge y tie r in
+      let b = move-next (a .later) (a .tie) m in
+      record { later = b .later; run = run-on (a .run) (b .run); tie = b .tie }
