@@ -6,3 +6,4 @@ pub mod Written
 pub mod Handing
 pub mod Steps
 pub mod Bridge
+pub mod Demand
