@@ -33,17 +33,18 @@ use Rattle.log.specs.declared.Answer.the-variants.{Event}
 use Rattle.log.specs.Events.{Outcome, answerNumber, answerOwner, answerInstance, answerWritten}
 use Rattle.log.specs.Events as log
 use Rattle.log.proofs.Held.{out-short}
-use Rattle.order.specs.Calls.{markIn, handed}
+use Rattle.order.specs.declared.Handing.the-variants.{Codes}
+use Rattle.order.specs.Calls.{handed}
 use Rattle.safety.specs.Run.{Instance, Asked, Setup, replaced}
 use Rattle.safety.specs.Run as rules
-use Rattle.demand.specs.Run.{Copy, State, start, Call, request, receive, recover, nudge, outcome, Possible, asks, written, savedPart, acted, handing, marking, restarted, changed, asked, Move, event, leave, handOut, cut, Run, stay, further}
+use Rattle.demand.specs.Run.{Copy, State, start, Call, request, receive, recover, nudge, outcome, Possible, recorded, written, savedPart, acted, handing, marking, restarted, changed, asked, Move, event, leave, handOut, cut, Run, stay, further}
 use Rattle.demand.specs.Run.{mark as mv-mark}
 use Rattle.demand.proofs.Saved.{Kept, setup-of, blank-kept, put-own, put-kept}
 use Rattle.demand.proofs.Range.{next-alike}
 use Rattle.demand.proofs.Records.{records, alike, setup-at, blank-records, put-records}
 use Rattle.demand.proofs.Written.{Carried, carried-more, sent-carried, written-is}
 use Rattle.demand.proofs.Handing.{Pending, part-at, none-pending, all-saved, listed-pending, Marked, marked-next, mark-kept, mark-records}
-use Rattle.demand.proofs.Steps.{Brought, Goes, Stepped, stepped}
+use Rattle.demand.proofs.Steps.{Brought, ownerIn, numberIn, stepIn, moved, Stepped, stepped}
 
 module _ (n s : ℕ) (setup : Setup n s) where
   -- copy q as its host has it, beside the same copy of the rules
@@ -115,9 +116,8 @@ module _ (n s : ℕ) (setup : Setup n s) where
     side = tie .copies c
 
     -- only copy c's host knows of it
-    quietly : (j : Copy) → Beside y c j → Next y (changed x c j)
-    quietly j b =
-        record { later = y; run = rules.stay; tie = record { copies = one-copy y (x .copies) c j (λ q ne. tie .copies q) b; sent = tie .sent; requested = tie .requested } }
+    quietly : (j : Copy) → Beside y c j → Tie (changed x c j) y
+    quietly j b = record { copies = one-copy y (x .copies) c j (λ q ne. tie .copies q) b; sent = tie .sent; requested = tie .requested }
 
     -- an event
     brought : (call : Call) → Possible x call → Brought n s (y .sent) call
@@ -133,126 +133,159 @@ module _ (n s : ℕ) (setup : Setup n s) where
         ap (splice t (placeOf s o j))
         (part-at n s c (putRecord s t o j (e .entry)) (put-kept n s c t h o j i (e .entry) (d .held)) o j i ∙ put-own n s c t h o j i (e .entry) (d .held))
 
-    event-next : (call : Call) (out : List ℕ) (st : Stepped n s c (k .saved) out call y) (u : List ℕ) → u ≡ k .saved
-        → Next y (asked (changed x c (acted n s c k (outcome n s c u out call) (st .owner) (st .number) (length (outBytes (st .step))))) (asks (st .owner) (st .number) call))
+    -- the instance and the step of a call here
+    abbrev ownerOf : Call → ℕ
+    ownerOf call = ownerIn c call
+
+    abbrev numberOf : Call → ℕ
+    numberOf call = numberIn s c (y .tables c) call
+
+    abbrev stepOf : Call → Step
+    stepOf call = stepIn n s c (y .tables c) call
+
+    -- the state after it
+    abbrev pub after : (call : Call) (out : List ℕ) → State
+    after call out =
+        asked (changed x c (acted n s c k (outcome n s c (k .lent) out call) (ownerOf call) (numberOf call) (length (outBytes (stepOf call))))) (recorded (x .requested) (ownerOf call) (numberOf call) call)
+
+    pub event-tie : (call : Call) (out : List ℕ) → Stepped n s c (k .saved) out call y → k .lent ≡ k .saved → Tie (after call out) (moved n s y c call (messages (stepOf call)))
     unfolding log.acted
-    event-next call out st u eu =
+    event-tie call out st eu =
         let t : List ℕ = k .saved in
-        let o : ℕ = st .owner in
-        let j : ℕ = st .number in
-        let e : Step = st .step in
-        let g = st .goes in
-        let z : rules.State = g .later in
+        let o : ℕ = ownerOf call in
+        let j : ℕ = numberOf call in
+        let e : Step = stepOf call in
+        let z : rules.State = moved n s y c call (messages e) in
         let h : Kept n s c t = side .kept copy in
         let p : setupOk n s c ≡ true = setup-of n s c t (h .setup) in
-        let res : outcome n s c u out call ≡ log.acted s t out o j e = ap (λ (v : List ℕ). outcome n s c v out call) eu ∙ st .is in
-        let more : (m : Message) → List·Memᴰ m (y .sent) → List·Memᴰ m (z .sent) = λ m i. rw (g .sent) (Memᴰ·append-left (messages e) i) in
-        let new : (m : Message) → List·Memᴰ m (messages e) → List·Memᴰ m (z .sent) = λ m i. rw (g .sent) (Memᴰ·append-right (y .sent) i) in
+        let res : outcome n s c (k .lent) out call ≡ log.acted s t out o j e = ap (λ (v : List ℕ). outcome n s c v out call) eu ∙ st .is in
+        let more : (m : Message) → List·Memᴰ m (y .sent) → List·Memᴰ m (z .sent) = λ m i. Memᴰ·append-left (messages e) i in
+        let new : (m : Message) → List·Memᴰ m (messages e) → List·Memᴰ m (z .sent) = λ m i. Memᴰ·append-right (y .sent) i in
         let bytes = written-is e out (st .long) (out-short n s c p e (st .closed .sent)) in
-        let after : List ℕ = putRecord s t o j (e .entry) in
         record {
-          later = z;
-          run = rules.further rules.stay (g .move);
-          tie = record {
-            copies = one-copy z (x .copies) c _
-            (λ q ne. beside-still y z q (x .copies q) (ap (λ (f : ℕ → Records). f q) (g .tables) ∙ other-stays (y .tables) c _ q ne) (ap (λ (f : ℕ → List Instance). f q) (g .marks)) more (tie .copies q))
-            (rw (res, part-saved t o j e h (st .range) (st .closed))
-            (record {
-              table = ap (λ (f : ℕ → Records). f c) (g .tables) ∙ here-is (y .tables) c (put (y .tables c) o j (e .entry))
-              ∙ ap (λ (f : Records). put f o j (e .entry)) (side .table) ∙ sym (put-records n s c t h o j (st .range) (e .entry) (st .closed .held));
-              kept = λ l. put-kept n s c t h o j (st .range) (e .entry) (st .closed .held);
-              pending = none-pending n s after;
-              leaving = λ b i.
-              ⊎-elim (λ (w : List·Memᴰ b (k .leaving)). carried-more n s (y .sent) (z .sent) b more (side .leaving b w))
-              (λ (w : List·Memᴰ b (written (length (outBytes e)) (splice out 0 (outBytes e)))).
-              carried-more n s (messages e) (z .sent) b new (sent-carried n s c p (setup-at n s setup) e (st .closed .sent) b (rw bytes at w)))
-              (List·Memᴰ·append-cases (k .leaving) i);
-              marks = ap (λ (f : ℕ → List Instance). f c) (g .marks) ∙ side .marks;
-            }));
-            sent = λ b i. carried-more n s (y .sent) (z .sent) b more (tie .sent b i);
-            requested = g .requested ∙ ap (λ (l : List Asked). l ++ asks o j call) (tie .requested);
-          };
+          copies = one-copy z (x .copies) c _
+          (λ q ne. beside-still y z q (x .copies q) (other-stays (y .tables) c _ q ne) refl more (tie .copies q))
+          (rw (res, part-saved t o j e h (st .range) (st .closed))
+          (record {
+            table = here-is (y .tables) c (put (y .tables c) o j (e .entry)) ∙ ap (λ (f : Records). put f o j (e .entry)) (side .table)
+            ∙ sym (put-records n s c t h o j (st .range) (e .entry) (st .closed .held));
+            kept = λ l. put-kept n s c t h o j (st .range) (e .entry) (st .closed .held);
+            pending = none-pending n s (putRecord s t o j (e .entry));
+            leaving = λ b i.
+            ⊎-elim (λ (w : List·Memᴰ b (k .leaving)). carried-more n s (y .sent) (z .sent) b more (side .leaving b w))
+            (λ (w : List·Memᴰ b (written (length (outBytes e)) (splice out 0 (outBytes e)))).
+            carried-more n s (messages e) (z .sent) b new (sent-carried n s c p (setup-at n s setup) e (st .closed .sent) b (rw bytes at w)))
+            (List·Memᴰ·append-cases (k .leaving) i);
+            marks = side .marks;
+          }));
+          sent = λ b i. carried-more n s (y .sent) (z .sent) b more (tie .sent b i);
+          requested = ap (λ (l : List Asked). recorded l o j call) (tie .requested);
         }
 
     -- one mark is saved
-    mark-next : (code : ℕ) (rest : List ℕ) → k .listed ≡ code ∷ rest → Next y (changed x c (marking n s c k code rest))
-    mark-next code rest e =
+    marked-here : (code : ℕ) (rest : List ℕ) → k .listed ≡ code ∷ rest → Marked n s c (k .saved) (k .lent) code rest
+    marked-here code rest e = marked-next n s c (k .saved) (k .lent) code rest (k .listed) (side .kept copy) (side .pending) e
+
+    mark-out : (code : ℕ) (rest : List ℕ) (m : Marked n s c (k .saved) (k .lent) code rest) → nextOut n s (y .tables c) ≡ At (m .owner) (m .number)
+    mark-out code rest m =
+        let t : List ℕ = k .saved in
+        ap (nextOut n s) (side .table) ∙ sym (next-alike n s (recordsIn s t) (records n s t) (alike n s t)) ∙ m .next
+
+    mark-tie : (code : ℕ) (rest : List ℕ) (m : Marked n s c (k .saved) (k .lent) code rest)
+        → Tie (changed x c (marking n s c k code rest)) (rules.marked y c (m .owner) (m .number))
+    mark-tie code rest m =
         let t : List ℕ = k .saved in
         let h : Kept n s c t = side .kept copy in
-        let m = marked-next n s c t (k .lent) code rest (k .listed) h (side .pending) e in
         let o : ℕ = m .owner in
         let j : ℕ = m .number in
         let z : rules.State = rules.marked y c o j in
-        let out : nextOut n s (y .tables c) ≡ At o j =
-        ap (nextOut n s) (side .table) ∙ sym (next-alike n s (recordsIn s t) (records n s t) (alike n s t)) ∙ m .next in
         record {
-          later = z;
-          run = rules.further rules.stay (rules.handOut c o j copy out);
-          tie = record {
-            copies = one-copy z (x .copies) c _
-            (λ q ne. beside-still y z q (x .copies q) (other-stays (y .tables) c _ q ne) (other-stays (y .marks) c _ q ne) (λ a i. i) (tie .copies q))
-            (rw (m .is-owner, m .is-number, m .saved)
-            (record {
-              table = here-is (y .tables) c (mark (y .tables c) o j) ∙ ap (λ (f : Records). mark f o j) (side .table) ∙ sym (mark-records n s c t h o j (m .found));
-              kept = λ l. mark-kept n s c t h o j (m .found);
-              pending = m .pending;
-              leaving = side .leaving;
-              marks = here-is (y .marks) c (y .marks c ++ (o, j) ∷ []) ∙ ap (λ (l : List Instance). l ++ (o, j) ∷ []) (side .marks);
-            }));
-            sent = tie .sent;
-            requested = tie .requested;
-          };
+          copies = one-copy z (x .copies) c _
+          (λ q ne. beside-still y z q (x .copies q) (other-stays (y .tables) c _ q ne) (other-stays (y .marks) c _ q ne) (λ a i. i) (tie .copies q))
+          (rw (m .is-owner, m .is-number, m .saved)
+          (record {
+            table = here-is (y .tables) c (mark (y .tables c) o j) ∙ ap (λ (f : Records). mark f o j) (side .table) ∙ sym (mark-records n s c t h o j (m .found));
+            kept = λ l. mark-kept n s c t h o j (m .found);
+            pending = m .pending;
+            leaving = side .leaving;
+            marks = here-is (y .marks) c (y .marks c ++ (o, j) ∷ []) ∙ ap (λ (l : List Instance). l ++ (o, j) ∷ []) (side .marks);
+          }));
+          sent = tie .sent;
+          requested = tie .requested;
         }
+
+    -- once all that was listed is saved, the table in memory is the saved one
+    pub in-memory : k .listed ≡ [] → k .lent ≡ k .saved
+    in-memory none = all-saved n s (k .saved) (k .lent) (k .listed) (side .pending) none
+
+    pub hand-tie : (list : List ℕ) (i : ℕ) → k .listed ≡ [] → handed n s c (k .lent) list .answer ≡ Codes i
+        → Tie (changed x c (handing k (handed n s c (k .lent) list) i)) y
+    hand-tie list i none ans =
+        let eu = in-memory none in
+        quietly (handing k (handed n s c (k .lent) list) i)
+        (record {
+          table = side .table;
+          kept = side .kept;
+          pending = rw eu (listed-pending n s c (k .saved) list i (side .kept copy) (rw eu at ans));
+          leaving = side .leaving;
+          marks = side .marks;
+        })
+
+    cut-tie : Tie (changed x c (restarted k)) y
+    cut-tie =
+        quietly (restarted k)
+        (record {
+          table = side .table;
+          kept = side .kept;
+          pending = none-pending n s (k .saved);
+          leaving = λ b i. absurd (List·Memᴰ·not-nil i);
+          marks = side .marks;
+        })
+
+    leave-tie : (b : List ℕ) → List·Memᴰ b (k .leaving) → Tie (record { copies = x .copies; sent = x .sent ++ b ∷ []; requested = x .requested }) y
+    leave-tie b i =
+        record {
+          copies = tie .copies;
+          sent = λ d q.
+          ⊎-elim (λ (h : List·Memᴰ d (x .sent)). tie .sent d h) (λ (h : List·Memᴰ d (b ∷ [])). rw (List·Memᴰ·eq-of-singleton h) (side .leaving b i))
+          (List·Memᴰ·append-cases (x .sent) q);
+          requested = tie .requested;
+        }
+
+  still : (y : rules.State) {z : State} → Tie z y → Next y z
+  still y t = record { later = y; run = rules.stay; tie = t }
+
+  -- an answered call, as it was answered
+  answered : (x : State) (y : rules.State) (tie : Tie x y) (c : ℕ) (copy : c < n) (call : Call) (out : List ℕ) (o j w : ℕ) → Possible x call → x .copies c .listed ≡ []
+      → outcome n s c (x .copies c .lent) out call .answer ≡ Event o j w
+      → Next y (asked (changed x c (acted n s c (x .copies c) (outcome n s c (x .copies c .lent) out call) o j w)) (recorded (x .requested) o j call))
+  unfolding log.acted
+  answered x y tie c copy call out o j w poss none ans =
+      let eu = in-memory x y tie c copy none in
+      let res : outcome n s c (x .copies c .saved) out call .answer ≡ Event o j w = ap (λ (v : List ℕ). outcome n s c v out call .answer) (sym eu) ∙ ans in
+      let st = stepped n s c (x .copies c .saved) out (tie .copies c .kept copy) copy y (tie .copies c .table) call (brought x y tie c copy call poss) (ap answerNumber res) in
+      let e : Event o j w ≡ Event (ownerIn c call) (numberIn s c (y .tables c) call) (length (outBytes (stepIn n s c (y .tables c) call))) =
+      sym res ∙ ap (λ (v : Outcome). v .answer) (st .is) in
+      rw (ap answerOwner e, ap answerInstance e, ap answerWritten e)
+      (record {
+        later = moved n s y c call (messages (stepIn n s c (y .tables c) call));
+        run = rules.further rules.stay (st .move _ (λ m i. i));
+        tie = event-tie x y tie c copy call out st eu;
+      })
 
   -- every move over bytes is a move of the rules, or none
   pub move-next : {x z : State} (y : rules.State) → Tie x y → Move n s x z → Next y z
-  unfolding log.acted
-  move-next {x = x} y tie (event c call out o j w copy poss none ans) =
-      let side = tie .copies c in
-      let t : List ℕ = x .copies c .saved in
-      let eu : x .copies c .lent ≡ t = all-saved n s t (x .copies c .lent) (x .copies c .listed) (side .pending) none in
-      let res : outcome n s c t out call .answer ≡ Event o j w = ap (λ (v : List ℕ). outcome n s c v out call .answer) (sym eu) ∙ ans in
-      let st = stepped n s c t out (side .kept copy) copy y (side .table) call (brought x y tie c copy call poss) (ap answerNumber res) in
-      same x y c call out (x .copies c .lent) o j w st (sym res ∙ ap (λ (v : Outcome). v .answer) (st .is)) (event-next x y tie c copy call out st (x .copies c .lent) eu)
-    where
-      same : (x : State) (y : rules.State) (c : ℕ) (call : Call) (out u : List ℕ) (o j w : ℕ) (st : Stepped n s c (x .copies c .saved) out call y)
-          → Event o j w ≡ log.acted s (x .copies c .saved) out (st .owner) (st .number) (st .step) .answer
-          → Next y (asked (changed x c (acted n s c (x .copies c) (outcome n s c u out call) (st .owner) (st .number) (length (outBytes (st .step))))) (asks (st .owner) (st .number) call))
-          → Next y (asked (changed x c (acted n s c (x .copies c) (outcome n s c u out call) o j w)) (asks o j call))
-      same x y c call out u o j w st e h = rw (ap answerOwner e, ap answerInstance e, ap answerWritten e) h
-  move-next {x = x} y tie (leave c b copy i) =
+  move-next {x = x} y tie (event c call out o j w copy poss none ans) = answered x y tie c copy call out o j w poss none ans
+  move-next {x = x} y tie (leave c b copy i) = still y (leave-tie x y tie c copy b i)
+  move-next {x = x} y tie (handOut c list i copy none ans) = still y (hand-tie x y tie c copy list i none ans)
+  move-next {x = x} y tie (mv-mark c code rest copy e) =
+      let m = marked-here x y tie c copy code rest e in
       record {
-        later = y;
-        run = rules.stay;
-        tie = record {
-          copies = tie .copies;
-          sent = λ d q. ⊎-elim (λ (h : List·Memᴰ d (x .sent)). tie .sent d h) (λ (h : List·Memᴰ d (b ∷ [])). rw (List·Memᴰ·eq-of-singleton h) (tie .copies c .leaving b i)) (List·Memᴰ·append-cases (x .sent) q);
-          requested = tie .requested;
-        };
+        later = rules.marked y c (m .owner) (m .number);
+        run = rules.further rules.stay (rules.handOut c (m .owner) (m .number) copy (mark-out x y tie c copy code rest m));
+        tie = mark-tie x y tie c copy code rest m;
       }
-  move-next {x = x} y tie (handOut c list i copy none ans) =
-      let side = tie .copies c in
-      let t : List ℕ = x .copies c .saved in
-      let eu : x .copies c .lent ≡ t = all-saved n s t (x .copies c .lent) (x .copies c .listed) (side .pending) none in
-      quietly x y tie c copy (handing (x .copies c) (handed n s c (x .copies c .lent) list) i)
-      (record {
-        table = side .table;
-        kept = side .kept;
-        pending = rw eu (listed-pending n s c t list i (side .kept copy) (rw eu at ans));
-        leaving = side .leaving;
-        marks = side .marks;
-      })
-  move-next y tie (mv-mark c code rest copy e) = mark-next _ y tie c copy code rest e
-  move-next {x = x} y tie (cut c copy) =
-      let side = tie .copies c in
-      quietly x y tie c copy (restarted (x .copies c))
-      (record {
-        table = side .table;
-        kept = side .kept;
-        pending = none-pending n s (x .copies c .saved);
-        leaving = λ b i. absurd (List·Memᴰ·not-nil i);
-        marks = side .marks;
-      })
+  move-next {x = x} y tie (cut c copy) = still y (cut-tie x y tie c copy)
 
   run-on : {x y z : rules.State} → rules.Run n s x y → rules.Run n s y z → rules.Run n s x z
   run-on r rules.stay = r

@@ -41,7 +41,7 @@ use Rattle.log.specs.declared.Gate.the-variants.{Open, Shut}
 use Rattle.log.specs.Events.{Outcome, refuse, acted, gateOf, gated, through, requestOpen, receiveOpen, recoverOpen, nudgeOpen, answerNumber}
 use Rattle.safety.specs.Run.{Asked, replaced}
 use Rattle.safety.specs.Run as rules
-use Rattle.demand.specs.Run.{Call, request, receive, recover, nudge, outcome, asks}
+use Rattle.demand.specs.Run.{Call, request, receive, recover, nudge, outcome, recorded}
 use Rattle.demand.proofs.Saved.{Kept, setup-of}
 use Rattle.demand.proofs.Range.{in-range, number-alike, request-alike, message-alike, recover-alike, nudge-alike}
 use Rattle.demand.proofs.Records.{records, at-range, alike, held}
@@ -73,24 +73,41 @@ Brought n s l (receive b) = Carried n s l b
 Brought n s l (recover o j) = Unit {0}
 Brought n s l (nudge o j) = Unit {0}
 
--- a step of copy c in the run of the rules
-pub record Goes (n s c : ℕ) (y : rules.State) (o j : ℕ) (x : Step) (l : List Asked) : Type 0 where
-  pub later : rules.State
-  pub move : rules.Move n s y later
-  pub tables : later .tables ≡ replaced (y .tables) c (put (y .tables c) o j (x .entry))
-  pub sent : later .sent ≡ y .sent ++ messages x
-  pub requested : later .requested ≡ y .requested ++ l
-  pub marks : later .marks ≡ y .marks
+-- the instance of a call at copy c, and what it does there to a table of records
+abbrev pub ownerIn : ℕ → Call → ℕ
+ownerIn c (request op key edit) = c
+ownerIn c (receive b) = messageAt b .owner
+ownerIn c (recover o j) = o
+ownerIn c (nudge o j) = o
+
+abbrev pub numberIn : ℕ → ℕ → Records → Call → ℕ
+numberIn s c u (request op key edit) = requestNumber s c u
+numberIn s c u (receive b) = messageAt b .number
+numberIn s c u (recover o j) = j
+numberIn s c u (nudge o j) = j
+
+abbrev pub stepIn : ℕ → ℕ → ℕ → Records → Call → Step
+stepIn n s c u (request op key edit) = onRequest n s c u (record { op = opOf op; key = key; edit = edit })
+stepIn n s c u (receive b) = onMessage n s c u (messageAt b)
+stepIn n s c u (recover o j) = onRecover n c u o j
+stepIn n s c u (nudge o j) = onNudge n c u o j
+
+-- the rules' run after it, once the messages l have left
+abbrev pub moved : ℕ → ℕ → rules.State → ℕ → Call → List Message → rules.State
+moved n s y c call l =
+    record {
+      tables = replaced (y .tables) c (put (y .tables c) (ownerIn c call) (numberIn s c (y .tables c) call) (stepIn n s c (y .tables c) call .entry));
+      sent = y .sent ++ l;
+      requested = recorded (y .requested) (ownerIn c call) (numberIn s c (y .tables c) call) call;
+      marks = y .marks;
+    }
 
 pub record Stepped (n s c : ℕ) (t out : List ℕ) (call : Call) (y : rules.State) : Type 0 where
-  pub owner : ℕ
-  pub number : ℕ
-  pub step : Step
-  pub is : outcome n s c t out call ≡ acted s t out owner number step
-  pub range : instanceOk n s owner number ≡ true
-  pub closed : Closed n s c owner step
+  pub is : outcome n s c t out call ≡ acted s t out (ownerIn c call) (numberIn s c (y .tables c) call) (stepIn n s c (y .tables c) call)
+  pub range : instanceOk n s (ownerIn c call) (numberIn s c (y .tables c) call) ≡ true
+  pub closed : Closed n s c (ownerIn c call) (stepIn n s c (y .tables c) call)
   pub long : 256 ≤ length out
-  pub goes : Goes n s c y owner number step (asks owner number call)
+  pub move : (l : List Message) → rules.Among l (messages (stepIn n s c (y .tables c) call)) → rules.Move n s y (moved n s y c call l)
 
 -- a request takes a number of the owner's
 above : (k j : ℕ) (row : ℕ → Record) → j ≤ lowestBlank k j row
@@ -110,17 +127,6 @@ module _ (n s c : ℕ) (t out : List ℕ) (k : Kept n s c t) (copy : c < n) (y :
   here : (o j : ℕ) → instanceOk n s o j ≡ true → y .tables c o j ≡ recordIn s t o j
   here o j i = ap (λ (u : Records). u o j) at ∙ at-range n s t o j i
 
-  -- nothing is asked, and all messages are sent
-  silently : (o j : ℕ) (x : Step) {u : Step} → u ≡ x → rules.Move n s y (rules.saved y c o j u (messages u)) → Goes n s c y o j x []
-  silently o j x {u} e m = record {
-    later = rules.saved y c o j u (messages u);
-    move = m;
-    tables = ap (λ (z : Step). replaced (y .tables) c (put (y .tables c) o j (z .entry))) e;
-    sent = ap (λ (z : Step). y .sent ++ messages z) e;
-    requested = sym (append-nil (y .requested));
-    marks = refl;
-  }
-
   request-step : (op key edit : ℕ) → Brought n s (y .sent) (request op key edit) → answerNumber (outcome n s c t out (request op key edit) .answer) ≡ 0
       → Stepped n s c t out (request op key edit) y
   unfolding requestOpen requestNumber commandOk
@@ -136,21 +142,11 @@ module _ (n s c : ℕ) (t out : List ℕ) (k : Kept n s c t) (copy : c < n) (y :
       let num : requestNumber s c (y .tables c) ≡ j = ap (requestNumber s c) at ∙ sym (number-alike n s (recordsIn s t) (records n s t) (alike n s t) c copy) in
       let same : onRequest n s c (y .tables c) v ≡ x = ap (λ (u : Records). onRequest n s c u v) at ∙ sym (request-alike n s (recordsIn s t) (records n s t) (alike n s t) c copy v) in
       record {
-        owner = c;
-        number = j;
-        step = x;
-        is = a .is ∙ b .is ∙ d .is;
-        range = in-range n s c j copy (above s 1 (recordsIn s t c)) small;
-        closed = request-event n s c setup (recordsIn s t) (held n s c t k) v (rw noop) f noop small;
+        is = a .is ∙ b .is ∙ d .is ∙ ap₂ (λ (i : ℕ) (z : Step). acted s t out c i z) (sym num) (sym same);
+        range = rw num (in-range n s c j copy (above s 1 (recordsIn s t c)) small);
+        closed = rw same (request-event n s c setup (recordsIn s t) (held n s c t k) v (rw noop) f noop small);
         long = ltb-false (length out) 256 (a .test);
-        goes = record {
-          later = _;
-          move = rules.request c v (messages (onRequest n s c (y .tables c) v)) copy noop (rw num small) (λ m z. z);
-          tables = ap₂ (λ (i : ℕ) (z : Step). replaced (y .tables) c (put (y .tables c) c i (z .entry))) num same;
-          sent = ap (λ (z : Step). y .sent ++ messages z) same;
-          requested = ap (λ (i : ℕ). y .requested ++ (c, i, v) ∷ []) num;
-          marks = refl;
-        };
+        move = λ l am. rules.request c v l copy noop (rw num small) am;
       }
 
   receive-step : (b : List ℕ) → Brought n s (y .sent) (receive b) → answerNumber (outcome n s c t out (receive b) .answer) ≡ 0 → Stepped n s c t out (receive b) y
@@ -165,14 +161,11 @@ module _ (n s c : ℕ) (t out : List ℕ) (k : Kept n s c t) (copy : c < n) (y :
       let i : instanceOk n s (m .owner) (m .number) ≡ true = valid-instance n s c m v in
       let same : onMessage n s c (y .tables c) m ≡ x = ap (λ (u : Records). onMessage n s c u m) at ∙ sym (message-alike n s (recordsIn s t) (records n s t) (alike n s t) c m i) in
       record {
-        owner = m .owner;
-        number = m .number;
-        step = x;
-        is = a .is ∙ d .is ∙ e .is;
+        is = a .is ∙ d .is ∙ e .is ∙ ap (acted s t out (m .owner) (m .number)) (sym same);
         range = i;
-        closed = message-event n s c setup (recordsIn s t) (held n s c t k) m v (f .fits);
+        closed = rw same (message-event n s c setup (recordsIn s t) (held n s c t k) m v (f .fits));
         long = ltb-false (length out) 256 (a .test);
-        goes = silently (m .owner) (m .number) x same (rules.receive c m _ copy (f .among) v (rw (here (m .owner) (m .number) i) (e .test)) (λ q z. z));
+        move = λ l am. rules.receive c m l copy (f .among) v (rw (here (m .owner) (m .number) i) (e .test)) am;
       }
 
   recover-step : (o j : ℕ) → answerNumber (outcome n s c t out (recover o j) .answer) ≡ 0 → Stepped n s c t out (recover o j) y
@@ -187,14 +180,11 @@ module _ (n s c : ℕ) (t out : List ℕ) (k : Kept n s c t) (copy : c < n) (y :
       let i : instanceOk n s o j ≡ true = not-false _ (b .test) in
       let same : onRecover n c (y .tables c) o j ≡ x = ap (λ (u : Records). onRecover n c u o j) at ∙ sym (recover-alike n s (recordsIn s t) (records n s t) (alike n s t) c o j i) in
       record {
-        owner = o;
-        number = j;
-        step = x;
-        is = a .is ∙ b .is ∙ d .is ∙ e .is;
+        is = a .is ∙ b .is ∙ d .is ∙ e .is ∙ ap (acted s t out o j) (sym same);
         range = i;
-        closed = recover-event n s c setup (recordsIn s t) (held n s c t k) o j i (d .test) (e .test);
+        closed = rw same (recover-event n s c setup (recordsIn s t) (held n s c t k) o j i (d .test) (e .test));
         long = ltb-false (length out) 256 (a .test);
-        goes = silently o j x same (rules.recover c o j _ copy i (rw (here o j i) (d .test)) (rw (here o j i) (e .test)) (λ q z. z));
+        move = λ l am. rules.recover c o j l copy i (rw (here o j i) (d .test)) (rw (here o j i) (e .test)) am;
       }
 
   nudge-step : (o j : ℕ) → answerNumber (outcome n s c t out (nudge o j) .answer) ≡ 0 → Stepped n s c t out (nudge o j) y
@@ -208,14 +198,11 @@ module _ (n s c : ℕ) (t out : List ℕ) (k : Kept n s c t) (copy : c < n) (y :
       let i : instanceOk n s o j ≡ true = not-false _ (b .test) in
       let same : onNudge n c (y .tables c) o j ≡ x = ap (λ (u : Records). onNudge n c u o j) at ∙ sym (nudge-alike n s (recordsIn s t) (records n s t) (alike n s t) c o j i) in
       record {
-        owner = o;
-        number = j;
-        step = x;
-        is = a .is ∙ b .is ∙ d .is;
+        is = a .is ∙ b .is ∙ d .is ∙ ap (acted s t out o j) (sym same);
         range = i;
-        closed = nudge-event n s c setup (recordsIn s t) (held n s c t k) o j i (d .test);
+        closed = rw same (nudge-event n s c setup (recordsIn s t) (held n s c t k) o j i (d .test));
         long = ltb-false (length out) 256 (a .test);
-        goes = silently o j x same (rules.nudge c o j _ copy i (rw (here o j i) (d .test)) (λ q z. z));
+        move = λ l am. rules.nudge c o j l copy i (rw (here o j i) (d .test)) am;
       }
 
   pub stepped : (call : Call) → Brought n s (y .sent) call → answerNumber (outcome n s c t out call .answer) ≡ 0 → Stepped n s c t out call y

@@ -64,12 +64,12 @@ Possible x (receive b) = List·Memᴰ b (x .sent)
 Possible x (recover o j) = Unit {0}
 Possible x (nudge o j) = Unit {0}
 
--- what an answered call adds to the requests: the instance that it answered, with its command
-abbrev pub asks : ℕ → ℕ → Call → List Asked
-asks o j (request op key edit) = (o, j, record { op = opOf op; key = key; edit = edit }) ∷ []
-asks o j (receive b) = []
-asks o j (recover p i) = []
-asks o j (nudge p i) = []
+-- the record of requests after an answered call: a request adds the instance that it answered and its command
+abbrev pub recorded : List Asked → ℕ → ℕ → Call → List Asked
+recorded l o j (request op key edit) = l ++ (o, j, record { op = opOf op; key = key; edit = edit }) ∷ []
+recorded l o j (receive b) = l
+recorded l o j (recover p i) = l
+recorded l o j (nudge p i) = l
 
 -- at most k messages that stand one after the other, each as long as its kind says
 abbrev pub messagesIn : ℕ → List ℕ → List (List ℕ)
@@ -123,15 +123,16 @@ restarted k = record { saved = k .saved; lent = k .saved; leaving = []; listed =
 abbrev pub changed : State → ℕ → Copy → State
 changed x c k = record { copies = replaced (x .copies) c k; sent = x .sent; requested = x .requested }
 
+-- and the record of requests
 abbrev pub asked : State → List Asked → State
-asked x l = record { copies = x .copies; sent = x .sent; requested = x .requested ++ l }
+asked x l = record { copies = x .copies; sent = x .sent; requested = l }
 
 -- A refused call and a question change nothing. A call whose record is not saved when the cut comes is a cut alone.
 pub data Move (n s : ℕ) (x : State) : State → Type 0 where
   -- a call that answers an event, with any room; marks that were listed are all saved before it
   event : (c : ℕ) (call : Call) (out : List ℕ) (o j w : ℕ) → c < n → Possible x call → x .copies c .listed ≡ []
       → outcome n s c (x .copies c .lent) out call .answer ≡ Event o j w
-      → Move n s x (asked (changed x c (acted n s c (x .copies c) (outcome n s c (x .copies c .lent) out call) o j w)) (asks o j call))
+      → Move n s x (asked (changed x c (acted n s c (x .copies c) (outcome n s c (x .copies c .lent) out call) o j w)) (recorded (x .requested) o j call))
   -- a message of a saved event leaves
   leave : (c : ℕ) (b : List ℕ) → c < n → List·Memᴰ b (x .copies c .leaving)
       → Move n s x (record { copies = x .copies; sent = x .sent ++ b ∷ []; requested = x .requested })
