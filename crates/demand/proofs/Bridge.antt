@@ -67,17 +67,17 @@ module _ (n s : ℕ) (setup : Setup n s) where
     pub tie : Tie x later
 
   -- one copy changes, the others are as they were
-  one-copy : (y : rules.State) (f : ℕ → Copy) (c : ℕ) (k : Copy) → ((q : ℕ) → (q ≡ c → ⊥) → Beside y q (f q)) → Beside y c k → (q : ℕ) → Beside y q (replaced f c k q)
+  pub one-copy : (y : rules.State) (f : ℕ → Copy) (c : ℕ) (k : Copy) → ((q : ℕ) → (q ≡ c → ⊥) → Beside y q (f q)) → Beside y c k → (q : ℕ) → Beside y q (replaced f c k q)
   one-copy y f c k others here q = go (eqb q c) refl
     where
       go : (b : Bool) → eqb q c ≡ b → Beside y q (cond b k (f q))
       go true e = rw (eqb-true q c e) here
       go false e = others q (eqb-false q c e)
 
-  other-stays : {A : Type 0} (f : ℕ → A) (c : ℕ) (a : A) (q : ℕ) → (q ≡ c → ⊥) → replaced f c a q ≡ f q
+  pub other-stays : {A : Type 0} (f : ℕ → A) (c : ℕ) (a : A) (q : ℕ) → (q ≡ c → ⊥) → replaced f c a q ≡ f q
   other-stays f c a q ne = rw (ne-eqb q c ne)
 
-  here-is : {A : Type 0} (f : ℕ → A) (c : ℕ) (a : A) → replaced f c a c ≡ a
+  pub here-is : {A : Type 0} (f : ℕ → A) (c : ℕ) (a : A) → replaced f c a c ≡ a
   here-is f c a = rw (eq-eqb c c refl)
 
   -- a copy that a step of another left alone
@@ -174,7 +174,7 @@ module _ (n s : ℕ) (setup : Setup n s) where
             leaving = λ b i.
             ⊎-elim (λ (w : List·Memᴰ b (k .leaving)). carried-more n s (y .sent) (z .sent) b more (side .leaving b w))
             (λ (w : List·Memᴰ b (written (length (outBytes e)) (splice out 0 (outBytes e)))).
-            carried-more n s (messages e) (z .sent) b new (sent-carried n s c p (setup-at n s setup) e (st .closed .sent) b (rw bytes at w)))
+            carried-more n s (messages e) (z .sent) b new (sent-carried n s c (setup-at n s setup) p e (st .closed .sent) b (rw bytes at w)))
             (List·Memᴰ·append-cases (k .leaving) i);
             marks = side .marks;
           }));
@@ -183,15 +183,15 @@ module _ (n s : ℕ) (setup : Setup n s) where
         }
 
     -- one mark is saved
-    marked-here : (code : ℕ) (rest : List ℕ) → k .listed ≡ code ∷ rest → Marked n s c (k .saved) (k .lent) code rest
+    pub marked-here : (code : ℕ) (rest : List ℕ) → k .listed ≡ code ∷ rest → Marked n s c (k .saved) (k .lent) code rest
     marked-here code rest e = marked-next n s c (k .saved) (k .lent) code rest (k .listed) (side .kept copy) (side .pending) e
 
-    mark-out : (code : ℕ) (rest : List ℕ) (m : Marked n s c (k .saved) (k .lent) code rest) → nextOut n s (y .tables c) ≡ At (m .owner) (m .number)
+    pub mark-out : (code : ℕ) (rest : List ℕ) (m : Marked n s c (k .saved) (k .lent) code rest) → nextOut n s (y .tables c) ≡ At (m .owner) (m .number)
     mark-out code rest m =
         let t : List ℕ = k .saved in
         ap (nextOut n s) (side .table) ∙ sym (next-alike n s (recordsIn s t) (records n s t) (alike n s t)) ∙ m .next
 
-    mark-tie : (code : ℕ) (rest : List ℕ) (m : Marked n s c (k .saved) (k .lent) code rest)
+    pub mark-tie : (code : ℕ) (rest : List ℕ) (m : Marked n s c (k .saved) (k .lent) code rest)
         → Tie (changed x c (marking n s c k code rest)) (rules.marked y c (m .owner) (m .number))
     mark-tie code rest m =
         let t : List ℕ = k .saved in
@@ -226,7 +226,7 @@ module _ (n s : ℕ) (setup : Setup n s) where
         (record {
           table = side .table;
           kept = side .kept;
-          pending = rw eu (listed-pending n s c (k .saved) list i (side .kept copy) (rw eu at ans));
+          pending = rw eu (listed-pending n s c (k .saved) list (side .kept copy) i (rw eu at ans));
           leaving = side .leaving;
           marks = side .marks;
         })

@@ -172,17 +172,21 @@ codesIn : Handing → ℕ
 codesIn (handing.Codes i) = i
 codesIn (handing.Refused r) = 0
 
-pub listed-pending : (n s c : ℕ) (t list : List ℕ) (i : ℕ) → Kept n s c t → handed n s c t list .answer ≡ Codes i
-    → Pending n s t (handed n s c t list .table) (take i (handed n s c t list .list))
-unfolding handed handedOpen handedCodes codesIn
-listed-pending n s c t list i k e =
-    let l : List ℕ = handOut (length list) n s (recordsIn s t) in
-    let z : length l ≡ i = ap codesIn (rw (sound-judged n s c t k) at e) in
-    record {
-      room = length list;
-      table = rw (sound-judged n s c t k);
-      codes = rw (sound-judged n s c t k) (splice-same list 0 l i z (omega (arith, short (length list) n s (recordsIn s t))));
-    }
+module _ (n s c : ℕ) (t list : List ℕ) (k : Kept n s c t) where
+  pub hand-answers : handed n s c t list .answer ≡ Codes (length (handedCodes (length list) n s t))
+  unfolding handed handedOpen
+  hand-answers = rw (sound-judged n s c t k)
+
+  pub listed-is : (i : ℕ) → handed n s c t list .answer ≡ Codes i → take i (handed n s c t list .list) ≡ handedCodes (length list) n s t
+  unfolding handed handedOpen handedCodes codesIn
+  listed-is i e =
+      let l : List ℕ = handOut (length list) n s (recordsIn s t) in
+      let z : length l ≡ i = ap codesIn (sym hand-answers ∙ e) in
+      rw (sound-judged n s c t k) (splice-same list 0 l i z (omega (arith, short (length list) n s (recordsIn s t))))
+
+  pub listed-pending : (i : ℕ) → handed n s c t list .answer ≡ Codes i → Pending n s t (handed n s c t list .table) (take i (handed n s c t list .list))
+  unfolding handed handedOpen
+  listed-pending i e = record { room = length list; table = rw (sound-judged n s c t k); codes = listed-is i e }
 
 -- a code tells its instance
 code-owner : (o j : ℕ) → j < 256 → codeOf o j / 256 ≡ o

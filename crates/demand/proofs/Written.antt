@@ -76,8 +76,12 @@ written-is x out h l =
     let t : take (length (outBytes x)) (splice out 0 (outBytes x)) ≡ outBytes x = splice-same out 0 (outBytes x) (length (outBytes x)) refl (omega arith) in
     ap (messagesIn (length (outBytes x))) t ∙ cut-up (length (outBytes x)) (messages x) (few (messages x))
 
--- a sent message as its receiver reads it
-reads : (n s c : ℕ) (m : Message) → MessageFits m → setupOk n s c ≡ true → valid n s c m ≡ true → messageAt (messageBytes m) ≡ m
+-- a message that fits and is valid, as its receiver reads it
+pub record Read (n s c : ℕ) (m : Message) : Type 0 where
+  pub is : messageAt (messageBytes m) ≡ m
+  pub taken : validBytes n s c (messageBytes m) ≡ true
+
+pub reads : (n s c : ℕ) (m : Message) → MessageFits m → setupOk n s c ≡ true → valid n s c m ≡ true → Read n s c m
 unfolding received
 reads n s c m f p v = go (validBytes n s c (messageBytes m)) refl
   where
@@ -88,8 +92,8 @@ reads n s c m f p v = go (validBytes n s c (messageBytes m)) refl
     number reading.Valid = 0
     number (reading.Refused r) = 1
 
-    go : (b : Bool) → validBytes n s c (messageBytes m) ≡ b → messageAt (messageBytes m) ≡ m
-    go true e = ap (λ (z : Received). z .message) (rw (p, e) at read)
+    go : (b : Bool) → validBytes n s c (messageBytes m) ≡ b → Read n s c m
+    go true e = record { is = ap (λ (z : Received). z .message) (rw (p, e) at read); taken = e }
     go false e = clash (sym (ap (λ (z : Received). number (z .answer)) (rw (p, e) at read)))
 
 -- bytes that are a valid message of this list
@@ -101,12 +105,6 @@ pub record Carried (n s : ℕ) (l : List Message) (b : List ℕ) : Type 0 where
 
 pub carried-more : (n s : ℕ) (l k : List Message) (b : List ℕ) → ((m : Message) → List·Memᴰ m l → List·Memᴰ m k) → Carried n s l b → Carried n s k b
 carried-more n s l k b h c = record { bytes = c .bytes; fits = c .fits; taken = c .taken; among = h _ (c .among) }
-
-carried : (n s : ℕ) (m : Message) (l : List Message) → MessageFits m → setupOk n s (m .to) ≡ true → valid n s (m .to) m ≡ true → List·Memᴰ m l
-    → Carried n s l (messageBytes m)
-carried n s m l f p v h =
-    let e : messageAt (messageBytes m) ≡ m = reads n s (m .to) m f p v in
-    record { bytes = rw e; fits = rw e f; taken = rw e v; among = rw e h }
 
 -- a message of a step goes to a member of its set
 record Went (to : ℕ) (d m : Message) : Type 0 where
@@ -124,25 +122,30 @@ went (suc k) q to d m h = go (member q to) refl (λ z. went k (q + 1) to d m z) 
     go true e more h = ⊎-elim (λ (z : m ≡ addressed d q). record { copy = q; member = e; is = z }) more (List·Memᴰ·cases-cons h)
     go false e more h = more h
 
--- each message of a closed step, as bytes
-record Mapped (ms : List Message) (b : List ℕ) : Type 0 where
-  message : Message
-  among : List·Memᴰ message ms
-  is : b ≡ messageBytes message
+-- messages as bytes
+pub record Mapped (ms : List Message) (b : List ℕ) : Type 0 where
+  pub message : Message
+  pub among : List·Memᴰ message ms
+  pub is : b ≡ messageBytes message
 
-mapped : (ms : List Message) (b : List ℕ) → List·Memᴰ b (map messageBytes ms) → Mapped ms b
+pub mapped : (ms : List Message) (b : List ℕ) → List·Memᴰ b (map messageBytes ms) → Mapped ms b
 mapped [] b h = absurd (List·Memᴰ·not-nil h)
 mapped (m ∷ ms) b h =
     ⊎-elim (λ (e : b ≡ messageBytes m). record { message = m; among = List·Memᴰ·head refl; is = e })
     (λ (z : List·Memᴰ b (map messageBytes ms)). let g = mapped ms b z in record { message = g .message; among = List·Memᴰ·tail (g .among); is = g .is })
     (List·Memᴰ·cases-cons h)
 
-pub sent-carried : (n s c : ℕ) → setupOk n s c ≡ true → ((q : ℕ) → q < n → setupOk n s q ≡ true) → (x : Step) → Sent n s c x → (b : List ℕ)
-    → List·Memᴰ b (map messageBytes (messages x)) → Carried n s (messages x) b
-sent-carried n s c p all x h b i =
-    let g = mapped (messages x) b i in
-    let w = went 7 0 (x .to) (x .message) (g .message) (g .among) in
-    let q : ℕ = w .copy in
-    let t = h .each q (w .member) in
-    let z : List·Memᴰ (addressed (x .message) q) (messages x) = Memᴰ·cast (sym (w .is)) (g .among) in
-    rw (g .is, w .is) (carried n s (addressed (x .message) q) (messages x) (addressed-fits n s c p x h q (w .member)) (all q (t .copy)) (t .valid) z)
+-- each message of a closed step is carried by its bytes
+module _ (n s c : ℕ) (copies : (q : ℕ) → q < n → setupOk n s q ≡ true) (p : setupOk n s c ≡ true) (x : Step) (h : Sent n s c x) where
+  pub message-carried : (m : Message) → List·Memᴰ m (messages x) → (l : List Message) → List·Memᴰ m l → Carried n s l (messageBytes m) × (messageAt (messageBytes m) ≡ m)
+  message-carried m i l k =
+      let w = went 7 0 (x .to) (x .message) m i in
+      let q : ℕ = w .copy in
+      let d : Message = addressed (x .message) q in
+      let t = h .each q (w .member) in
+      let f = addressed-fits n s c p x h q (w .member) in
+      let e : messageAt (messageBytes d) ≡ d = reads n s q d f (copies q (t .copy)) (t .valid) .is in
+      rw (w .is) (record { bytes = rw e; fits = rw e f; taken = rw e (t .valid); among = rw e (Memᴰ·cast (sym (w .is)) k) }, e)
+
+  pub sent-carried : (b : List ℕ) → List·Memᴰ b (map messageBytes (messages x)) → Carried n s (messages x) b
+  sent-carried b i = let g = mapped (messages x) b i in rw (g .is) (message-carried (g .message) (g .among) (messages x) (g .among) .0)
