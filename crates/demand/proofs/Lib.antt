@@ -7,3 +7,4 @@ pub mod Handing
 pub mod Steps
 pub mod Bridge
 pub mod Demand
+pub mod Back

@@ -1,0 +1,180 @@
+-- And back: every run of the rules whose requests fit their fields is a run over bytes, so nothing that the rules can do is
+-- lost there. Assumes nothing.
+use Prim.Native.Nat.{ℕ, zero, suc, _^_, _≤_, _<_}
+use mathlib.Core.Path.{_≡_, refl, sym, ap, _∙_, subst}
+use mathlib.Core.Bool.{Bool, true, false, _&&_, _||_, not, cond}
+use mathlib.Core.Logic.{_⊎_, inl, inr, ⊎-elim}
+use mathlib.Core.List.{List, [], _∷_, _++_, map, List·Memᴰ, List·Memᴰ·head, List·Memᴰ·tail, List·Memᴰ·not-nil, List·Memᴰ·cases-cons, List·Memᴰ·append-cases, List·Memᴰ·eq-of-singleton, Memᴰ·append-left, Memᴰ·append-right}
+use native.Mathlib.Omega.{arith}
+use lib.Dec.{ltb, eqb}
+use lib.ListN.{length, replicate}
+use borrow.Author.Tests.{eqb-true, le-ltb}
+use Rattle.num.specs.Num.{splice}
+use Rattle.codec.specs.Parts.{opOf}
+use Rattle.codec.proofs.Laws.{opOf-opNumber}
+use Rattle.paper.specs.Command.{opNumber, isNoop}
+use Rattle.paper.specs.Instance.{instanceOk}
+use Rattle.paper.specs.Valid.{valid}
+use Rattle.paper.specs.declared.Op.{Op}
+use Rattle.paper.specs.declared.Op.the-variants.{Noop, Read, Write}
+use Rattle.paper.specs.declared.Command.{Command}
+use Rattle.paper.specs.declared.Message.{Message}
+use Rattle.rules.specs.declared.Step.{Step}
+use Rattle.rules.specs.declared.First.{First}
+use Rattle.rules.specs.declared.First.the-variants.{At}
+use Rattle.rules.specs.Seen.{Records}
+use Rattle.rules.specs.Step.{isCommitted}
+use Rattle.rules.specs.Received.{refused10}
+use Rattle.rules.specs.Recover.{outOfBallots}
+use Rattle.rules.specs.Nudge.{nothingToNudge}
+use Rattle.rules.specs.Events.{requestNumber, onRequest, onMessage, messages}
+use Rattle.rules.specs.Order.{candidate, nextOut, codeOf, found, handOut}
+use Rattle.wire.specs.Wire.{messageAt, messageBytes}
+use Rattle.table.specs.Table.{recordIn}
+use Rattle.seen.specs.Records.{recordsIn}
+use Rattle.closed.specs.Fits.{CommandFits, MessageFits}
+use Rattle.closed.proofs.Laws.{clash, tf}
+use Rattle.closed.proofs.Heard.{valid-instance}
+use Rattle.closed.proofs.Mark.{Found, nextOut-found}
+use Rattle.log.specs.Out.{outBytes}
+use Rattle.log.specs.declared.Answer.the-variants.{Event}
+use Rattle.log.specs.Events.{Outcome, requestOpen, receiveOpen, recoverOpen, nudgeOpen, answerNumber}
+use Rattle.log.specs.Events as log
+use Rattle.log.proofs.Held.{out-short}
+use Rattle.order.specs.Calls.{handedCodes, handed}
+use Rattle.safety.specs.Run.{Asked, Setup, replaced}
+use Rattle.safety.specs.Run as rules
+use Rattle.safety.proofs.Runs.{requested-more}
+use Rattle.demand.specs.Run.{Copy, State, start, Call, request, receive, recover, nudge, outcome, Possible, recorded, written, acted, handing, marking, restarted, changed, asked, Move, event, leave, cut, Run, stay, further}
+use Rattle.demand.specs.Run.{mark as mv-mark, handOut as mv-handOut}
+use Rattle.demand.proofs.Saved.{Kept, setup-of}
+use Rattle.demand.proofs.Range.{number-alike, next-alike}
+use Rattle.demand.proofs.Records.{records, at-range, alike, setup-at}
+use Rattle.demand.proofs.Written.{reads, Carried, carried-more, mapped, message-carried, written-is}
+use Rattle.demand.proofs.Handing.{Pending, none-pending, hand-answers, listed-is, next-codes}
+use Rattle.demand.proofs.Steps.{gate-is, Brought, ownerIn, numberIn, stepIn, moved, Stepped, stepped}
+use Rattle.demand.proofs.Bridge.{Beside, Tie, begin, one-copy, here-is, other-stays, after, event-tie, in-memory, hand-tie, marked-here, mark-out, mark-tie}
+
+in-map : (l : List Message) (m : Message) → List·Memᴰ m l → List·Memᴰ (messageBytes m) (map messageBytes l)
+in-map l m (List·Memᴰ·head e) = List·Memᴰ·head (ap messageBytes e)
+in-map l m (List·Memᴰ·tail {xs = xs} h) = List·Memᴰ·tail (in-map xs m h)
+
+module _ (n s : ℕ) (setup : Setup n s) where
+  -- nothing is on its way to the disk or to the network, and all that the rules sent was sent as bytes
+  pub record Full (x : State) (y : rules.State) : Type 0 where
+    pub tie : Tie n s setup x y
+    pub still : (q : ℕ) → x .copies q .leaving ≡ []
+    pub saved : (q : ℕ) → x .copies q .listed ≡ []
+    pub bytes : (m : Message) → List·Memᴰ m (y .sent) → List·Memᴰ (messageBytes m) (x .sent)
+    pub read : (m : Message) → List·Memᴰ m (y .sent) → messageAt (messageBytes m) ≡ m
+
+  pub record Back (x : State) (y : rules.State) : Type 0 where
+    pub later : State
+    pub run : Run n s x later
+    pub full : Full later y
+
+  run-on : {x y z : State} → Run n s x y → Run n s y z → Run n s x z
+  run-on r stay = r
+  run-on r (further q m) = further (run-on r q) m
+
+  -- messages leave one after the other
+  record Gone (x : State) (bs : List (List ℕ)) : Type 0 where
+    later : State
+    run : Run n s x later
+    copies : later .copies ≡ x .copies
+    requested : later .requested ≡ x .requested
+    old : (b : List ℕ) → List·Memᴰ b (x .sent) → List·Memᴰ b (later .sent)
+    new : (b : List ℕ) → List·Memᴰ b bs → List·Memᴰ b (later .sent)
+    only : (b : List ℕ) → List·Memᴰ b (later .sent) → List·Memᴰ b (x .sent) ⊎ List·Memᴰ b bs
+
+  go-out : (x : State) (c : ℕ) → c < n → (bs : List (List ℕ)) → ((b : List ℕ) → List·Memᴰ b bs → List·Memᴰ b (x .copies c .leaving)) → Gone x bs
+  go-out x c l [] h = record { later = x; run = stay; copies = refl; requested = refl; old = λ b i. i; new = λ b i. absurd (List·Memᴰ·not-nil i); only = λ b i. inl i }
+  go-out x c l (b ∷ bs) h =
+      let r = go-out x c l bs (λ d i. h d (List·Memᴰ·tail i)) in
+      record {
+        later = record { copies = r .later .copies; sent = r .later .sent ++ b ∷ []; requested = r .later .requested };
+        run = further (r .run) (leave c b l (rw (r .copies) (h b (List·Memᴰ·head refl))));
+        copies = r .copies;
+        requested = r .requested;
+        old = λ d i. Memᴰ·append-left (b ∷ []) (r .old d i);
+        new = λ d i. ⊎-elim (λ (e : d ≡ b). Memᴰ·append-right (r .later .sent) (List·Memᴰ·head e)) (λ (k : List·Memᴰ d bs). Memᴰ·append-left (b ∷ []) (r .new d k)) (List·Memᴰ·cases-cons i);
+        only = λ d i.
+        ⊎-elim
+        (λ (k : List·Memᴰ d (r .later .sent)). ⊎-elim (λ (a : List·Memᴰ d (x .sent)). inl a) (λ (a : List·Memᴰ d bs). inr (List·Memᴰ·tail a)) (r .only d k))
+        (λ (k : List·Memᴰ d (b ∷ [])). inr (List·Memᴰ·head (List·Memᴰ·eq-of-singleton k)))
+        (List·Memᴰ·append-cases (r .later .sent) i);
+      }
+
+  -- a room of 256 bytes
+  abbrev room : List ℕ
+  room = replicate 256 0
+
+  module _ (x : State) (y : rules.State) (f : Full x y) (c : ℕ) (copy : c < n) where
+    abbrev k : Copy
+    k = x .copies c
+
+    abbrev kept : Kept n s c (k .saved)
+    kept = f .tie .copies c .kept copy
+
+    abbrev memory : k .lent ≡ k .saved
+    memory = in-memory n s setup x y (f .tie) c copy (f .saved c)
+
+    -- an answered call, with the messages that left before a cut
+    event-back : (call : Call) → Possible x call → Brought n s (y .sent) call → answerNumber (outcome n s c (k .saved) room call .answer) ≡ 0
+        → (l : List Message) → rules.Among l (messages (stepIn n s c (y .tables c) call)) → Back x (moved n s y c call l)
+    unfolding log.acted
+    event-back call poss br ans l am =
+        let t = f .tie in
+        let o : ℕ = ownerIn c call in
+        let j : ℕ = numberIn s c (y .tables c) call in
+        let e : Step = stepIn n s c (y .tables c) call in
+        let st = stepped n s c (k .saved) room kept copy y (t .copies c .table) call br ans in
+        let p = setup-of n s c (k .saved) (kept .setup) in
+        let res : outcome n s c (k .lent) room call ≡ log.acted s (k .saved) room o j e = ap (λ (v : List ℕ). outcome n s c v room call) memory ∙ st .is in
+        let x₁ : State = after n s setup x y t c copy call room in
+        let first : Move n s x x₁ = event c call room o j (length (outBytes e)) copy poss (f .saved c) (ap (λ (z : Outcome). z .answer) res) in
+        let tie₁ : Tie n s setup x₁ (moved n s y c call (messages e)) = event-tie n s setup x y t c copy call room st memory in
+        let wrote : written (length (outBytes e)) (outcome n s c (k .lent) room call .out) ≡ map messageBytes (messages e) =
+        ap (λ (z : Outcome). written (length (outBytes e)) (z .out)) res ∙ written-is e room (st .long) (out-short n s c p e (st .closed .sent)) in
+        let bs : List (List ℕ) = map messageBytes l in
+        let ready : (b : List ℕ) → List·Memᴰ b bs → List·Memᴰ b (x₁ .copies c .leaving) =
+        λ b i.
+        let g = mapped l b i in
+        rw (here-is n s setup (x .copies) c (acted n s c k (outcome n s c (k .lent) room call) o j (length (outBytes e))), g .is)
+        (Memᴰ·append-right (k .leaving) (rw wrote (in-map (messages e) (g .message) (am (g .message) (g .among))))) in
+        let r = go-out x₁ c copy bs ready in
+        let x₂ : State = r .later in
+        let said : (m : Message) → List·Memᴰ m l → Carried n s (y .sent ++ l) (messageBytes m) × (messageAt (messageBytes m) ≡ m) =
+        λ m i. message-carried n s c (setup-at n s setup) p e (st .closed .sent) m (am m i) (y .sent ++ l) (Memᴰ·append-right (y .sent) i) in
+        record {
+          later = changed x₂ c (restarted (x₂ .copies c));
+          run = further (run-on (further stay first) (r .run)) (cut c copy);
+          full = record {
+            tie = record {
+              copies = λ q. side (x₂ .copies) (moved n s y c call l) (λ i. rw (r .copies) (tie₁ .copies i .table)) (λ i. rw (r .copies) (tie₁ .copies i .kept)) (λ i. rw (r .copies) (tie₁ .copies i .pending)) (λ i. rw (r .copies) (tie₁ .copies i .marks)) (λ i ne. rw (r .copies, other-stays n s setup (x .copies) c _ i ne) (f .still i)) q;
+              sent = λ b i.
+              ⊎-elim (λ (h : List·Memᴰ b (x .sent)). carried-more n s (y .sent) (y .sent ++ l) b (λ m z. Memᴰ·append-left l z) (t .sent b h))
+              (λ (h : List·Memᴰ b bs). let g = mapped l b h in rw (g .is) (said (g .message) (g .among) .0)) (r .only b i);
+              requested = tie₁ .requested ∙ sym (r .requested);
+            };
+            still = λ q. quiet (x₂ .copies) (λ (z : Copy). z .leaving ≡ []) refl (λ i ne. rw (r .copies, other-stays n s setup (x .copies) c _ i ne) (f .still i)) q;
+            saved = λ q. quiet (x₂ .copies) (λ (z : Copy). z .listed ≡ []) refl (λ i ne. rw (r .copies, other-stays n s setup (x .copies) c _ i ne) (f .saved i)) q;
+            bytes = λ m i. ⊎-elim (λ (h : List·Memᴰ m (y .sent)). r .old (messageBytes m) (f .bytes m h)) (λ (h : List·Memᴰ m l). r .new (messageBytes m) (in-map l m h)) (List·Memᴰ·append-cases (y .sent) i);
+            read = λ m i. ⊎-elim (λ (h : List·Memᴰ m (y .sent)). f .read m h) (λ (h : List·Memᴰ m l). said m h .1) (List·Memᴰ·append-cases (y .sent) i);
+          };
+        }
+      where
+        quiet : (g : ℕ → Copy) (P : Copy → Type 0) → P (restarted (g c)) → ((q : ℕ) → (q ≡ c → ⊥) → P (g q)) → (q : ℕ) → P (replaced g c (restarted (g c)) q)
+        quiet g P h others q = go (eqb q c) refl
+          where
+            go : (b : Bool) → eqb q c ≡ b → P (cond b (restarted (g c)) (g q))
+            go true e = h
+            go false e = others q (borrow.Author.Tests.eqb-false q c e)
+
+        side : (g : ℕ → Copy) (z : rules.State) → ((i : ℕ) → z .tables i ≡ records n s (g i .saved)) → ((i : ℕ) → i < n → Kept n s i (g i .saved))
+            → ((i : ℕ) → Pending n s (g i .saved) (g i .lent) (g i .listed)) → ((i : ℕ) → z .marks i ≡ g i .marks) → ((i : ℕ) → (i ≡ c → ⊥) → g i .leaving ≡ [])
+            → (q : ℕ) → Beside n s setup z q (replaced g c (restarted (g c)) q)
+        side g z table kept pending marks none =
+            one-copy n s setup z g c (restarted (g c))
+            (λ q ne. record { table = table q; kept = kept q; pending = pending q; leaving = λ b i. absurd (List·Memᴰ·not-nil (rw (none q ne) at i)); marks = marks q })
+            (record { table = table c; kept = kept c; pending = none-pending n s (g c .saved); leaving = λ b i. absurd (List·Memᴰ·not-nil i); marks = marks c })
