@@ -7,8 +7,8 @@ use mathlib.Core.Logic.{_⊎_, inl, inr, ⊎-elim}
 use mathlib.Core.List.{List, [], _∷_, _++_, map, List·Memᴰ, List·Memᴰ·head, List·Memᴰ·tail, List·Memᴰ·not-nil, List·Memᴰ·cases-cons, List·Memᴰ·append-cases, List·Memᴰ·eq-of-singleton, Memᴰ·append-left, Memᴰ·append-right}
 use native.Mathlib.Omega.{arith}
 use lib.Dec.{ltb, eqb}
-use lib.ListN.{length, replicate}
-use borrow.Author.Tests.{eqb-true, le-ltb}
+use lib.ListN.{length, take, replicate}
+use borrow.Author.Tests.{eqb-false, le-ltb}
 use Rattle.num.specs.Num.{splice}
 use Rattle.codec.specs.Parts.{opOf}
 use Rattle.codec.proofs.Laws.{opOf-opNumber}
@@ -27,7 +27,7 @@ use Rattle.rules.specs.Step.{isCommitted}
 use Rattle.rules.specs.Received.{refused10}
 use Rattle.rules.specs.Recover.{outOfBallots}
 use Rattle.rules.specs.Nudge.{nothingToNudge}
-use Rattle.rules.specs.Events.{requestNumber, onRequest, onMessage, messages}
+use Rattle.rules.specs.Events.{requestNumber, onRequest, onMessage, onRecover, onNudge, messages}
 use Rattle.rules.specs.Order.{candidate, nextOut, codeOf, found, handOut}
 use Rattle.wire.specs.Wire.{messageAt, messageBytes}
 use Rattle.table.specs.Table.{recordIn}
@@ -41,6 +41,7 @@ use Rattle.log.specs.declared.Answer.the-variants.{Event}
 use Rattle.log.specs.Events.{Outcome, requestOpen, receiveOpen, recoverOpen, nudgeOpen, answerNumber}
 use Rattle.log.specs.Events as log
 use Rattle.log.proofs.Held.{out-short}
+use Rattle.order.specs.declared.Handing.the-variants.{Codes}
 use Rattle.order.specs.Calls.{handedCodes, handed}
 use Rattle.safety.specs.Run.{Asked, Setup, replaced}
 use Rattle.safety.specs.Run as rules
@@ -169,7 +170,7 @@ module _ (n s : ℕ) (setup : Setup n s) where
           where
             go : (b : Bool) → eqb q c ≡ b → P (cond b (restarted (g c)) (g q))
             go true e = h
-            go false e = others q (borrow.Author.Tests.eqb-false q c e)
+            go false e = others q (eqb-false q c e)
 
         side : (g : ℕ → Copy) (z : rules.State) → ((i : ℕ) → z .tables i ≡ records n s (g i .saved)) → ((i : ℕ) → i < n → Kept n s i (g i .saved))
             → ((i : ℕ) → Pending n s (g i .saved) (g i .lent) (g i .listed)) → ((i : ℕ) → z .marks i ≡ g i .marks) → ((i : ℕ) → (i ≡ c → ⊥) → g i .leaving ≡ [])
@@ -178,3 +179,134 @@ module _ (n s : ℕ) (setup : Setup n s) where
             one-copy n s setup z g c (restarted (g c))
             (λ q ne. record { table = table q; kept = kept q; pending = pending q; leaving = λ b i. absurd (List·Memᴰ·not-nil (rw (none q ne) at i)); marks = marks q })
             (record { table = table c; kept = kept c; pending = none-pending n s (g c .saved); leaving = λ b i. absurd (List·Memᴰ·not-nil i); marks = marks c })
+
+    -- a mark: a hand-out into one place, and its save
+    mark-back : (o j : ℕ) → nextOut n s (y .tables c) ≡ At o j → Back x (rules.marked y c o j)
+    unfolding handedCodes handOut
+    mark-back o j next =
+        let t = f .tie in
+        let d : List ℕ = k .saved in
+        let one : List ℕ = 0 ∷ [] in
+        let i : ℕ = length (handedCodes 1 n s d) in
+        let e : nextOut n s (recordsIn s d) ≡ At o j = next-alike n s (recordsIn s d) (records n s d) (alike n s d) ∙ ap (nextOut n s) (sym (t .copies c .table)) ∙ next in
+        let ok : Found n s (candidate n s (recordsIn s d)) (At o j) = rw e at (nextOut-found n s (recordsIn s d)) in
+        let ans : handed n s c (k .lent) one .answer ≡ Codes i = rw memory (hand-answers n s c d one kept) in
+        let h : Copy = handing k (handed n s c (k .lent) one) i in
+        let x₁ : State = changed x c h in
+        let tie₁ : Tie n s setup x₁ y = hand-tie n s setup x y t c copy one i (f .saved c) ans in
+        let at : x₁ .copies c ≡ h = here-is n s setup (x .copies) c h in
+        let codes : h .listed ≡ codeOf o j ∷ [] =
+        ap (λ (v : List ℕ). take i (handed n s c v one .list)) memory ∙ listed-is n s c d one kept i (hand-answers n s c d one kept) ∙ next-codes n s c d kept o j ok 0 e in
+        let listed : x₁ .copies c .listed ≡ codeOf o j ∷ [] = ap (λ (z : Copy). z .listed) at ∙ codes in
+        let m = marked-here n s setup x₁ y tie₁ c copy (codeOf o j) [] listed in
+        let same : At (m .owner) (m .number) ≡ At o j = sym (mark-out n s setup x₁ y tie₁ c copy (codeOf o j) [] m) ∙ next in
+        let own : m .owner ≡ o = ap (λ (z : First). found z 0 (λ p q. p)) same in
+        let num : m .number ≡ j = ap (λ (z : First). found z 0 (λ p q. q)) same in
+        let tie₂ = mark-tie n s setup x₁ y tie₁ c copy (codeOf o j) [] m in
+        record {
+          later = changed x₁ c (marking n s c (x₁ .copies c) (codeOf o j) []);
+          run = further (further stay (mv-handOut c one i copy (f .saved c) ans)) (mv-mark c (codeOf o j) [] copy listed);
+          full = record {
+            tie = rw (own, num) at tie₂;
+            still = λ q. twice (λ (z : Copy). z .leaving ≡ []) h (marking n s c (x₁ .copies c) (codeOf o j) []) (ap (λ (z : Copy). z .leaving) at ∙ f .still c) (λ p. f .still p) q;
+            saved = λ q. twice (λ (z : Copy). z .listed ≡ []) h (marking n s c (x₁ .copies c) (codeOf o j) []) refl (λ p. f .saved p) q;
+            bytes = f .bytes;
+            read = f .read;
+          };
+        }
+      where
+        twice : (P : Copy → Type 0) (h g : Copy) → P g → ((q : ℕ) → P (x .copies q)) → (q : ℕ) → P (replaced (replaced (x .copies) c h) c g q)
+        twice P h g here others q = go (eqb q c)
+          where
+            go : (b : Bool) → P (cond b g (cond b h (x .copies q)))
+            go true = here
+            go false = others q
+
+    -- the rules' premises are what the calls ask
+    there : (o j : ℕ) → instanceOk n s o j ≡ true → y .tables c o j ≡ recordIn s (k .saved) o j
+    there o j i = ap (λ (u : Records). u o j) (f .tie .copies c .table) ∙ at-range n s (k .saved) o j i
+
+    ops : (o : Op) → eqb (opNumber o) 0 ≡ false → (eqb (opNumber o) 1 || eqb (opNumber o) 2) ≡ true
+    ops Noop e = sym e
+    ops Read e = refl
+    ops Write e = refl
+
+    request-back : (v : Command) → CommandFits v → isNoop v ≡ false → requestNumber s c (y .tables c) ≤ s → (l : List Message)
+        → rules.Among l (messages (onRequest n s c (y .tables c) v))
+        → Back x (rules.asked (rules.saved y c c (requestNumber s c (y .tables c)) (onRequest n s c (y .tables c) v) l) c (requestNumber s c (y .tables c)) v)
+    unfolding requestOpen log.acted
+    request-back v fits noop small l am =
+        let op : ℕ = opNumber (v .op) in
+        let w : Command = record { op = opOf op; key = v .key; edit = v .edit } in
+        let same : w ≡ v = λ i. record { op = opOf-opNumber (v .op) i; key = v .key; edit = v .edit } in
+        let t : List ℕ = k .saved in
+        let num : requestNumber s c (recordsIn s t) ≤ s =
+        rw (number-alike n s (recordsIn s t) (records n s t) (alike n s t) c copy, ← f .tie .copies c .table) small in
+        let ans : answerNumber (outcome n s c t room (request op (v .key) (v .edit)) .answer) ≡ 0 =
+        rw (gate-is n s c t room (requestOpen n s c t room op (v .key) (v .edit)) kept, ops (v .op) noop, le-ltb s (requestNumber s c (recordsIn s t)) num) in
+        subst
+        (λ (z : Command). rules.Among l (messages (onRequest n s c (y .tables c) z))
+        → Back x (rules.asked (rules.saved y c c (requestNumber s c (y .tables c)) (onRequest n s c (y .tables c) z) l) c (requestNumber s c (y .tables c)) z))
+        same (λ a. event-back (request op (v .key) (v .edit)) (fits .key, fits .edit) (record { key = fits .key; edit = fits .edit }) ans l a) am
+
+    receive-back : (m : Message) → List·Memᴰ m (y .sent) → valid n s c m ≡ true → refused10 (y .tables c (m .owner) (m .number)) m ≡ false → (l : List Message)
+        → rules.Among l (messages (onMessage n s c (y .tables c) m)) → Back x (rules.saved y c (m .owner) (m .number) (onMessage n s c (y .tables c) m) l)
+    unfolding receiveOpen log.acted
+    receive-back m i v r l am =
+        let t : List ℕ = k .saved in
+        let b : List ℕ = messageBytes m in
+        let read : messageAt b ≡ m = f .read m i in
+        let br : Carried n s (y .sent) b = f .tie .sent b (f .bytes m i) in
+        let fits : MessageFits m = rw read at (br .fits) in
+        let taken = reads n s c m fits (setup-at n s setup c copy) v .taken in
+        let test : refused10 (recordIn s t (m .owner) (m .number)) m ≡ false = rw (← there (m .owner) (m .number) (valid-instance n s c m v)) r in
+        let ans : answerNumber (outcome n s c t room (receive b) .answer) ≡ 0 =
+        rw (gate-is n s c t room (receiveOpen n s c t room b) kept, taken, read, test) in
+        subst (λ (z : Message). rules.Among l (messages (onMessage n s c (y .tables c) z)) → Back x (rules.saved y c (z .owner) (z .number) (onMessage n s c (y .tables c) z) l))
+        read (λ a. event-back (receive b) (f .bytes m i) br ans l a) am
+
+    recover-back : (o j : ℕ) → instanceOk n s o j ≡ true → isCommitted (y .tables c o j) ≡ false → outOfBallots (y .tables c o j) ≡ false → (l : List Message)
+        → rules.Among l (messages (onRecover n c (y .tables c) o j)) → Back x (rules.saved y c o j (onRecover n c (y .tables c) o j) l)
+    unfolding recoverOpen log.acted
+    recover-back o j i free low l am =
+        let t : List ℕ = k .saved in
+        let a : isCommitted (recordIn s t o j) ≡ false = rw (← there o j i) free in
+        let b : outOfBallots (recordIn s t o j) ≡ false = rw (← there o j i) low in
+        event-back (recover o j) tt tt (rw (gate-is n s c t room (recoverOpen n s c t room o j) kept, i, a, b)) l am
+
+    nudge-back : (o j : ℕ) → instanceOk n s o j ≡ true → nothingToNudge (y .tables c o j) ≡ false → (l : List Message)
+        → rules.Among l (messages (onNudge n c (y .tables c) o j)) → Back x (rules.saved y c o j (onNudge n c (y .tables c) o j) l)
+    unfolding nudgeOpen log.acted
+    nudge-back o j i busy l am =
+        let t : List ℕ = k .saved in
+        let a : nothingToNudge (recordIn s t o j) ≡ false = rw (← there o j i) busy in
+        event-back (nudge o j) tt tt (rw (gate-is n s c t room (nudgeOpen n s c t room o j) kept, i, a)) l am
+
+  -- requests whose key and edit are a u32 and a u64
+  abbrev pub Fitting : List Asked → Type 0
+  Fitting l = (a : Asked) → List·Memᴰ a l → CommandFits (a .2)
+
+  move-back : {y z : rules.State} (x : State) → Full x y → rules.Move n s y z → Fitting (z .requested) → Back x z
+  move-back {y = y} x f (rules.request c v l copy noop small am) fit =
+      request-back x y f c copy v (fit _ (Memᴰ·append-right (y .requested) (List·Memᴰ·head refl))) noop small l am
+  move-back {y = y} x f (rules.receive c m l copy i v r am) fit = receive-back x y f c copy m i v r l am
+  move-back {y = y} x f (rules.recover c o j l copy i free low am) fit = recover-back x y f c copy o j i free low l am
+  move-back {y = y} x f (rules.nudge c o j l copy i busy am) fit = nudge-back x y f c copy o j i busy l am
+  move-back {y = y} x f (rules.handOut c o j copy e) fit = mark-back x y f c copy o j e
+
+  pub back : {y : rules.State} → rules.Run n s rules.start y → Fitting (y .requested) → Back (start n s) y
+  back rules.stay fit = record {
+    later = start n s;
+    run = stay;
+    full = record {
+      tie = begin n s setup;
+      still = λ q. refl;
+      saved = λ q. refl;
+      bytes = λ m i. absurd (List·Memᴰ·not-nil i);
+      read = λ m i. absurd (List·Memᴰ·not-nil i);
+    };
+  }
+  back (rules.further r m) fit =
+      let a = back r (λ e h. fit e (requested-more (rules.further rules.stay m) e h)) in
+      let b = move-back (a .later) (a .full) m fit in
+      record { later = b .later; run = run-on (a .run) (b .run); full = b .full }

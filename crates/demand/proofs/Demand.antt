@@ -65,7 +65,7 @@ module _ (n s : ℕ) (setup : Setup n s) where
       let e = record-is x y t c o j (h .range) in
       record { status = rw e (h .status); command = rw e (h .command); deps = rw e (h .deps) }
 
-  of-rules : (x : State) (y : rules.State) → Tie n s setup x y → (c o j : ℕ) (k : Command) (d : List ℕ) → c < n → instanceOk n s o j ≡ true
+  pub of-rules : (x : State) (y : rules.State) → Tie n s setup x y → (c o j : ℕ) (k : Command) (d : List ℕ) → c < n → instanceOk n s o j ≡ true
       → rules-demand.Committed y c o j k d → Committed n s x c o j k d
   of-rules x y t c o j k d l i h =
       let e = record-is x y t c o j i in

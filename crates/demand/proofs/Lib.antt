@@ -8,3 +8,4 @@ pub mod Steps
 pub mod Bridge
 pub mod Demand
 pub mod Back
+pub mod Witness
