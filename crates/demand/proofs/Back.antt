@@ -1,15 +1,13 @@
 -- And back: every run of the rules whose requests fit their fields is a run over bytes, so nothing that the rules can do is
 -- lost there. Assumes nothing.
-use Prim.Native.Nat.{ℕ, zero, suc, _^_, _≤_, _<_}
+use Prim.Native.Nat.{ℕ, _≤_, _<_}
 use mathlib.Core.Path.{_≡_, refl, sym, ap, _∙_, subst}
-use mathlib.Core.Bool.{Bool, true, false, _&&_, _||_, not, cond}
+use mathlib.Core.Bool.{Bool, true, false, _||_, cond}
 use mathlib.Core.Logic.{_⊎_, inl, inr, ⊎-elim}
 use mathlib.Core.List.{List, [], _∷_, _++_, map, List·Memᴰ, List·Memᴰ·head, List·Memᴰ·tail, List·Memᴰ·not-nil, List·Memᴰ·cases-cons, List·Memᴰ·append-cases, List·Memᴰ·eq-of-singleton, Memᴰ·append-left, Memᴰ·append-right}
-use native.Mathlib.Omega.{arith}
-use lib.Dec.{ltb, eqb}
+use lib.Dec.{eqb}
 use lib.ListN.{length, take, replicate}
 use borrow.Author.Tests.{eqb-false, le-ltb}
-use Rattle.num.specs.Num.{splice}
 use Rattle.codec.specs.Parts.{opOf}
 use Rattle.codec.proofs.Laws.{opOf-opNumber}
 use Rattle.paper.specs.Command.{opNumber, isNoop}
@@ -33,11 +31,9 @@ use Rattle.wire.specs.Wire.{messageAt, messageBytes}
 use Rattle.table.specs.Table.{recordIn}
 use Rattle.seen.specs.Records.{recordsIn}
 use Rattle.closed.specs.Fits.{CommandFits, MessageFits}
-use Rattle.closed.proofs.Laws.{clash, tf}
 use Rattle.closed.proofs.Heard.{valid-instance}
 use Rattle.closed.proofs.Mark.{Found, nextOut-found}
 use Rattle.log.specs.Out.{outBytes}
-use Rattle.log.specs.declared.Answer.the-variants.{Event}
 use Rattle.log.specs.Events.{Outcome, requestOpen, receiveOpen, recoverOpen, nudgeOpen, answerNumber}
 use Rattle.log.specs.Events as log
 use Rattle.log.proofs.Held.{out-short}
@@ -46,14 +42,14 @@ use Rattle.order.specs.Calls.{handedCodes, handed}
 use Rattle.safety.specs.Run.{Asked, Setup, replaced}
 use Rattle.safety.specs.Run as rules
 use Rattle.safety.proofs.Runs.{requested-more}
-use Rattle.demand.specs.Run.{Copy, State, start, Call, request, receive, recover, nudge, outcome, Possible, recorded, written, acted, handing, marking, restarted, changed, asked, Move, event, leave, cut, Run, stay, further}
+use Rattle.demand.specs.Run.{Copy, State, start, Call, request, receive, recover, nudge, outcome, Possible, written, acted, handing, marking, restarted, changed, asked, Move, event, leave, cut, Run, stay, further}
 use Rattle.demand.specs.Run.{mark as mv-mark, handOut as mv-handOut}
 use Rattle.demand.proofs.Saved.{Kept, setup-of}
 use Rattle.demand.proofs.Range.{number-alike, next-alike}
 use Rattle.demand.proofs.Records.{records, at-range, alike, setup-at}
 use Rattle.demand.proofs.Written.{reads, Carried, carried-more, mapped, message-carried, written-is}
 use Rattle.demand.proofs.Handing.{Pending, none-pending, hand-answers, listed-is, next-codes}
-use Rattle.demand.proofs.Steps.{gate-is, Brought, ownerIn, numberIn, stepIn, moved, Stepped, stepped}
+use Rattle.demand.proofs.Steps.{gate-is, Brought, ownerIn, numberIn, stepIn, moved, stepped}
 use Rattle.demand.proofs.Bridge.{Beside, Tie, begin, one-copy, here-is, other-stays, after, event-tie, in-memory, hand-tie, marked-here, mark-out, mark-tie}
 
 in-map : (l : List Message) (m : Message) → List·Memᴰ m l → List·Memᴰ (messageBytes m) (map messageBytes l)
@@ -100,10 +96,10 @@ module _ (n s : ℕ) (setup : Setup n s) where
         old = λ d i. Memᴰ·append-left (b ∷ []) (r .old d i);
         new = λ d i. ⊎-elim (λ (e : d ≡ b). Memᴰ·append-right (r .later .sent) (List·Memᴰ·head e)) (λ (k : List·Memᴰ d bs). Memᴰ·append-left (b ∷ []) (r .new d k)) (List·Memᴰ·cases-cons i);
         only = λ d i.
-        ⊎-elim
-        (λ (k : List·Memᴰ d (r .later .sent)). ⊎-elim (λ (a : List·Memᴰ d (x .sent)). inl a) (λ (a : List·Memᴰ d bs). inr (List·Memᴰ·tail a)) (r .only d k))
-        (λ (k : List·Memᴰ d (b ∷ [])). inr (List·Memᴰ·head (List·Memᴰ·eq-of-singleton k)))
-        (List·Memᴰ·append-cases (r .later .sent) i);
+            ⊎-elim
+            (λ (k : List·Memᴰ d (r .later .sent)). ⊎-elim (λ (a : List·Memᴰ d (x .sent)). inl a) (λ (a : List·Memᴰ d bs). inr (List·Memᴰ·tail a)) (r .only d k))
+            (λ (k : List·Memᴰ d (b ∷ [])). inr (List·Memᴰ·head (List·Memᴰ·eq-of-singleton k)))
+            (List·Memᴰ·append-cases (r .later .sent) i);
       }
 
   -- a room of 256 bytes
@@ -154,8 +150,8 @@ module _ (n s : ℕ) (setup : Setup n s) where
             tie = record {
               copies = λ q. side (x₂ .copies) (moved n s y c call l) (λ i. rw (r .copies) (tie₁ .copies i .table)) (λ i. rw (r .copies) (tie₁ .copies i .kept)) (λ i. rw (r .copies) (tie₁ .copies i .pending)) (λ i. rw (r .copies) (tie₁ .copies i .marks)) (λ i ne. rw (r .copies, other-stays n s setup (x .copies) c _ i ne) (f .still i)) q;
               sent = λ b i.
-              ⊎-elim (λ (h : List·Memᴰ b (x .sent)). carried-more n s (y .sent) (y .sent ++ l) b (λ m z. Memᴰ·append-left l z) (t .sent b h))
-              (λ (h : List·Memᴰ b bs). let g = mapped l b h in rw (g .is) (said (g .message) (g .among) .0)) (r .only b i);
+                  ⊎-elim (λ (h : List·Memᴰ b (x .sent)). carried-more n s (y .sent) (y .sent ++ l) b (λ m z. Memᴰ·append-left l z) (t .sent b h))
+                  (λ (h : List·Memᴰ b bs). let g = mapped l b h in rw (g .is) (said (g .message) (g .among) .0)) (r .only b i);
               requested = tie₁ .requested ∙ sym (r .requested);
             };
             still = λ q. quiet (x₂ .copies) (λ (z : Copy). z .leaving ≡ []) refl (λ i ne. rw (r .copies, other-stays n s setup (x .copies) c _ i ne) (f .still i)) q;

@@ -1,34 +1,27 @@
 -- A run over bytes beside a run of the rules: each saved table is sound and its records are the rules' table, and all that is
 -- sent is the bytes of a valid message of the rules. Assumes nothing.
-use Prim.Native.Nat.{ℕ, zero, suc, _/_, _%_, _<_}
-use mathlib.Core.Path.{_≡_, refl, sym, ap, ap₂, _∙_}
+use Prim.Native.Nat.{ℕ, _<_}
+use mathlib.Core.Path.{_≡_, refl, sym, ap, _∙_}
 use mathlib.Core.Bool.{Bool, true, false, cond}
 use mathlib.Core.Logic.{⊎-elim}
-use mathlib.Core.List.{List, [], _∷_, _++_, append-nil, map, List·Memᴰ, List·Memᴰ·not-nil, List·Memᴰ·append-cases, List·Memᴰ·eq-of-singleton, Memᴰ·append-left, Memᴰ·append-right}
-use native.Mathlib.Omega.{arith}
+use mathlib.Core.List.{List, [], _∷_, _++_, List·Memᴰ, List·Memᴰ·not-nil, List·Memᴰ·append-cases, List·Memᴰ·eq-of-singleton, Memᴰ·append-left, Memᴰ·append-right}
 use lib.Dec.{eqb}
 use lib.ListN.{length}
 use borrow.Author.Tests.{eqb-true, eqb-false, eq-eqb, ne-eqb}
 use Rattle.num.specs.Num.{splice}
-use Rattle.num.proofs.Laws.{splice-same}
-use Rattle.codec.specs.Parts.{opOf}
 use Rattle.paper.specs.Setup.{setupOk}
 use Rattle.paper.specs.Instance.{instanceOk}
 use Rattle.paper.specs.declared.Message.{Message}
-use Rattle.record.specs.Layout.{recordBytes}
 use Rattle.rules.specs.declared.Step.{Step}
 use Rattle.rules.specs.declared.First.the-variants.{At}
 use Rattle.rules.specs.Seen.{Records}
 use Rattle.rules.specs.Events.{put, messages}
 use Rattle.rules.specs.Order.{nextOut, mark}
-use Rattle.wire.specs.Wire.{messageBytes}
-use Rattle.table.specs.Place.{placeOf, partAt}
+use Rattle.table.specs.Place.{placeOf}
 use Rattle.table.specs.Table.{blankTable, putRecord}
-use Rattle.table.specs.Calls.{partOf}
 use Rattle.seen.specs.Records.{recordsIn}
 use Rattle.closed.specs.Held.{Closed}
 use Rattle.log.specs.Out.{outBytes}
-use Rattle.log.specs.declared.Answer.{Answer}
 use Rattle.log.specs.declared.Answer.the-variants.{Event}
 use Rattle.log.specs.Events.{Outcome, answerNumber, answerOwner, answerInstance, answerWritten}
 use Rattle.log.specs.Events as log
@@ -97,13 +90,13 @@ module _ (n s : ℕ) (setup : Setup n s) where
   begin =
       record {
         copies = λ q.
-        record {
-          table = sym (blank-records n s setup q);
-          kept = λ l. blank-kept n s q (setup-at n s setup q l);
-          pending = none-pending n s (blankTable n s q);
-          leaving = λ b i. absurd (List·Memᴰ·not-nil i);
-          marks = refl;
-        };
+            record {
+              table = sym (blank-records n s setup q);
+              kept = λ l. blank-kept n s q (setup-at n s setup q l);
+              pending = none-pending n s (blankTable n s q);
+              leaving = λ b i. absurd (List·Memᴰ·not-nil i);
+              marks = refl;
+            };
         sent = λ b i. absurd (List·Memᴰ·not-nil i);
         requested = refl;
       }
@@ -164,20 +157,20 @@ module _ (n s : ℕ) (setup : Setup n s) where
         let bytes = written-is e out (st .long) (out-short n s c p e (st .closed .sent)) in
         record {
           copies = one-copy z (x .copies) c _
-          (λ q ne. beside-still y z q (x .copies q) (other-stays (y .tables) c _ q ne) refl more (tie .copies q))
-          (rw (res, part-saved t o j e h (st .range) (st .closed))
-          (record {
-            table = here-is (y .tables) c (put (y .tables c) o j (e .entry)) ∙ ap (λ (f : Records). put f o j (e .entry)) (side .table)
-            ∙ sym (put-records n s c t h o j (st .range) (e .entry) (st .closed .held));
-            kept = λ l. put-kept n s c t h o j (st .range) (e .entry) (st .closed .held);
-            pending = none-pending n s (putRecord s t o j (e .entry));
-            leaving = λ b i.
-            ⊎-elim (λ (w : List·Memᴰ b (k .leaving)). carried-more n s (y .sent) (z .sent) b more (side .leaving b w))
-            (λ (w : List·Memᴰ b (written (length (outBytes e)) (splice out 0 (outBytes e)))).
-            carried-more n s (messages e) (z .sent) b new (sent-carried n s c (setup-at n s setup) p e (st .closed .sent) b (rw bytes at w)))
-            (List·Memᴰ·append-cases (k .leaving) i);
-            marks = side .marks;
-          }));
+              (λ q ne. beside-still y z q (x .copies q) (other-stays (y .tables) c _ q ne) refl more (tie .copies q))
+              (rw (res, part-saved t o j e h (st .range) (st .closed))
+              (record {
+                table = here-is (y .tables) c (put (y .tables c) o j (e .entry)) ∙ ap (λ (f : Records). put f o j (e .entry)) (side .table)
+                    ∙ sym (put-records n s c t h o j (st .range) (e .entry) (st .closed .held));
+                kept = λ l. put-kept n s c t h o j (st .range) (e .entry) (st .closed .held);
+                pending = none-pending n s (putRecord s t o j (e .entry));
+                leaving = λ b i.
+                    ⊎-elim (λ (w : List·Memᴰ b (k .leaving)). carried-more n s (y .sent) (z .sent) b more (side .leaving b w))
+                    (λ (w : List·Memᴰ b (written (length (outBytes e)) (splice out 0 (outBytes e)))).
+                    carried-more n s (messages e) (z .sent) b new (sent-carried n s c (setup-at n s setup) p e (st .closed .sent) b (rw bytes at w)))
+                    (List·Memᴰ·append-cases (k .leaving) i);
+                marks = side .marks;
+              }));
           sent = λ b i. carried-more n s (y .sent) (z .sent) b more (tie .sent b i);
           requested = ap (λ (l : List Asked). recorded l o j call) (tie .requested);
         }
@@ -201,15 +194,15 @@ module _ (n s : ℕ) (setup : Setup n s) where
         let z : rules.State = rules.marked y c o j in
         record {
           copies = one-copy z (x .copies) c _
-          (λ q ne. beside-still y z q (x .copies q) (other-stays (y .tables) c _ q ne) (other-stays (y .marks) c _ q ne) (λ a i. i) (tie .copies q))
-          (rw (m .is-owner, m .is-number, m .saved)
-          (record {
-            table = here-is (y .tables) c (mark (y .tables c) o j) ∙ ap (λ (f : Records). mark f o j) (side .table) ∙ sym (mark-records n s c t h o j (m .found));
-            kept = λ l. mark-kept n s c t h o j (m .found);
-            pending = m .pending;
-            leaving = side .leaving;
-            marks = here-is (y .marks) c (y .marks c ++ (o, j) ∷ []) ∙ ap (λ (l : List Instance). l ++ (o, j) ∷ []) (side .marks);
-          }));
+              (λ q ne. beside-still y z q (x .copies q) (other-stays (y .tables) c _ q ne) (other-stays (y .marks) c _ q ne) (λ a i. i) (tie .copies q))
+              (rw (m .is-owner, m .is-number, m .saved)
+              (record {
+                table = here-is (y .tables) c (mark (y .tables c) o j) ∙ ap (λ (f : Records). mark f o j) (side .table) ∙ sym (mark-records n s c t h o j (m .found));
+                kept = λ l. mark-kept n s c t h o j (m .found);
+                pending = m .pending;
+                leaving = side .leaving;
+                marks = here-is (y .marks) c (y .marks c ++ (o, j) ∷ []) ∙ ap (λ (l : List Instance). l ++ (o, j) ∷ []) (side .marks);
+              }));
           sent = tie .sent;
           requested = tie .requested;
         }
@@ -247,8 +240,8 @@ module _ (n s : ℕ) (setup : Setup n s) where
         record {
           copies = tie .copies;
           sent = λ d q.
-          ⊎-elim (λ (h : List·Memᴰ d (x .sent)). tie .sent d h) (λ (h : List·Memᴰ d (b ∷ [])). rw (List·Memᴰ·eq-of-singleton h) (side .leaving b i))
-          (List·Memᴰ·append-cases (x .sent) q);
+              ⊎-elim (λ (h : List·Memᴰ d (x .sent)). tie .sent d h) (λ (h : List·Memᴰ d (b ∷ [])). rw (List·Memᴰ·eq-of-singleton h) (side .leaving b i))
+              (List·Memᴰ·append-cases (x .sent) q);
           requested = tie .requested;
         }
 

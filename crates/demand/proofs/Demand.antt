@@ -3,7 +3,6 @@ use Prim.Native.Nat.{ℕ, _<_}
 use mathlib.Core.Path.{_≡_, refl, sym, ap, _∙_}
 use mathlib.Core.Bool.{Bool, true, false, _&&_, _||_, not, cond}
 use mathlib.Core.List.{List, _++_, List·Memᴰ}
-use native.Mathlib.Omega.{arith}
 use lib.Dec.{ltb, eqb}
 use lib.ListN.{length}
 use borrow.Author.Tests.{not-false}
@@ -39,10 +38,10 @@ use Rattle.safety.specs.Run.{Instance, Setup}
 use Rattle.safety.specs.Run as rules
 use Rattle.safety.specs.Demand as rules-demand
 use Rattle.safety.proofs.Demand as rules-proved
-use Rattle.demand.specs.Run.{Copy, State, start, Call, request, receive, recover, nudge, outcome, Run, stay}
+use Rattle.demand.specs.Run.{State, start, Call, request, receive, recover, nudge, outcome, Run, stay}
 use Rattle.demand.specs.Demand.{Committed, Unrefused, Lasting, Demand}
 use Rattle.demand.proofs.Saved.{Kept}
-use Rattle.demand.proofs.Records.{records, at-range}
+use Rattle.demand.proofs.Records.{at-range}
 use Rattle.demand.proofs.Handing.{sound-judged}
 use Rattle.demand.proofs.Steps.{gate-is}
 use Rattle.demand.proofs.Bridge.{Tie, Next, begin, bridge}
@@ -167,15 +166,15 @@ module _ (n s : ℕ) (setup : Setup n s) where
   lasting : Lasting n s
   lasting = record {
     commit = λ x y rx ry a o j k d h.
-    let p = atX n s setup x y rx ry in
-    let q = atY n s setup x y rx ry in
-    of-rules n s setup y (q .later) (q .tie) a o j k d (h .copy) (h .range)
-    (D .lasting .commit (p .later) (q .later) (p .run) (q .run) a o j k d (to-rules n s setup x (p .later) (p .tie) a o j k d h));
+        let p = atX n s setup x y rx ry in
+        let q = atY n s setup x y rx ry in
+        of-rules n s setup y (q .later) (q .tie) a o j k d (h .copy) (h .range)
+        (D .lasting .commit (p .later) (q .later) (p .run) (q .run) a o j k d (to-rules n s setup x (p .later) (p .tie) a o j k d h));
     marks = λ x y rx ry a.
-    let p = atX n s setup x y rx ry in
-    let q = atY n s setup x y rx ry in
-    let (l, e) = D .lasting .marks (p .later) (q .later) (p .run) (q .run) a in
-    (l, sym (q .tie .copies a .marks) ∙ e ∙ ap (λ (m : List Instance). m ++ l) (p .tie .copies a .marks));
+        let p = atX n s setup x y rx ry in
+        let q = atY n s setup x y rx ry in
+        let (l, e) = D .lasting .marks (p .later) (q .later) (p .run) (q .run) a in
+        (l, sym (q .tie .copies a .marks) ∙ e ∙ ap (λ (m : List Instance). m ++ l) (p .tie .copies a .marks));
     never-10 = λ x r c l out b i. let p = atX n s setup x x r stay in sent-agrees n s setup x (p .later) (p .tie) (p .run) c l out b i;
     never-1 = λ x r c l. unrefused n s setup x c 1 (kept-at n s setup x r c l) (λ a o e. o .0 e);
     never-11 = λ x r c l. unrefused n s setup x c 11 (kept-at n s setup x r c l) (λ a o e. o .1 e);
@@ -184,24 +183,24 @@ module _ (n s : ℕ) (setup : Setup n s) where
   pub demand-3 : Demand n s
   demand-3 = record {
     agreement = λ x y rx ry a b o j k l d e h g.
-    let p = atX n s setup x y rx ry in
-    let q = atY n s setup x y rx ry in
-    D .agreement (p .later) (q .later) (p .run) (q .run) a b o j k l d e (to-rules n s setup x (p .later) (p .tie) a o j k d h)
-    (to-rules n s setup y (q .later) (q .tie) b o j l e g);
+        let p = atX n s setup x y rx ry in
+        let q = atY n s setup x y rx ry in
+        D .agreement (p .later) (q .later) (p .run) (q .run) a b o j k l d e (to-rules n s setup x (p .later) (p .tie) a o j k d h)
+        (to-rules n s setup y (q .later) (q .tie) b o j l e g);
     requested = λ x rx a o j k d h.
-    let p = atX n s setup x x rx stay in
-    rw (← p .tie .requested) (D .requested (p .later) (p .run) a o j k d (to-rules n s setup x (p .later) (p .tie) a o j k d h));
+        let p = atX n s setup x x rx stay in
+        rw (← p .tie .requested) (D .requested (p .later) (p .run) a o j k d (to-rules n s setup x (p .later) (p .tie) a o j k d h));
     covering = λ x y rx ry a b o j p i k l d e ne h g it.
-    let u = atX n s setup x y rx ry in
-    let v = atY n s setup x y rx ry in
-    D .covering (u .later) (v .later) (u .run) (v .run) a b o j p i k l d e ne (to-rules n s setup x (u .later) (u .tie) a o j k d h)
-    (to-rules n s setup y (v .later) (v .tie) b p i l e g) it;
+        let u = atX n s setup x y rx ry in
+        let v = atY n s setup x y rx ry in
+        D .covering (u .later) (v .later) (u .run) (v .run) a b o j p i k l d e ne (to-rules n s setup x (u .later) (u .tie) a o j k d h)
+        (to-rules n s setup y (v .later) (v .tie) b p i l e g) it;
     order = λ x y rx ry a b c e o j p i k l d f h g it bf mo mp.
-    let u = atX n s setup x y rx ry in
-    let v = atY n s setup x y rx ry in
-    let at = v .tie .copies b .marks in
-    rw (← at)
-    (D .order (u .later) (v .later) (u .run) (v .run) a b c e o j p i k l d f (to-rules n s setup y (v .later) (v .tie) c o j k d h)
-    (to-rules n s setup y (v .later) (v .tie) e p i l f g) it (rw (u .tie .copies a .marks) bf) (rw at mo) (rw at mp));
+        let u = atX n s setup x y rx ry in
+        let v = atY n s setup x y rx ry in
+        let at = v .tie .copies b .marks in
+        rw (← at)
+        (D .order (u .later) (v .later) (u .run) (v .run) a b c e o j p i k l d f (to-rules n s setup y (v .later) (v .tie) c o j k d h)
+        (to-rules n s setup y (v .later) (v .tie) e p i l f g) it (rw (u .tie .copies a .marks) bf) (rw at mo) (rw at mp));
     lasting = lasting;
   }

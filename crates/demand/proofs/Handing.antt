@@ -1,7 +1,7 @@
 -- What a hand-out listed and is not saved yet: its marks, one after the other, are those of the saved table. Assumes nothing.
-use Prim.Native.Nat.{ℕ, zero, suc, _+_, _*_, _/_, _%_, _≤_, _<_}
+use Prim.Native.Nat.{ℕ, zero, suc, _/_, _%_, _≤_, _<_}
 use mathlib.Core.Path.{_≡_, refl, sym, ap, _∙_}
-use mathlib.Core.Bool.{Bool, true, false, _&&_, not, cond}
+use mathlib.Core.Bool.{true, not}
 use mathlib.Core.List.{List, [], _∷_}
 use native.Mathlib.Omega.{arith}
 use lib.ListN.{length, take, drop, getD}
@@ -10,33 +10,30 @@ use Rattle.num.specs.Num.{splice}
 use Rattle.num.proofs.Laws.{splice-same}
 use Rattle.paper.specs.Instance.{instanceOk}
 use Rattle.paper.specs.declared.Record.{Record}
-use Rattle.record.specs.Layout.{recordAt, recordBytes}
+use Rattle.record.specs.Layout.{recordBytes}
 use Rattle.rules.specs.declared.First.{First}
 use Rattle.rules.specs.declared.First.the-variants.{At, Nowhere}
 use Rattle.rules.specs.Seen.{Records}
-use Rattle.rules.specs.Step.{isCommitted}
 use Rattle.rules.specs.Events.{put}
 use Rattle.rules.specs.Order.{isSettled, isMarked, candidate, marked, mark, nextOut, codeOf, found, handOut}
 use Rattle.table.specs.Place.{placeOf, partAt}
-use Rattle.table.specs.Table.{fits, soundTable, recordIn, putRecord}
+use Rattle.table.specs.Table.{fits, recordIn}
 use Rattle.table.specs.Calls.{judged, partOf}
-use Rattle.table.specs.declared.Judging.{Judging}
 use Rattle.table.specs.declared.Judging.the-variants as judging
-use Rattle.table.specs.Sizes.{Names}
 use Rattle.table.proofs.Laws.{sizes, names}
 use Rattle.table.proofs.Round.{put-part}
 use Rattle.seen.specs.Records.{recordsIn}
 use Rattle.closed.specs.Held.{Held}
-use Rattle.closed.proofs.Laws.{three, tf, eqb-self, clash}
+use Rattle.closed.proofs.Laws.{three, tf, eqb-self}
 use Rattle.closed.proofs.Mark.{marked-held, Found, candidate-committed, nextOut-found}
-use Rattle.order.specs.Calls.{markIn, handedTable, handedCodes, Handed, handedOpen, handed}
+use Rattle.order.specs.Calls.{markIn, handedTable, handedCodes, handedOpen, handed}
 use Rattle.order.specs.declared.Handing.{Handing}
 use Rattle.order.specs.declared.Handing.the-variants.{Codes}
 use Rattle.order.specs.declared.Handing.the-variants as handing
 use Rattle.demand.specs.Run.{savedPart}
 use Rattle.demand.proofs.Saved.{Kept, put-own, put-kept}
-use Rattle.demand.proofs.Range.{Alike, next-alike, out-alike}
-use Rattle.demand.proofs.Records.{records, at-range, alike, held, put-records}
+use Rattle.demand.proofs.Range.{Alike, out-alike}
+use Rattle.demand.proofs.Records.{records, at-range, held, put-records}
 
 pub sound-judged : (n s c : ℕ) (t : List ℕ) → Kept n s c t → judged n s c t ≡ judging.Sound
 unfolding judged
@@ -107,9 +104,9 @@ left (suc room) n s c t k = go (nextOut n s (recordsIn s t)) (nextOut-found n s 
         record {
           kept = h .kept;
           frame = λ p i z m.
-          let e = mark-frame n s c t k o j f p i z m in
-          let v : isMarked (recordIn s (markIn s t o j) p i) ≡ true = rw e m in
-          h .frame p i z v ∙ e;
+              let e = mark-frame n s c t k o j f p i z m in
+              let v : isMarked (recordIn s (markIn s t o j) p i) ≡ true = rw e m in
+              h .frame p i z v ∙ e;
         }
 
 at-mark : (x : Records) (o j : ℕ) → isMarked (mark x o j o j) ≡ true

@@ -1,26 +1,21 @@
 -- The rules look at a table's instances in range alone: two tables that are alike there do alike. Assumes nothing.
 use Prim.Native.Nat.{ℕ, zero, suc, _+_, _*_, _≤_, _<_}
 use mathlib.Core.Path.{_≡_, refl, ap, fun-ext}
-use mathlib.Core.Bool.{Bool, true, false, _&&_, _||_, not, cond}
+use mathlib.Core.Bool.{Bool, true, false, _&&_, not, cond}
 use mathlib.Core.List.{List, [], _∷_}
 use native.Mathlib.Omega.{arith}
-use lib.Dec.{leb, ltb, eqb}
-use borrow.Author.Tests.{ltb-true, leb-true, lt-ltb, le-leb}
+use lib.Dec.{ltb}
+use borrow.Author.Tests.{ltb-true, lt-ltb, le-leb}
 use Rattle.paper.specs.Logic.{implies, allBelow}
 use Rattle.paper.specs.Instance.{instanceOk}
 use Rattle.paper.specs.declared.Command.{Command}
 use Rattle.paper.specs.declared.Record.{Record}
 use Rattle.paper.specs.declared.Message.{Message}
-use Rattle.rules.specs.declared.Step.{Step}
 use Rattle.rules.specs.declared.First.{First}
 use Rattle.rules.specs.declared.First.the-variants.{At, Nowhere}
 use Rattle.rules.specs.Sets.{highest}
-use Rattle.rules.specs.Step.{isCommitted}
 use Rattle.rules.specs.Seen.{Records, met, seenEntry, seenFrom, seen}
-use Rattle.rules.specs.Request.{isBlank, lowestBlank, request}
-use Rattle.rules.specs.Received.{received}
-use Rattle.rules.specs.Recover.{recover}
-use Rattle.rules.specs.Nudge.{nudge}
+use Rattle.rules.specs.Request.{lowestBlank}
 use Rattle.rules.specs.Events.{put, requestNumber, onRequest, onMessage, onRecover, onNudge}
 use Rattle.rules.specs.Order.{everywhere, somewhere, firstOwner, firstNumber, coversIn, reachesIn, reaches, waitsFor, isSettled, isMarked, candidate, marked, mark, nextOut, codeOf, found, handOut}
 use Rattle.closed.proofs.Laws.{two, both}
@@ -129,7 +124,7 @@ module _ (n s : ℕ) where
         rw (
           covers-alike p k o j i,
           some-alike (λ q e. cond (coversIn n s t p k q e) (reachesIn f n s t q e o j) false) (λ q e. cond (coversIn n s u p k q e) (reachesIn f n s u q e o j) false)
-          (λ q e z. rw (covers-alike p k q e i, reach-alike f q e o j z)),
+              (λ q e z. rw (covers-alike p k q e i, reach-alike f q e o j z)),
         )
 
     reaches-alike : (p k o j : ℕ) → instanceOk n s p k ≡ true → reaches n s t p k o j ≡ reaches n s u p k o j
@@ -143,8 +138,8 @@ module _ (n s : ℕ) where
           every-alike (λ o j. not (waitsFor n s t p k o j)) (λ o j. not (waitsFor n s u p k o j)) (λ o j z. rw (reaches-alike p k o j i, h o j z)),
           h p k i,
           every-alike (λ o j. implies (reaches n s t p k o j && not (reaches n s t o j p k)) (isMarked (t o j)))
-          (λ o j. implies (reaches n s u p k o j && not (reaches n s u o j p k)) (isMarked (u o j)))
-          (λ o j z. rw (reaches-alike p k o j i, reaches-alike o j p k z, h o j z)),
+              (λ o j. implies (reaches n s u p k o j && not (reaches n s u o j p k)) (isMarked (u o j)))
+              (λ o j z. rw (reaches-alike p k o j i, reaches-alike o j p k z, h o j z)),
         )
 
     pub next-alike : nextOut n s t ≡ nextOut n s u

@@ -5,17 +5,15 @@ use mathlib.Core.Bool.{Bool, true, false, _&&_, _||_, cond}
 use mathlib.Core.List.{List}
 use native.Mathlib.Omega.{arith}
 use lib.Dec.{eqb}
-use lib.ListN.{length}
-use borrow.Author.Tests.{eqb-true, eqb-false, lt-ltb, eq-eqb}
+use borrow.Author.Tests.{eqb-true, lt-ltb}
 use Rattle.paper.specs.Setup.{setupOk, copiesOk}
 use Rattle.paper.specs.Instance.{instanceOk}
 use Rattle.paper.specs.Vote.{blank}
 use Rattle.paper.specs.declared.Record.{Record}
-use Rattle.record.specs.Layout.{recordAt, recordBytes}
+use Rattle.record.specs.Layout.{recordAt}
 use Rattle.record.proofs.Round.{recordAt-recordBytes}
 use Rattle.rules.specs.Seen.{Records}
 use Rattle.rules.specs.Events.{put}
-use Rattle.table.specs.Place.{placeOf, partAt}
 use Rattle.table.specs.Table.{blankTable, recordIn, putRecord}
 use Rattle.table.specs.Sizes.{Names}
 use Rattle.table.proofs.Laws.{sizes, names}
@@ -27,7 +25,7 @@ use Rattle.closed.proofs.Shapes.{blank-held}
 use Rattle.log.proofs.Held.{sound-records}
 use Rattle.safety.specs.Run.{Setup}
 use Rattle.demand.proofs.Fits.{record-fits}
-use Rattle.demand.proofs.Saved.{Kept, blank-kept, blank-part, setup-of}
+use Rattle.demand.proofs.Saved.{Kept, blank-kept, blank-part}
 use Rattle.demand.proofs.Range.{Alike}
 
 -- the records of a table, blank where there is no instance

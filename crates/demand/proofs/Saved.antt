@@ -1,36 +1,33 @@
 -- Sound tables as bytes: a blank one is, and stays so when a record that holds is put into it. Assumes nothing.
-use Prim.Native.Nat.{ℕ, zero, suc, _+_, _*_, _-_, _%_, _/_, _≤_, _<_}
+use Prim.Native.Nat.{ℕ, zero, suc, _+_, _*_, _-_, _/_, _≤_, _<_}
 use mathlib.Core.Path.{_≡_, refl, sym, ap, _∙_}
-use mathlib.Core.Logic.{_⊎_, inl, inr, ⊎-elim}
-use mathlib.Core.Bool.{Bool, true, false, _&&_}
+use mathlib.Core.Logic.{inl}
+use mathlib.Core.Bool.{true}
 use mathlib.Core.List.{List, [], _∷_, _++_}
 use native.Mathlib.Omega.{arith}
 use native.Mathlib.Decide.{ℕ-discrete}
-use lib.Dec.{eqb, leb}
-use lib.ListN.{length, getD, take, drop, replicate, length-replicate, getD-replicate, length-take, length-drop, length-append, List·getD-append, List·getD-eq-default}
+use lib.Dec.{eqb}
+use lib.ListN.{length, getD, take, drop, replicate, length-replicate, length-take, length-drop}
 use lib.Seq.{getD-take, getD-drop, getD-append-add, ext-getD}
-use borrow.Author.Tests.{eq-eqb, le-leb, lt-ltb}
+use borrow.Author.Tests.{eq-eqb, le-leb}
 use Rattle.num.specs.Num.{numAt, bytesOf, splice}
 use Rattle.num.specs.Fields.{fieldsBytes}
 use Rattle.num.proofs.Laws.{splice-same}
-use Rattle.codec.specs.Parts.{voteWidths, voteNumbers, voteAt, voteBytes}
+use Rattle.codec.specs.Parts.{voteWidths, voteNumbers, voteBytes}
 use Rattle.codec.proofs.Laws.{op-small}
-use Rattle.paper.specs.Logic.{allBelow}
 use Rattle.paper.specs.Setup.{setupOk}
 use Rattle.paper.specs.Instance.{instanceOk}
 use Rattle.paper.specs.Vote.{blank}
-use Rattle.paper.specs.Sound.{soundRecord}
-use Rattle.paper.specs.Command.{opNumber}
 use Rattle.paper.proofs.Laws.{and-true}
 use Rattle.paper.specs.declared.Vote.{Vote}
 use Rattle.paper.specs.declared.Record.{Record}
-use Rattle.record.specs.Layout.{votesAt, votesBytes, recordAt, frontBytes, recordBytes}
+use Rattle.record.specs.Layout.{votesBytes, frontBytes, recordBytes}
 use Rattle.record.specs.Part.{opFits, opsFit, replyPlace, soundPart}
-use Rattle.record.proofs.Laws.{length-frontBytes, length-voteBytes, length-votesBytes}
+use Rattle.record.proofs.Laws.{length-frontBytes, length-voteBytes}
 use Rattle.record.proofs.Round.{recordAt-recordBytes}
 use Rattle.table.specs.Place.{tableLength, placeAt, placeOf, partAt}
-use Rattle.table.specs.Table.{fits, headOk, soundRow, soundTable, blankTable, recordIn, putRecord}
-use Rattle.table.specs.Sizes.{Sizes, Names}
+use Rattle.table.specs.Table.{fits, headOk, soundRow, soundTable, blankTable, putRecord}
+use Rattle.table.specs.Sizes.{Names}
 use Rattle.table.proofs.Laws.{sizes, names, place-end, setup-bounds}
 use Rattle.table.proofs.Round.{length-recordBytes, put-long, put-part, put-frame, sound-at}
 use Rattle.closed.specs.Held.{Held}

@@ -1,12 +1,12 @@
 -- A call that answers an event on a sound table is a move of the rules on its records. Assumes nothing.
-use Prim.Native.Nat.{ℕ, zero, suc, _+_, _^_, _≤_, _<_}
+use Prim.Native.Nat.{ℕ, zero, suc, _+_, _≤_, _<_}
 use mathlib.Core.Path.{_≡_, refl, sym, ap, ap₂, _∙_}
 use mathlib.Core.Bool.{Bool, true, false, _&&_, _||_, not, cond}
-use mathlib.Core.List.{List, [], _∷_, _++_, append-nil, List·Memᴰ}
+use mathlib.Core.List.{List, _++_}
 use native.Mathlib.Omega.{arith}
 use lib.Dec.{ltb, eqb}
 use lib.ListN.{length}
-use borrow.Author.Tests.{ltb-false, eqb-true, not-false}
+use borrow.Author.Tests.{ltb-false, not-false}
 use Rattle.codec.specs.Parts.{opOf}
 use Rattle.paper.specs.Setup.{setupOk}
 use Rattle.paper.specs.Instance.{instanceOk}
@@ -29,17 +29,16 @@ use Rattle.rules.specs.Recover.{outOfBallots}
 use Rattle.rules.specs.Nudge.{nothingToNudge}
 use Rattle.rules.specs.Events.{put, requestNumber, onRequest, onMessage, onRecover, onNudge, messages}
 use Rattle.wire.specs.Wire.{messageAt, validBytes, framed, opFits}
-use Rattle.table.specs.Table.{fits, soundTable, recordIn}
+use Rattle.table.specs.Table.{fits, recordIn}
 use Rattle.seen.specs.Records.{recordsIn}
 use Rattle.closed.specs.Fits.{CommandFits}
 use Rattle.closed.specs.Held.{Closed}
-use Rattle.closed.proofs.Laws.{by-cond, or-cases}
+use Rattle.closed.proofs.Laws.{by-cond}
 use Rattle.closed.proofs.Heard.{valid-instance}
 use Rattle.closed.proofs.Closed.{request-event, message-event, recover-event, nudge-event}
-use Rattle.log.specs.declared.Gate.{Gate}
 use Rattle.log.specs.declared.Gate.the-variants.{Open, Shut}
 use Rattle.log.specs.Events.{Outcome, refuse, acted, gateOf, gated, through, requestOpen, receiveOpen, recoverOpen, nudgeOpen, answerNumber}
-use Rattle.safety.specs.Run.{Asked, replaced}
+use Rattle.safety.specs.Run.{replaced}
 use Rattle.safety.specs.Run as rules
 use Rattle.demand.specs.Run.{Call, request, receive, recover, nudge, outcome, recorded}
 use Rattle.demand.proofs.Saved.{Kept, setup-of}

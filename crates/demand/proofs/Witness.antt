@@ -1,16 +1,15 @@
 -- The demand over bytes is not empty: runs from blank tables whose calls commit fast, slowly and by recovery, and hand out. The
 -- moves are the calls' own outcomes, so a log that never commits does not meet their contracts. Assumes nothing.
-use Prim.Native.Nat.{ℕ, _^_, _<_}
+use Prim.Native.Nat.{ℕ, _^_}
 use mathlib.Core.Path.{_≡_, refl, sym, _∙_}
 use mathlib.Core.Logic.{⊎-elim}
-use mathlib.Core.Bool.{true, _&&_}
+use mathlib.Core.Bool.{true}
 use mathlib.Core.List.{List, [], _∷_, List·Memᴰ, List·Memᴰ·not-nil, List·Memᴰ·cases-cons}
 use native.Mathlib.Omega.{arith}
 use lib.Dec.{ltb}
 use borrow.Author.Tests.{ltb-true}
 use Rattle.paper.specs.Instance.{instanceOk}
 use Rattle.paper.specs.Command.{noop}
-use Rattle.closed.specs.Fits.{CommandFits}
 use Rattle.closed.proofs.Laws.{three}
 use Rattle.safety.specs.Run.{Asked, Setup}
 use Rattle.safety.specs.Run as rules
@@ -64,6 +63,10 @@ shown-bytes = record {
   slow = lifted _ _ (λ x y t h. of-rules 3 1 three-one x y t 0 0 1 (write 1) (deps 0 1 0) (omega arith) refl h) (shown .slow);
   lost = lifted _ _ (λ x y t h. of-rules 3 1 three-one x y t 1 0 1 noop (deps 0 0 0) (omega arith) refl h) (shown .lost);
   saved = lifted _ _ (λ x y t h. of-rules 3 1 three-one x y t 2 0 1 (write 1) (deps 0 0 0) (omega arith) refl h) (shown .saved);
-  out = lifted _ _ (λ x y t h. (of-rules 3 1 three-one x y t 0 0 1 (write 1) (deps 0 1 0) (omega arith) refl (h .0),
-  of-rules 3 1 three-one x y t 1 1 1 (write 2) (deps 0 0 0) (omega arith) refl (h .1), sym (t .copies 0 .marks) ∙ h .2, sym (t .copies 1 .marks) ∙ h .3)) (shown .out);
+  out = lifted _ _ (λ x y t h. (
+    of-rules 3 1 three-one x y t 0 0 1 (write 1) (deps 0 1 0) (omega arith) refl (h .0),
+    of-rules 3 1 three-one x y t 1 1 1 (write 2) (deps 0 0 0) (omega arith) refl (h .1),
+    sym (t .copies 0 .marks) ∙ h .2,
+    sym (t .copies 1 .marks) ∙ h .3,
+  )) (shown .out);
 }

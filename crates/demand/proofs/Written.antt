@@ -1,7 +1,7 @@
 -- The bytes that an event writes are cut into its messages again, each of which its receiver reads as sent. Assumes nothing.
 use Prim.Native.Nat.{ℕ, zero, suc, _+_, _≤_, _<_}
 use mathlib.Core.Path.{_≡_, refl, sym, ap, _∙_}
-use mathlib.Core.Bool.{Bool, true, false, _&&_, not, cond}
+use mathlib.Core.Bool.{Bool, true, false, cond}
 use mathlib.Core.Logic.{⊎-elim}
 use mathlib.Core.List.{List, [], _∷_, _++_, map, List·Memᴰ, List·Memᴰ·head, List·Memᴰ·tail, List·Memᴰ·not-nil, List·Memᴰ·cases-cons, Memᴰ·cast}
 use native.Mathlib.Omega.{arith}
@@ -19,14 +19,14 @@ use Rattle.paper.specs.declared.Message.{Message}
 use Rattle.rules.specs.declared.Step.{Step}
 use Rattle.rules.specs.Events.{addressed, messagesFrom, messages}
 use Rattle.wire.specs.Wire.{lengthOf, kindAt, headBytes, messageAt, messageBytes, validBytes}
-use Rattle.wire.specs.Calls.{received, unread}
+use Rattle.wire.specs.Calls.{received}
 use Rattle.wire.specs.declared.Received.{Received}
 use Rattle.wire.specs.declared.Reading.{Reading}
 use Rattle.wire.specs.declared.Reading.the-variants as reading
 use Rattle.wire.proofs.Laws.{ten, length-messageBytes}
 use Rattle.wire.proofs.Round.{written-reads-back}
 use Rattle.closed.specs.Fits.{MessageFits}
-use Rattle.closed.specs.Held.{Sent, Taken}
+use Rattle.closed.specs.Held.{Sent}
 use Rattle.closed.proofs.Laws.{clash}
 use Rattle.closed.proofs.Closed.{addressed-fits}
 use Rattle.log.specs.Out.{allBytes, outBytes}

@@ -14,7 +14,7 @@ use Rattle.log.specs.Events.{answerNumber}
 use Rattle.order.specs.Calls.{settled, handed, settlingNumber, handingNumber}
 use Rattle.safety.specs.Run.{Instance}
 use Rattle.safety.specs.Demand.{Before}
-use Rattle.demand.specs.Run.{Copy, State, Call, receive, outcome, start, Run}
+use Rattle.demand.specs.Run.{State, Call, receive, outcome, start, Run}
 
 module _ (n s : ℕ) where
   -- the saved table of copy c has o.j committed, with this command and these dependencies

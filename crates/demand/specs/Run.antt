@@ -3,7 +3,7 @@
 use Prim.Native.Nat.{ℕ, zero, suc, _/_, _%_, _^_, _<_}
 use mathlib.Core.Path.{_≡_}
 use mathlib.Core.List.{List, [], _∷_, _++_, List·Memᴰ}
-use lib.ListN.{length, take, drop}
+use lib.ListN.{take, drop}
 use Rattle.num.specs.Num.{splice}
 use Rattle.codec.specs.Parts.{opOf}
 use Rattle.wire.specs.Wire.{lengthOf, kindAt}
