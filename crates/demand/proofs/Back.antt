@@ -174,7 +174,7 @@ module _ (n s : ℕ) (setup : Setup n s) where
         side g z table kept pending marks none =
             one-copy n s setup z g c (restarted (g c))
             (λ q ne. record { table = table q; kept = kept q; pending = pending q; leaving = λ b i. absurd (List·Memᴰ·not-nil (rw (none q ne) at i)); marks = marks q })
-            (record { table = table c; kept = kept c; pending = none-pending n s (g c .saved); leaving = λ b i. absurd (List·Memᴰ·not-nil i); marks = marks c })
+            (record { table = table c; kept = kept c; pending = none-pending n s (g c .saved) (g c .saved) refl; leaving = λ b i. absurd (List·Memᴰ·not-nil i); marks = marks c })
 
     -- a mark: a hand-out into one place, and its save
     mark-back : (o j : ℕ) → nextOut n s (y .tables c) ≡ At o j → Back x (rules.marked y c o j)

@@ -1,10 +1,10 @@
 -- A run over bytes beside a run of the rules: each saved table is sound and its records are the rules' table, and all that is
 -- sent is the bytes of a valid message of the rules. Assumes nothing.
 use Prim.Native.Nat.{ℕ, _<_}
-use mathlib.Core.Path.{_≡_, refl, sym, ap, _∙_}
+use mathlib.Core.Path.{_≡_, refl, sym, ap, ap₂, _∙_, subst}
 use mathlib.Core.Bool.{Bool, true, false, cond}
 use mathlib.Core.Logic.{⊎-elim}
-use mathlib.Core.List.{List, [], _∷_, _++_, List·Memᴰ, List·Memᴰ·not-nil, List·Memᴰ·append-cases, List·Memᴰ·eq-of-singleton, Memᴰ·append-left, Memᴰ·append-right}
+use mathlib.Core.List.{List, [], _∷_, _++_, map, List·Memᴰ, List·Memᴰ·not-nil, List·Memᴰ·append-cases, List·Memᴰ·eq-of-singleton, Memᴰ·append-left, Memᴰ·append-right}
 use lib.Dec.{eqb}
 use lib.ListN.{length}
 use borrow.Author.Tests.{eqb-true, eqb-false, eq-eqb, ne-eqb}
@@ -17,6 +17,7 @@ use Rattle.rules.specs.declared.First.the-variants.{At}
 use Rattle.rules.specs.Seen.{Records}
 use Rattle.rules.specs.Events.{put, messages}
 use Rattle.rules.specs.Order.{nextOut, mark}
+use Rattle.wire.specs.Wire.{messageBytes}
 use Rattle.table.specs.Place.{placeOf}
 use Rattle.table.specs.Table.{blankTable, putRecord}
 use Rattle.seen.specs.Records.{recordsIn}
@@ -27,7 +28,7 @@ use Rattle.log.specs.Events.{Outcome, answerNumber, answerOwner, answerInstance
 use Rattle.log.specs.Events as log
 use Rattle.log.proofs.Held.{out-short}
 use Rattle.order.specs.declared.Handing.the-variants.{Codes}
-use Rattle.order.specs.Calls.{handed}
+use Rattle.order.specs.Calls.{markIn, handed}
 use Rattle.safety.specs.Run.{Instance, Asked, Setup, replaced}
 use Rattle.safety.specs.Run as rules
 use Rattle.demand.specs.Run.{Copy, State, start, Call, request, receive, recover, nudge, outcome, Possible, recorded, written, savedPart, acted, handing, marking, restarted, changed, asked, Move, event, leave, handOut, cut, Run, stay, further}
@@ -93,7 +94,7 @@ module _ (n s : ℕ) (setup : Setup n s) where
             record {
               table = sym (blank-records n s setup q);
               kept = λ l. blank-kept n s q (setup-at n s setup q l);
-              pending = none-pending n s (blankTable n s q);
+              pending = none-pending n s (blankTable n s q) (blankTable n s q) refl;
               leaving = λ b i. absurd (List·Memᴰ·not-nil i);
               marks = refl;
             };
@@ -136,44 +137,71 @@ module _ (n s : ℕ) (setup : Setup n s) where
     abbrev stepOf : Call → Step
     stepOf call = stepIn n s c (y .tables c) call
 
-    -- the state after it
-    abbrev pub after : (call : Call) (out : List ℕ) → State
-    after call out =
-        asked (changed x c (acted n s c k (outcome n s c (k .lent) out call) (ownerOf call) (numberOf call) (length (outBytes (stepOf call))))) (recorded (x .requested) (ownerOf call) (numberOf call) call)
+    -- the copy and the state after it
+    abbrev host : (call : Call) (out : List ℕ) → Copy
+    host call out = acted n s c k (outcome n s c (k .lent) out call) (ownerOf call) (numberOf call) (length (outBytes (stepOf call)))
 
-    pub event-tie : (call : Call) (out : List ℕ) → Stepped n s c (k .saved) out call y → k .lent ≡ k .saved → Tie (after call out) (moved n s y c call (messages (stepOf call)))
-    unfolding log.acted
-    event-tie call out st eu =
-        let t : List ℕ = k .saved in
-        let o : ℕ = ownerOf call in
-        let j : ℕ = numberOf call in
-        let e : Step = stepOf call in
-        let z : rules.State = moved n s y c call (messages e) in
-        let h : Kept n s c t = side .kept copy in
-        let p : setupOk n s c ≡ true = setup-of n s c t (h .setup) in
-        let res : outcome n s c (k .lent) out call ≡ log.acted s t out o j e = ap (λ (v : List ℕ). outcome n s c v out call) eu ∙ st .is in
-        let more : (m : Message) → List·Memᴰ m (y .sent) → List·Memᴰ m (z .sent) = λ m i. Memᴰ·append-left (messages e) i in
-        let new : (m : Message) → List·Memᴰ m (messages e) → List·Memᴰ m (z .sent) = λ m i. Memᴰ·append-right (y .sent) i in
-        let bytes = written-is e out (st .long) (out-short n s c p e (st .closed .sent)) in
-        record {
-          copies = one-copy z (x .copies) c _
-              (λ q ne. beside-still y z q (x .copies q) (other-stays (y .tables) c _ q ne) refl more (tie .copies q))
-              (rw (res, part-saved t o j e h (st .range) (st .closed))
-              (record {
-                table = here-is (y .tables) c (put (y .tables c) o j (e .entry)) ∙ ap (λ (f : Records). put f o j (e .entry)) (side .table)
-                    ∙ sym (put-records n s c t h o j (st .range) (e .entry) (st .closed .held));
-                kept = λ l. put-kept n s c t h o j (st .range) (e .entry) (st .closed .held);
-                pending = none-pending n s (putRecord s t o j (e .entry));
-                leaving = λ b i.
-                    ⊎-elim (λ (w : List·Memᴰ b (k .leaving)). carried-more n s (y .sent) (z .sent) b more (side .leaving b w))
-                    (λ (w : List·Memᴰ b (written (length (outBytes e)) (splice out 0 (outBytes e)))).
-                    carried-more n s (messages e) (z .sent) b new (sent-carried n s c (setup-at n s setup) p e (st .closed .sent) b (rw bytes at w)))
-                    (List·Memᴰ·append-cases (k .leaving) i);
-                marks = side .marks;
-              }));
-          sent = λ b i. carried-more n s (y .sent) (z .sent) b more (tie .sent b i);
-          requested = ap (λ (l : List Asked). recorded l o j call) (tie .requested);
-        }
+    abbrev pub after : (call : Call) (out : List ℕ) → State
+    after call out = asked (changed x c (host call out)) (recorded (x .requested) (ownerOf call) (numberOf call) call)
+
+    module _ (call : Call) (out : List ℕ) (st : Stepped n s c (k .saved) out call y) (eu : k .lent ≡ k .saved) where
+      abbrev e : Step
+      e = stepOf call
+
+      abbrev table : List ℕ
+      table = putRecord s (k .saved) (ownerOf call) (numberOf call) (e .entry)
+
+      abbrev here : Kept n s c (k .saved)
+      here = side .kept copy
+
+      abbrev named : setupOk n s c ≡ true
+      named = setup-of n s c (k .saved) (here .setup)
+
+      did : outcome n s c (k .lent) out call ≡ log.acted s (k .saved) out (ownerOf call) (numberOf call) e
+      did = ap (λ (v : List ℕ). outcome n s c v out call) eu ∙ st .is
+
+      -- the table in memory is the call's
+      lent-is : host call out .lent ≡ table
+      unfolding log.acted
+      lent-is = ap (λ (v : Outcome). v .table) did
+
+      -- its record is saved
+      saved-is : host call out .saved ≡ table
+      saved-is =
+          ap (λ (v : List ℕ). savedPart n s c (k .saved) v (ownerOf call) (numberOf call)) lent-is
+          ∙ part-saved (k .saved) (ownerOf call) (numberOf call) e here (st .range) (st .closed)
+
+      -- its messages, and no others, may leave
+      leaving-is : host call out .leaving ≡ k .leaving ++ map messageBytes (messages e)
+      unfolding log.acted
+      leaving-is =
+          ap (λ (v : Outcome). k .leaving ++ written (length (outBytes e)) (v .out)) did
+          ∙ ap (λ (l : List (List ℕ)). k .leaving ++ l) (written-is e out (st .long) (out-short n s c named e (st .closed .sent)))
+
+      pub event-tie : Tie (after call out) (moved n s y c call (messages e))
+      event-tie =
+          let z : rules.State = moved n s y c call (messages e) in
+          let more : (m : Message) → List·Memᴰ m (y .sent) → List·Memᴰ m (z .sent) = λ m i. Memᴰ·append-left (messages e) i in
+          let new : (m : Message) → List·Memᴰ m (messages e) → List·Memᴰ m (z .sent) = λ m i. Memᴰ·append-right (y .sent) i in
+          record {
+            copies = one-copy z (x .copies) c (host call out)
+                (λ q ne. beside-still y z q (x .copies q) (other-stays (y .tables) c _ q ne) refl more (tie .copies q))
+                (record {
+                  table = here-is (y .tables) c (put (y .tables c) (ownerOf call) (numberOf call) (e .entry))
+                      ∙ ap (λ (f : Records). put f (ownerOf call) (numberOf call) (e .entry)) (side .table)
+                      ∙ sym (ap (records n s) saved-is ∙ put-records n s c (k .saved) here (ownerOf call) (numberOf call) (st .range) (e .entry) (st .closed .held));
+                  kept = λ l. subst (Kept n s c) (sym saved-is) (put-kept n s c (k .saved) here (ownerOf call) (numberOf call) (st .range) (e .entry) (st .closed .held));
+                  pending = none-pending n s (host call out .saved) (host call out .lent) (lent-is ∙ sym saved-is);
+                  leaving = λ b i.
+                      ⊎-elim (λ (w : List·Memᴰ b (k .leaving)). carried-more n s (y .sent) (z .sent) b more (side .leaving b w))
+                      (λ (w : List·Memᴰ b (map messageBytes (messages e))).
+                      carried-more n s (messages e) (z .sent) b new (sent-carried n s c (setup-at n s setup) named e (st .closed .sent) b w))
+                      (List·Memᴰ·append-cases (k .leaving) (subst (List·Memᴰ b) leaving-is i));
+                  marks = side .marks;
+                });
+            sent = λ b i. carried-more n s (y .sent) (z .sent) b more (tie .sent b i);
+            requested = ap (λ (l : List Asked). recorded l (ownerOf call) (numberOf call) call) (tie .requested);
+          }
 
     -- one mark is saved
     pub marked-here : (code : ℕ) (rest : List ℕ) → k .listed ≡ code ∷ rest → Marked n s c (k .saved) (k .lent) code rest
@@ -192,17 +220,20 @@ module _ (n s : ℕ) (setup : Setup n s) where
         let o : ℕ = m .owner in
         let j : ℕ = m .number in
         let z : rules.State = rules.marked y c o j in
+        let disk : marking n s c k code rest .saved ≡ markIn s t o j =
+        ap₂ (λ (p i : ℕ). savedPart n s c t (k .lent) p i) (m .is-owner) (m .is-number) ∙ m .saved in
         record {
-          copies = one-copy z (x .copies) c _
+          copies = one-copy z (x .copies) c (marking n s c k code rest)
               (λ q ne. beside-still y z q (x .copies q) (other-stays (y .tables) c _ q ne) (other-stays (y .marks) c _ q ne) (λ a i. i) (tie .copies q))
-              (rw (m .is-owner, m .is-number, m .saved)
               (record {
-                table = here-is (y .tables) c (mark (y .tables c) o j) ∙ ap (λ (f : Records). mark f o j) (side .table) ∙ sym (mark-records n s c t h o j (m .found));
-                kept = λ l. mark-kept n s c t h o j (m .found);
-                pending = m .pending;
+                table = here-is (y .tables) c (mark (y .tables c) o j) ∙ ap (λ (f : Records). mark f o j) (side .table)
+                    ∙ sym (ap (records n s) disk ∙ mark-records n s c t h o j (m .found));
+                kept = λ l. subst (Kept n s c) (sym disk) (mark-kept n s c t h o j (m .found));
+                pending = subst (λ (v : List ℕ). Pending n s v (k .lent) rest) (sym disk) (m .pending);
                 leaving = side .leaving;
-                marks = here-is (y .marks) c (y .marks c ++ (o, j) ∷ []) ∙ ap (λ (l : List Instance). l ++ (o, j) ∷ []) (side .marks);
-              }));
+                marks = here-is (y .marks) c (y .marks c ++ (o, j) ∷ []) ∙ ap (λ (l : List Instance). l ++ (o, j) ∷ []) (side .marks)
+                    ∙ ap₂ (λ (p i : ℕ). k .marks ++ (p, i) ∷ []) (sym (m .is-owner)) (sym (m .is-number));
+              });
           sent = tie .sent;
           requested = tie .requested;
         }
@@ -230,7 +261,7 @@ module _ (n s : ℕ) (setup : Setup n s) where
         (record {
           table = side .table;
           kept = side .kept;
-          pending = none-pending n s (k .saved);
+          pending = none-pending n s (k .saved) (k .saved) refl;
           leaving = λ b i. absurd (List·Memᴰ·not-nil i);
           marks = side .marks;
         })

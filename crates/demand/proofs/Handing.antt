@@ -134,9 +134,9 @@ pub record Pending (n s : ℕ) (saved lent listed : List ℕ) : Type 0 where
   pub table : lent ≡ handedTable room n s saved
   pub codes : listed ≡ handedCodes room n s saved
 
-pub none-pending : (n s : ℕ) (t : List ℕ) → Pending n s t t []
+pub none-pending : (n s : ℕ) (t u : List ℕ) → u ≡ t → Pending n s t u []
 unfolding handedTable handedCodes handOut
-none-pending n s t = record { room = 0; table = refl; codes = refl }
+none-pending n s t u e = record { room = 0; table = e; codes = refl }
 
 empty : {x : ℕ} {l : List ℕ} {A : Type 0} → [] ≡ x ∷ l → A
 empty {x} {l} e = let z : 0 ≡ suc (length l) = ap length e in absurd (omega arith)

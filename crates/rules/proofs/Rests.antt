@@ -3,7 +3,7 @@ use Prim.Native.Nat.{ℕ, zero, suc, _+_, _*_, _-_, _≤_, _<_}
 use mathlib.Core.Path.{_≡_, refl, sym, _∙_}
 use mathlib.Core.Bool.{Bool, true, false, _&&_, _||_, not, cond}
 use mathlib.Core.Logic.{⊎-elim}
-use mathlib.Core.List.{List, [], _∷_}
+use mathlib.Core.List.{List}
 use native.Mathlib.Omega.{arith}
 use native.Mathlib.Nat.{eq-or-lt-of-le}
 use lib.Dec.{leb, ltb, eqb}
@@ -12,12 +12,11 @@ use borrow.Author.Tests.{leb-true, ltb-true, ltb-false, eqb-true, lt-ltb, not-tr
 use Rattle.paper.specs.Logic.{implies, allBelow}
 use Rattle.paper.specs.Setup.{faults}
 use Rattle.paper.specs.Command.{noop, sameCommand, interfere}
-use Rattle.paper.specs.Deps.{sameDeps, larger, joinFrom, join}
+use Rattle.paper.specs.Deps.{sameDeps, larger, joinFrom}
 use Rattle.paper.specs.Vote.{member, count}
 use Rattle.paper.specs.Message.{voteIn}
 use Rattle.paper.proofs.Laws.{and-true, allBelow-at}
 use Rattle.paper.specs.declared.Command.{Command}
-use Rattle.paper.specs.declared.Vote.{Vote}
 use Rattle.paper.specs.declared.Record.{Record}
 use Rattle.paper.specs.declared.Body.{Body}
 use Rattle.paper.specs.declared.Body.the-variants.{PreAccept, PreAcceptOk, Accept, AcceptOk, Commit, Prepare, PrepareOk, Nack}
