@@ -42,9 +42,9 @@ use Rattle.demand.specs.Run.{State, start, Call, request, receive, recov
 use Rattle.demand.specs.Demand.{Committed, Unrefused, Lasting, Demand}
 use Rattle.demand.proofs.Saved.{Kept}
 use Rattle.demand.proofs.Records.{at-range}
-use Rattle.demand.proofs.Handing.{sound-judged}
+use Rattle.demand.proofs.Handing.{sound-judged, left}
 use Rattle.demand.proofs.Steps.{gate-is}
-use Rattle.demand.proofs.Bridge.{Tie, Next, begin, bridge}
+use Rattle.demand.proofs.Bridge.{Tie, Next, begin, in-memory, bridge}
 
 module _ (n s : ℕ) (setup : Setup n s) where
   -- the rules' run beside a moment x and a later one y
@@ -124,9 +124,8 @@ module _ (n s : ℕ) (setup : Setup n s) where
   unfolding handed handedOpen
   hand-fine c t k list = rw (sound-judged n s c t k) (other 0 refl)
 
-  unrefused : (x : State) (c r : ℕ) → Kept n s c (x .copies c .saved) → ((a : ℕ) → Other a → a ≡ r → ⊥) → Unrefused n s x c r
-  unrefused x c r k h =
-      let t : List ℕ = x .copies c .saved in
+  unrefused : (c : ℕ) (t : List ℕ) (r : ℕ) → Kept n s c t → ((a : ℕ) → Other a → a ≡ r → ⊥) → Unrefused n s c t r
+  unrefused c t r k h =
       record {
         event = λ out call. h _ (open-fine c t out k call .is);
         question = λ o j. h _ (question-fine c t k o j);
@@ -155,8 +154,11 @@ module _ (n s : ℕ) (setup : Setup n s) where
       (λ e. by-cond Agrees (not (validBytes n s c b)) (λ f. ten 3 refl)
       (λ f. by-cond Agrees (refused10 (recordIn s v (m .owner) (m .number)) m) (λ g. tf _ g (same (not-false _ f))) (λ g. ten 0 refl))))
 
-  kept-at : (x : State) → Run n s (start n s) x → (c : ℕ) → c < n → Kept n s c (x .copies c .saved)
-  kept-at x r c l = atX x x r stay .tie .copies c .kept l
+  -- the table in memory is sound, also while marks are still to be saved
+  lent-kept : (x : State) → Run n s (start n s) x → (c : ℕ) → c < n → Kept n s c (x .copies c .lent)
+  lent-kept x r c l =
+      let b = atX x x r stay .tie .copies c in
+      rw (b .pending .table) (left (b .pending .room) n s c (x .copies c .saved) (b .kept l) .kept)
 
 -- demand 3
 module _ (n s : ℕ) (setup : Setup n s) where
@@ -175,9 +177,12 @@ module _ (n s : ℕ) (setup : Setup n s) where
         let q = atY n s setup x y rx ry in
         let (l, e) = D .lasting .marks (p .later) (q .later) (p .run) (q .run) a in
         (l, sym (q .tie .copies a .marks) ∙ e ∙ ap (λ (m : List Instance). m ++ l) (p .tie .copies a .marks));
-    never-10 = λ x r c l out b i. let p = atX n s setup x x r stay in sent-agrees n s setup x (p .later) (p .tie) (p .run) c l out b i;
-    never-1 = λ x r c l. unrefused n s setup x c 1 (kept-at n s setup x r c l) (λ a o e. o .0 e);
-    never-11 = λ x r c l. unrefused n s setup x c 11 (kept-at n s setup x r c l) (λ a o e. o .1 e);
+    never-10 = λ x r c l none out b i e.
+        let p = atX n s setup x x r stay in
+        let m = in-memory n s setup x (p .later) (p .tie) c l none in
+        sent-agrees n s setup x (p .later) (p .tie) (p .run) c l out b i (rw m at e);
+    never-1 = λ x r c l. unrefused n s setup c (x .copies c .lent) 1 (lent-kept n s setup x r c l) (λ a o e. o .0 e);
+    never-11 = λ x r c l. unrefused n s setup c (x .copies c .lent) 11 (lent-kept n s setup x r c l) (λ a o e. o .1 e);
   }
 
   pub demand-3 : Demand n s

@@ -3,7 +3,7 @@ use Prim.Native.Nat.{ℕ, _<_}
 use mathlib.Core.Path.{_≡_}
 use mathlib.Core.Logic.{_⊎_}
 use mathlib.Core.Bool.{true}
-use mathlib.Core.List.{List, _++_, List·Memᴰ}
+use mathlib.Core.List.{List, [], _++_, List·Memᴰ}
 use Rattle.paper.specs.Instance.{instanceOk}
 use Rattle.paper.specs.Command.{isNoop, interfere}
 use Rattle.paper.specs.Deps.{covers}
@@ -47,22 +47,22 @@ module _ (n s : ℕ) where
       → Committed y c o j k d → Committed y e p i l f → interfere k l ≡ true → Before (o, j) (p, i) (x .copies a .marks)
       → List·Memᴰ (o, j) (y .copies b .marks) → List·Memᴰ (p, i) (y .copies b .marks) → Before (o, j) (p, i) (y .copies b .marks)
 
-  -- what a call on copy c's saved table, with any arguments, is never refused: r is 1 or 11
-  pub record Unrefused (x : State) (c : ℕ) (r : ℕ) : Type 0 where
-    pub event : (out : List ℕ) (call : Call) → answerNumber (outcome n s c (x .copies c .saved) out call .answer) ≡ r → ⊥
-    pub question : (o j : ℕ) → settlingNumber (settled n s c (x .copies c .saved) o j) ≡ r → ⊥
-    pub handOut : (list : List ℕ) → handingNumber (handed n s c (x .copies c .saved) list .answer) ≡ r → ⊥
+  -- no call of copy c on the table t, whatever its arguments, is refused r
+  pub record Unrefused (c : ℕ) (t : List ℕ) (r : ℕ) : Type 0 where
+    pub event : (out : List ℕ) (call : Call) → answerNumber (outcome n s c t out call .answer) ≡ r → ⊥
+    pub question : (o j : ℕ) → settlingNumber (settled n s c t o j) ≡ r → ⊥
+    pub handOut : (list : List ℕ) → handingNumber (handed n s c t list .answer) ≡ r → ⊥
 
-  -- 5: a commit stays as it is, and marks only grow at the end; nothing sent is ever refused 10, and no call 1 or 11
+  -- 5: a commit stays as it is, and marks only grow at the end; nothing that was sent is refused 10, and no call 1 or 11
   pub record Lasting : Type 0 where
     pub commit : (x y : State) → Run n s (start n s) x → Run n s x y → (a o j : ℕ) (k : Command) (d : List ℕ)
         → Committed x a o j k d → Committed y a o j k d
     pub marks : (x y : State) → Run n s (start n s) x → Run n s x y → (a : ℕ)
         → (l : List Instance) × (y .copies a .marks ≡ x .copies a .marks ++ l)
-    pub never-10 : (x : State) → Run n s (start n s) x → (c : ℕ) → c < n → (out b : List ℕ) → List·Memᴰ b (x .sent)
-        → answerNumber (outcome n s c (x .copies c .saved) out (receive b) .answer) ≡ 10 → ⊥
-    pub never-1 : (x : State) → Run n s (start n s) x → (c : ℕ) → c < n → Unrefused x c 1
-    pub never-11 : (x : State) → Run n s (start n s) x → (c : ℕ) → c < n → Unrefused x c 11
+    pub never-10 : (x : State) → Run n s (start n s) x → (c : ℕ) → c < n → x .copies c .listed ≡ []
+        → (out b : List ℕ) → List·Memᴰ b (x .sent) → answerNumber (outcome n s c (x .copies c .lent) out (receive b) .answer) ≡ 10 → ⊥
+    pub never-1 : (x : State) → Run n s (start n s) x → (c : ℕ) → c < n → Unrefused c (x .copies c .lent) 1
+    pub never-11 : (x : State) → Run n s (start n s) x → (c : ℕ) → c < n → Unrefused c (x .copies c .lent) 11
 
   -- demand 3
   pub record Demand : Type 0 where
