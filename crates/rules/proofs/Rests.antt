@@ -1,6 +1,6 @@
 -- What each part of demand 3 rests on, one law for each: a wrong rule breaks the law that its part needs. Assumes nothing.
 use Prim.Native.Nat.{ℕ, zero, suc, _+_, _*_, _-_, _≤_, _<_}
-use mathlib.Core.Path.{_≡_, refl, sym, _∙_}
+use mathlib.Core.Path.{_≡_, refl, ap}
 use mathlib.Core.Bool.{Bool, true, false, _&&_, _||_, not, cond}
 use mathlib.Core.Logic.{⊎-elim}
 use mathlib.Core.List.{List}
@@ -45,16 +45,29 @@ by-cond : {A : Type 0} (P : A → Type 0) (b : Bool) {x y : A} → (b ≡ true �
 by-cond P true f g = f refl
 by-cond P false f g = g refl
 
+both : (a b : Bool) → a ≡ true → b ≡ true → (a && b) ≡ true
+both a b e f = rw (e, f)
+
+-- a contradiction of two constructors
+tf : {A : Type 0} (b : Bool) → b ≡ true → b ≡ false → A
+tf b p q = let z : _≡_ {A = ℕ} 0 1 = cc in absurd (omega arith)
+
 -- 1: no instance is committed with two commands or two dependency lists
 module _ (c o j : ℕ) (r : Record) (m : Message) where
   -- the record is left as it is
   abbrev Same : Step → Type 0
   Same x = x .entry ≡ r
 
+  -- what is sent tells the record's vote
+  abbrev Tells : Step → Type 0
+  Tells x = voteIn (x .message) ≡ r .vote
+
   -- a PrepareOK tells the vote that is held
   pub told-vote : isCommitted r ≡ false → ltb (m .ballot) (r .joined) ≡ false → eqb (r .vote .voted) (m .ballot) ≡ false → voteIn (prepare c o j r m .message) ≡ r .vote
   unfolding prepare
-  told-vote p q e = rw (p, q, e)
+  told-vote p q e =
+      by-cond Tells (isCommitted r) (λ f. tf _ f p)
+      (λ f. by-cond Tells (ltb (m .ballot) (r .joined)) (λ g. tf _ g q) (λ g. by-cond Tells (eqb (r .vote .voted) (m .ballot)) (λ h. tf _ h e) (λ h. refl)))
 
   -- no ballot below the joined one gets a vote or a promise
   pub no-vote-below : ltb (m .ballot) (r .joined) ≡ true → (k : Command) (d : List ℕ) → Same (preAccept c o j r m k d) × (Same (accept c o j r m k) × Same (prepare c o j r m))
@@ -123,25 +136,21 @@ highest-above (suc k) f i a b h = go (f (suc k)) refl (λ l. highest-above k f i
   where
     go : (x : Bool) → f (suc k) ≡ x → (i ≤ k → i ≤ highest k f) → i ≤ cond x (suc k) (highest k f)
     go true e more = b
-    go false e more =
-        ⊎-elim (λ (z : i ≡ suc k). let y : true ≡ false = sym h ∙ rw z e in absurd (apart y)) (λ (z : i < suc k). more (omega arith)) (eq-or-lt-of-le b)
-      where
-        apart : true ≡ false → ⊥
-        apart y = let z : _≡_ {A = ℕ} 0 1 = cc in omega arith
+    go false e more = ⊎-elim (λ (z : i ≡ suc k). tf (f i) h (rw z e)) (λ (z : i < suc k). more (omega arith)) (eq-or-lt-of-le b)
 
 -- Seen covers every record with a vote for a command that interferes
 pub seen-covers : (n s : ℕ) (t : Records) (o j : ℕ) (k : Command) (p i : ℕ) → p < n → 1 ≤ i → i ≤ s → (eqb p o && eqb i j) ≡ false → leb 1 (t p i .vote .status) ≡ true
     → interfere k (t p i .vote .command) ≡ true → i ≤ seenEntry n s t o j k p
 unfolding seenEntry met
-seen-covers n s t o j k p i lp a b ne st it = rw (lt-ltb p n lp) (highest-above s (met t o j k p) i a b (rw (ne, st, it)))
+seen-covers n s t o j k p i lp a b ne st it = rw (lt-ltb p n lp) (highest-above s (met t o j k p) i a b (both _ _ (both _ _ (ap not ne) st) it))
 
 join-above : (k : ℕ) (d e : List ℕ) (i q : ℕ) → q < k → (getD d (i + q) 0 ≤ getD (joinFrom k d e i) q 0) × (getD e (i + q) 0 ≤ getD (joinFrom k d e i) q 0)
 unfolding joinFrom
 join-above zero d e i q h = absurd (omega arith)
-join-above (suc k) d e i zero h = let z : i + 0 ≡ i = omega arith in rw z (both (getD d i 0) (getD e i 0))
+join-above (suc k) d e i zero h = let z : i + 0 ≡ i = omega arith in rw z (wide (getD d i 0) (getD e i 0))
   where
-    both : (a b : ℕ) → (a ≤ larger a b) × (b ≤ larger a b)
-    both a b = by-cond (λ (x : ℕ). (a ≤ x) × (b ≤ x)) (ltb a b) (λ l. (omega (arith, ltb-true a b l), omega arith)) (λ l. (omega arith, ltb-false a b l))
+    wide : (a b : ℕ) → (a ≤ larger a b) × (b ≤ larger a b)
+    wide a b = by-cond (λ (x : ℕ). (a ≤ x) × (b ≤ x)) (ltb a b) (λ l. (omega (arith, ltb-true a b l), omega arith)) (λ l. (omega arith, ltb-false a b l))
 join-above (suc k) d e i (suc q) h = let z : i + suc q ≡ i + 1 + q = omega arith in rw z (join-above k d e (i + 1) q (omega arith))
 
 -- a first vote for a PreAccept holds its dependencies and Seen
@@ -197,4 +206,4 @@ module _ (n c o j : ℕ) (r : Record) (h : isCommitted r ≡ true) where
   -- and a Commit that differs is refused
   pub differing-refused : (m : Message) (k : Command) → (sameCommand k (r .vote .command) && sameDeps (m .deps) (r .vote .deps)) ≡ false → differs r m k ≡ true
   unfolding differs
-  differing-refused m k e = rw (h, e)
+  differing-refused m k e = both _ _ h (ap not e)
