@@ -9,3 +9,4 @@ pub mod Bridge
 pub mod Demand
 pub mod Back
 pub mod Witness
+pub mod Commits

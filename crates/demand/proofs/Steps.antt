@@ -24,16 +24,15 @@ use Rattle.rules.specs.declared.Step.{Step}
 use Rattle.rules.specs.Seen.{Records}
 use Rattle.rules.specs.Step.{isCommitted}
 use Rattle.rules.specs.Received.{refused10}
-use Rattle.rules.specs.Request.{isBlank, lowestBlank}
 use Rattle.rules.specs.Recover.{outOfBallots}
 use Rattle.rules.specs.Nudge.{nothingToNudge}
 use Rattle.rules.specs.Events.{put, requestNumber, onRequest, onMessage, onRecover, onNudge, messages}
+use Rattle.rules.proofs.Rests.{blank-above}
 use Rattle.wire.specs.Wire.{messageAt, validBytes, framed, opFits}
 use Rattle.table.specs.Table.{fits, recordIn}
 use Rattle.seen.specs.Records.{recordsIn}
 use Rattle.closed.specs.Fits.{CommandFits}
 use Rattle.closed.specs.Held.{Closed}
-use Rattle.closed.proofs.Laws.{by-cond}
 use Rattle.closed.proofs.Heard.{valid-instance}
 use Rattle.closed.proofs.Closed.{request-event, message-event, recover-event, nudge-event}
 use Rattle.log.specs.declared.Gate.the-variants.{Open, Shut}
@@ -108,12 +107,7 @@ pub record Stepped (n s c : ℕ) (t out : List ℕ) (call : Call) (y : rules.Sta
   pub long : 256 ≤ length out
   pub move : (l : List Message) → rules.Among l (messages (stepIn n s c (y .tables c) call)) → rules.Move n s y (moved n s y c call l)
 
--- a request takes a number of the owner's
-above : (k j : ℕ) (row : ℕ → Record) → j ≤ lowestBlank k j row
-unfolding lowestBlank
-above zero j row = omega arith
-above (suc k) j row = by-cond (λ (x : ℕ). j ≤ x) (isBlank (row j)) (λ e. omega arith) (λ e. omega (arith, above k (j + 1) row))
-
+-- a request's op is a read or a write
 op-asked : (op : ℕ) → (eqb op 1 || eqb op 2) ≡ true → (key edit : ℕ) → isNoop (record { op = opOf op; key = key; edit = edit }) ≡ false
 op-asked zero e key edit = sym e
 op-asked (suc zero) e key edit = refl
@@ -142,7 +136,7 @@ module _ (n s c : ℕ) (t out : List ℕ) (k : Kept n s c t) (copy : c < n) (y :
       let same : onRequest n s c (y .tables c) v ≡ x = ap (λ (u : Records). onRequest n s c u v) at ∙ sym (request-alike n s (recordsIn s t) (records n s t) (alike n s t) c copy v) in
       record {
         is = a .is ∙ b .is ∙ d .is ∙ ap₂ (λ (i : ℕ) (z : Step). acted s t out c i z) (sym num) (sym same);
-        range = rw num (in-range n s c j copy (above s 1 (recordsIn s t c)) small);
+        range = rw num (in-range n s c j copy (blank-above s 1 (recordsIn s t c)) small);
         closed = rw same (request-event n s c setup (recordsIn s t) (held n s c t k) v (rw noop) f noop small);
         long = ltb-false (length out) 256 (a .test);
         move = λ l am. rules.request c v l copy noop (rw num small) am;

@@ -27,7 +27,7 @@ pub record Reached (n s : ℕ) (P : State → Type 0) : Type 0 where
   pub run : Run n s (start n s) state
   pub holds : P state
 
-three-one : Setup 3 1
+pub three-one : Setup 3 1
 three-one = record { copies = refl; numbers = refl }
 
 fit : (l : List Asked) → fitting l ≡ true → Fitting 3 1 three-one l

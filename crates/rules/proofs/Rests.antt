@@ -104,7 +104,12 @@ pub top-voted : (r : Record) (q : ℕ) → topVoter r q ≡ true → toldBy r q 
 top-voted r q h = eqb-true _ _ (and-true (voter r q) (eqb (toldBy r q .voted) (topVoted r)) h .1)
 
 -- 2: a committed command was requested or is a no-op
-blank-found : (k j : ℕ) (row : ℕ → Record) → lowestBlank k j row < j + k → isBlank (row (lowestBlank k j row)) ≡ true
+pub blank-above : (k j : ℕ) (row : ℕ → Record) → j ≤ lowestBlank k j row
+unfolding lowestBlank
+blank-above zero j row = omega arith
+blank-above (suc k) j row = by-cond (λ (x : ℕ). j ≤ x) (isBlank (row j)) (λ e. omega arith) (λ e. omega (arith, blank-above k (j + 1) row))
+
+pub blank-found : (k j : ℕ) (row : ℕ → Record) → lowestBlank k j row < j + k → isBlank (row (lowestBlank k j row)) ≡ true
 unfolding lowestBlank
 blank-found zero j row h = absurd (omega arith)
 blank-found (suc k) j row h = go (isBlank (row j)) refl h (λ l. blank-found k (j + 1) row l)
@@ -129,7 +134,7 @@ unfolding afreshCommand
 recovered-command r = refl
 
 -- 3: of two interfering committed commands at least one covers the other
-highest-above : (k : ℕ) (f : ℕ → Bool) (i : ℕ) → 1 ≤ i → i ≤ k → f i ≡ true → i ≤ highest k f
+pub highest-above : (k : ℕ) (f : ℕ → Bool) (i : ℕ) → 1 ≤ i → i ≤ k → f i ≡ true → i ≤ highest k f
 unfolding highest
 highest-above zero f i a b h = absurd (omega arith)
 highest-above (suc k) f i a b h = go (f (suc k)) refl (λ l. highest-above k f i a l h)
@@ -144,7 +149,7 @@ pub seen-covers : (n s : ℕ) (t : Records) (o j : ℕ) (k : Command) (p i : ℕ
 unfolding seenEntry met
 seen-covers n s t o j k p i lp a b ne st it = rw (lt-ltb p n lp) (highest-above s (met t o j k p) i a b (both _ _ (both _ _ (ap not ne) st) it))
 
-join-above : (k : ℕ) (d e : List ℕ) (i q : ℕ) → q < k → (getD d (i + q) 0 ≤ getD (joinFrom k d e i) q 0) × (getD e (i + q) 0 ≤ getD (joinFrom k d e i) q 0)
+pub join-above : (k : ℕ) (d e : List ℕ) (i q : ℕ) → q < k → (getD d (i + q) 0 ≤ getD (joinFrom k d e i) q 0) × (getD e (i + q) 0 ≤ getD (joinFrom k d e i) q 0)
 unfolding joinFrom
 join-above zero d e i q h = absurd (omega arith)
 join-above (suc k) d e i zero h = let z : i + 0 ≡ i = omega arith in rw z (wide (getD d i 0) (getD e i 0))
