@@ -1,5 +1,5 @@
--- The demand over bytes is not empty: runs from blank tables whose calls commit fast, slowly and by recovery, and hand out. The
--- moves are the calls' own outcomes, so a log that never commits does not meet their contracts. Assumes nothing.
+-- The demand over bytes is not empty: runs from blank tables that commit fast, slowly and by recovery, and hand out.
+-- Assumes nothing.
 use Prim.Native.Nat.{ℕ, _^_}
 use mathlib.Core.Path.{_≡_, refl, sym, _∙_}
 use mathlib.Core.Logic.{⊎-elim}
