@@ -1,15 +1,17 @@
--- A test of all seven places is the conjunction of seven tests; what status 0 asks. Assumes nothing.
-use mathlib.Core.Path.{_≡_, _∙_}
-use mathlib.Core.Bool.{Bool, true, _&&_}
-use Prim.Native.Nat.{ℕ}
+-- A test of all seven places is the conjunction of seven tests; what status 0 asks; a ballot and a vote, test by
+-- test. Assumes nothing.
+use mathlib.Core.Path.{_≡_, sym, _∙_}
+use mathlib.Core.Bool.{Bool, true, false, _&&_}
+use Prim.Native.Nat.{ℕ, _%_}
 use mathlib.Core.List.{List, [], _∷_}
-use lib.Dec.{eqb}
+use lib.Dec.{leb, ltb, eqb}
 use lib.ListN.{getD}
 use borrow.Author.Tests.{eq-eqb, ne-eqb}
-use Rattle.paper.specs.Command.{isNoop}
-use Rattle.paper.specs.Deps.{larger, joinFrom, join, noDeps, sameDeps}
+use Rattle.paper.specs.Ballot.{ballotOk}
+use Rattle.paper.specs.Command.{isNoop, commandOk}
+use Rattle.paper.specs.Deps.{larger, joinFrom, join, noDeps, sameDeps, depsOk}
 use Rattle.paper.specs.Logic.{allBelow}
-use Rattle.paper.specs.Vote.{noneIsBlank}
+use Rattle.paper.specs.Vote.{noneIsBlank, votedOk, statusOk, voteOk}
 use Rattle.paper.specs.declared.Vote.{Vote}
 
 pub seven : (f : ℕ → Bool) {r a b c d e g h : Bool} → r ≡ (h && (g && (e && (d && (c && (b && (a && true))))))) → a ≡ f 0 → b ≡ f 1 → c ≡ f 2
@@ -32,3 +34,32 @@ some-status v h = rw (ne-eqb (v .status) 0 h)
 pub no-status : (v : Vote) {x : Bool} → v .status ≡ 0 → x ≡ (eqb (v .voted) 0 && isNoop (v .command) && sameDeps (v .deps) noDeps) → x ≡ noneIsBlank v
 unfolding noneIsBlank
 no-status v h e = e ∙ rw (eq-eqb (v .status) 0 h)
+
+-- ballot 0, and the others
+pub ballot-0 : (n b : ℕ) {x : ℕ} → x ≡ b → x ≡ 0 → true ≡ ballotOk n b
+unfolding ballotOk
+ballot-0 n b ex e = rw (eq-eqb b 0 (sym ex ∙ e))
+
+pub ballot-other : (n b : ℕ) {x : ℕ} {r : Bool} → x ≡ b → (x ≡ 0 → ⊥) → r ≡ (leb 8 x && ltb (x % 8) n) → r ≡ ballotOk n b
+unfolding ballotOk
+ballot-other n b ex h e = e ∙ rw (ex, ne-eqb b 0 (λ z. h (ex ∙ z)))
+
+-- a vote, test by test
+module _ (n s k : ℕ) (v : Vote) where
+  pub vote-ballot : votedOk n v ≡ false → false ≡ voteOk n s k v
+  unfolding voteOk
+  vote-ballot e = rw e
+
+  pub vote-command : votedOk n v ≡ true → (statusOk k v && commandOk (v .command)) ≡ false → false ≡ voteOk n s k v
+  unfolding voteOk
+  vote-command e f = rw e (go (statusOk k v) (commandOk (v .command)) (depsOk n s (v .deps)) f)
+    where
+      go : (a b c : Bool) → (a && b) ≡ false → false ≡ (a && b && c)
+      go a b c g = rw g
+
+  pub vote-deps : {r : Bool} → votedOk n v ≡ true → (statusOk k v && commandOk (v .command)) ≡ true → r ≡ depsOk n s (v .deps) → r ≡ voteOk n s k v
+  unfolding voteOk
+  vote-deps e f g = g ∙ rw e (go (statusOk k v) (commandOk (v .command)) (depsOk n s (v .deps)) f)
+    where
+      go : (a b c : Bool) → (a && b) ≡ true → c ≡ (a && b && c)
+      go a b c h = rw h

@@ -67,13 +67,14 @@ pub fn none_is_blank(v: Vote) -> bool
 pub fn vote_ok(n: usize, s: usize, k: usize, v: Vote) -> bool
     ensures { λ r. ⌜ r ≡ voteOk n s k v ⌝ }
 {
+    if !ballot_ok(n, v.voted) {
+        return false;
+    }
+    if !both(at_most(wide8(v.status), k), command_ok(v.command)) {
+        return false;
+    }
     let deps = v.deps;
-    let voted = ballot_ok(n, v.voted);
-    let status = at_most(wide8(v.status), k);
-    both(
-        both(both(voted, status), command_ok(v.command)),
-        deps_ok(n, s, deps),
-    )
+    deps_ok(n, s, deps)
 }
 
 pub fn told_ok(n: usize, s: usize, b: u32, v: Vote) -> bool
