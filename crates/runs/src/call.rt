@@ -1,4 +1,5 @@
 // A call at a copy, by its name.
+use crate::asked;
 use crate::event;
 use crate::event::put_watched;
 use crate::tables::poke;
@@ -24,6 +25,12 @@ fn call(line: &[u8], at: usize, w: Told, t: &mut [u8], room: &mut [u8], out: &mu
     }
     if word_is(line, at, b"nudge") {
         return event::nudge(line, next, w, t, room, out);
+    }
+    if word_is(line, at, b"settled") {
+        return asked::settled(line, next, w, &*t, out);
+    }
+    if word_is(line, at, b"handout") {
+        return asked::hand_out(line, next, w, t, out);
     }
     bad_line(out)
 }

@@ -32,7 +32,7 @@ fn put_answer(out: &mut [u8], answer: Answer, room: &[u8]) -> usize {
     }
 }
 
-fn put_no(out: &mut [u8], why: Refusal) -> usize {
+pub fn put_no(out: &mut [u8], why: Refusal) -> usize {
     let at = put_bytes(&mut *out, 0, b"=");
     put_refused(&mut *out, at, why)
 }

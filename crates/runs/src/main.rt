@@ -1,6 +1,7 @@
 // Plays recorded runs of several copies from standard input and writes an answer line for each call.
 // `run N S` blanks copies 0 to N-1. Then a line is a call at copy C:
 //     C request OP KEY EDIT      C message BYTES      C recover OWNER NUMBER      C nudge OWNER NUMBER
+//     C settled OWNER NUMBER     C handout ROOM
 // Further lines, with no answer, say how the calls that follow are made, until the next `run`:
 //     as N S C       with this setup and copy number, whatever the table's own are
 //     length L       with the first L bytes of the copy's table
@@ -8,6 +9,7 @@
 //     watch          each answer ends with a checksum of the table and one of the room, after the call
 //     C poke AT BYTES     sets bytes of copy C's table
 // Empty lines and lines that begin with '=' are passed over.
+mod asked;
 mod call;
 mod event;
 mod input;

@@ -5,6 +5,7 @@ use crate::told::Told;
 use crate::told::is_way;
 use crate::told::run;
 use crate::told::way;
+use text::bytes::fill;
 use text::put::say_bad;
 use text::words::number;
 use text::words::size;
@@ -16,6 +17,7 @@ fn play_run(line: &[u8], w: Told, all: &mut [u8], out: &mut [u8]) -> Told {
         say_bad(out);
         return w;
     }
+    fill(&mut *all, 0);
     blank_all(all, told);
     told
 }

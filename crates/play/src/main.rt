@@ -1,0 +1,13 @@
+// Plays a script of several copies from standard input and writes what happens. The crate `script` has its words.
+// A line that cannot be played gets its number and a reason, and the run stops there.
+mod ask;
+mod deliver;
+mod input;
+mod show;
+mod step;
+mod turn;
+mod work;
+
+fn main() {
+    input::play_input();
+}

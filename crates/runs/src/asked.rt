@@ -1,0 +1,100 @@
+// The settled question and the hand-out.
+use crate::event::put_no;
+use crate::told::Told;
+use nouns::command::op_number;
+use nouns::logic::both;
+use order::Handing;
+use order::Settling;
+use paper::Command;
+use text::put::bad_line;
+use text::put::from16;
+use text::put::from32;
+use text::put::put_byte;
+use text::put::put_bytes;
+use text::put::put_decimal;
+use text::put::put_number;
+use text::put::put_size;
+use text::words::number;
+use text::words::numbers;
+use text::words::size;
+
+fn put_settled(out: &mut [u8], k: Command) -> usize {
+    let op = k.op;
+    let told = put_bytes(&mut *out, 0, b"= settled");
+    let done = put_size(&mut *out, told, op_number(op));
+    let key = put_number(&mut *out, done, from32(k.key));
+    put_number(&mut *out, key, k.edit)
+}
+
+fn put_waits(out: &mut [u8], o: usize, j: usize) -> usize {
+    let told = put_bytes(&mut *out, 0, b"= waits");
+    let owner = put_size(&mut *out, told, o);
+    put_size(&mut *out, owner, j)
+}
+
+fn put_settling(out: &mut [u8], answer: Settling) -> usize {
+    match answer {
+        Settling::Settled(k) => put_settled(out, k),
+        Settling::Waits { owner, number } => put_waits(out, owner, number),
+        Settling::Refused(why) => put_no(out, why),
+    }
+}
+
+// C settled OWNER NUMBER
+pub fn settled(line: &[u8], at: usize, w: Told, t: &[u8], out: &mut [u8]) -> usize {
+    let mut v = [0u64; 2];
+    let got = numbers(line, at, &mut v);
+    if !both(got.good, line.len() <= got.next) {
+        return bad_line(out);
+    }
+    let answer = order::settled::settled(t, w.n, w.s, w.c, size(v[0]), size(v[1]));
+    put_settling(out, answer)
+}
+
+fn put_code(out: &mut [u8], at: usize, i: usize, code: u16) -> usize {
+    if i == 0 {
+        return put_decimal(out, at, from16(code));
+    }
+    let next = put_byte(&mut *out, at, b' ');
+    put_decimal(&mut *out, next, from16(code))
+}
+
+// The first k codes of the list, all of it where k is more.
+fn put_codes(out: &mut [u8], list: &[u16], k: usize) -> usize {
+    let mut next = put_bytes(&mut *out, 0, b"= codes ");
+    let mut i = 0;
+    while i < list.len() {
+        if k <= i {
+            break;
+        }
+        next = put_code(&mut *out, next, i, list[i]);
+        i += 1;
+    }
+    next
+}
+
+fn put_handing(out: &mut [u8], answer: Handing, list: &[u16]) -> usize {
+    match answer {
+        Handing::Codes(k) => put_codes(out, list, k),
+        Handing::Refused(why) => put_no(out, why),
+    }
+}
+
+fn hand_out_in(w: Told, t: &mut [u8], list: &mut [u16], out: &mut [u8]) -> usize {
+    let answer = order::hand_out::hand_out(t, w.n, w.s, w.c, &mut *list);
+    put_handing(out, answer, &*list)
+}
+
+// C handout ROOM
+pub fn hand_out(line: &[u8], at: usize, w: Told, t: &mut [u8], out: &mut [u8]) -> usize {
+    let mut list = [0u16; 448];
+    let room = number(line, at);
+    let k = size(room.value);
+    if !both(room.good, line.len() <= room.next) {
+        return bad_line(out);
+    }
+    if 448 < k {
+        return bad_line(out);
+    }
+    hand_out_in(w, t, &mut list[..k], out)
+}

@@ -1,0 +1,100 @@
+// A message by its name and fields.
+use crate::held::put_status;
+use crate::value::put_deps;
+use crate::value::put_proposal;
+use forms::put_form;
+use nouns::logic::wide8;
+use nouns::message::kind_of;
+use paper::Body;
+use paper::Command;
+use paper::Message;
+use text::put::from16;
+use text::put::from32;
+use text::put::put_bytes;
+use text::put::wide;
+use wire::Reading;
+
+fn put_name(out: &mut [u8], at: usize, kind: usize) -> usize {
+    match kind {
+        1 => put_bytes(out, at, b"PreAccept"),
+        2 => put_bytes(out, at, b"PreAcceptOK"),
+        3 => put_bytes(out, at, b"Accept"),
+        4 => put_bytes(out, at, b"AcceptOK"),
+        5 => put_bytes(out, at, b"Commit"),
+        6 => put_bytes(out, at, b"Prepare"),
+        7 => put_bytes(out, at, b"PrepareOK"),
+        _ => put_bytes(out, at, b"Nack"),
+    }
+}
+
+fn put_vote(
+    out: &mut [u8],
+    at: usize,
+    n: usize,
+    voted: u32,
+    status: u8,
+    k: Command,
+    deps: [u16; 7],
+) -> usize {
+    let v = [from32(voted), 0, 0, 0];
+    let ballot = put_form(&mut *out, at, b": voted #, ", v);
+    let told = put_status(&mut *out, ballot, status);
+    if status == 0 {
+        return told;
+    }
+    let comma = put_bytes(&mut *out, told, b", ");
+    put_proposal(&mut *out, comma, n, k, deps)
+}
+
+fn put_carried(out: &mut [u8], at: usize, n: usize, k: Command, deps: [u16; 7]) -> usize {
+    let colon = put_bytes(&mut *out, at, b": ");
+    put_proposal(&mut *out, colon, n, k, deps)
+}
+
+fn put_answered(out: &mut [u8], at: usize, n: usize, deps: [u16; 7]) -> usize {
+    let colon = put_bytes(&mut *out, at, b": ");
+    put_deps(&mut *out, colon, n, deps)
+}
+
+fn put_joined(out: &mut [u8], at: usize, joined: u32) -> usize {
+    let v = [from32(joined), 0, 0, 0];
+    put_form(out, at, b": joined #", v)
+}
+
+// What only some kinds carry.
+fn put_body(out: &mut [u8], at: usize, n: usize, body: Body, deps: [u16; 7]) -> usize {
+    match body {
+        Body::PreAccept(k) => put_carried(out, at, n, k, deps),
+        Body::PreAcceptOk => put_answered(out, at, n, deps),
+        Body::Accept(k) => put_carried(out, at, n, k, deps),
+        Body::AcceptOk => at,
+        Body::Commit(k) => put_carried(out, at, n, k, deps),
+        Body::Prepare => at,
+        Body::PrepareOk {
+            voted,
+            status,
+            command,
+        } => put_vote(out, at, n, voted, status, command, deps),
+        Body::Nack(joined) => put_joined(out, at, joined),
+    }
+}
+
+fn put_fields(out: &mut [u8], at: usize, n: usize, m: Message) -> usize {
+    let body = m.body;
+    let deps = m.deps;
+    let name = put_name(&mut *out, at, wide8(kind_of(body)));
+    let owner = wide(wide8(m.owner));
+    let v = [owner, from16(m.number), from32(m.ballot), 0];
+    let front = put_form(&mut *out, name, b" #.# ballot #", v);
+    put_body(&mut *out, front, n, body, deps)
+}
+
+// The message in these bytes, as copy c reads it.
+pub fn put_message(out: &mut [u8], at: usize, n: usize, s: usize, c: usize, b: &[u8]) -> usize {
+    let got = wire::read_message(n, s, c, b);
+    let answer = got.answer;
+    match answer {
+        Reading::Refused(_) => put_bytes(out, at, b"not a message"),
+        Reading::Valid => put_fields(out, at, n, got.message),
+    }
+}

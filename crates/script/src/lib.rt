@@ -1,0 +1,75 @@
+// The words of a script. A line is one step:
+//     copies 3, numbers 4                       begins a run of three blank copies with four numbers each
+//     copy 0 requests write key 7 edit 100      or: requests read key 7
+//     deliver 0 to 1 · drop 0 to 1 · repeat 0 to 1      the oldest message on the way from 0 to 1
+//     deliver all                               until nothing is on the way
+//     cut copy 0 before saving                  its next step, that is; or: before sending, after 1 mark
+//     stop copy 0 · restart copy 0
+//     copy 2 recovers 0.1 · copy 0 nudges 0.1
+//     copy 1 is asked about 0.1 · copy 1 hands out · copy 1 hands out up to 2
+//     show · show copy 1
+// A line that begins with # is the story's text.
+pub mod at_copy;
+pub mod line;
+
+// An event at a copy; a message's bytes stand beside it.
+pub enum Event {
+    Request { op: usize, key: u32, edit: u64 },
+    Message,
+    Recover { o: usize, j: usize },
+    Nudge { o: usize, j: usize },
+}
+
+// What a copy is told to do.
+pub enum Act {
+    Event(Event),
+    Ask { o: usize, j: usize },
+    HandOut(usize),
+}
+
+// What becomes of a message.
+pub enum Fate {
+    Deliver,
+    Drop,
+    Repeat,
+}
+
+// When a copy is cut off: at once, or in its next step.
+pub enum Moment {
+    Now,
+    Saving,
+    Sending,
+    Marks(usize),
+}
+
+// Why a step is not taken.
+pub enum Reason {
+    Word,
+    Copies,
+    Copy,
+    Way,
+    Cut,
+    Restart,
+    Show,
+    NoRun,
+    Setup,
+    NoCopy,
+    IsDown,
+    IsUp,
+    NoMessage,
+    WayFull,
+    Restless,
+}
+
+pub enum Step {
+    Text,
+    Copies { n: usize, s: usize },
+    At(usize, Act),
+    Way { from: usize, to: usize, fate: Fate },
+    All,
+    Cut(usize, Moment),
+    Restart(usize),
+    Show,
+    ShowCopy(usize),
+    Bad(Reason),
+}

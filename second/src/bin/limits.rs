@@ -1,0 +1,317 @@
+//! Prints runs whose calls have bad arguments or bad tables, each call followed
+//! by the answer that this library gives, for the proved program `runs` to
+//! play. Answers end with checksums of the table and of the room after the call.
+
+use second::{
+    blank_table, hand_out, message, nudge, recover, request, settled, table_len, Event, Settled,
+};
+use std::fmt::Write;
+
+/// Lent room before a call, to see what the call leaves alone.
+const UNTOUCHED: u8 = 0xee;
+const LAST_ROUND: u32 = u32::MAX - 7;
+
+/// How calls are made, and the table of copy 0, at which all of them are.
+struct Run {
+    text: String,
+    table: Vec<u8>,
+    n: usize,
+    s: usize,
+    copy: usize,
+    length: usize,
+    room: usize,
+}
+
+impl Run {
+    fn new() -> Run {
+        let table = vec![0; table_len(7, 64)];
+        Run { text: String::new(), table, n: 0, s: 0, copy: 0, length: 0, room: 256 }
+    }
+
+    fn begin(&mut self, n: usize, s: usize) {
+        self.say(format!("run {n} {s}\nwatch"));
+        (self.n, self.s, self.copy, self.room) = (n, s, 0, 256);
+        self.length = table_len(n, s);
+        self.table.fill(0);
+        blank_table(&mut self.table[..self.length], n, s, 0).expect("a good setup");
+    }
+
+    fn say(&mut self, line: String) {
+        writeln!(self.text, "{line}").unwrap();
+    }
+
+    fn name(&mut self, n: usize, s: usize, copy: usize) {
+        self.say(format!("as {n} {s} {copy}"));
+        (self.n, self.s, self.copy) = (n, s, copy);
+    }
+
+    fn lend(&mut self, length: usize) {
+        self.say(format!("length {length}"));
+        self.length = length;
+    }
+
+    fn give(&mut self, room: usize) {
+        self.say(format!("room {room}"));
+        self.room = room;
+    }
+
+    fn poke(&mut self, at: usize, bytes: &[u8]) {
+        self.say(format!("0 poke {at} {}", to_hex(bytes)));
+        self.table[at..at + bytes.len()].copy_from_slice(bytes);
+    }
+
+    /// Bytes in the record of 0.1.
+    fn poke_record(&mut self, at: usize, bytes: &[u8]) {
+        self.poke(3 + at, bytes);
+    }
+
+    fn answer(&mut self, call: String, told: String, room: &[u8]) {
+        let sums = format!("{} {}", checksum(&self.table[..self.length]), checksum(room));
+        self.say(format!("0 {call}\n= {told} {sums}"));
+    }
+
+    fn event(
+        &mut self,
+        call: String,
+        make: impl FnOnce(&mut [u8], usize, usize, usize, &mut [u8]) -> Result<Event, u8>,
+    ) {
+        let mut room = vec![UNTOUCHED; self.room];
+        let t = &mut self.table[..self.length];
+        let told = match make(t, self.n, self.s, self.copy, &mut room) {
+            Ok(Event { owner, number, written }) => {
+                format!("event {owner} {number} {}", to_hex(&room[..written]))
+            }
+            Err(r) => format!("refused {r}"),
+        };
+        self.answer(call, told, &room);
+    }
+
+    /// An op that is no byte is no read or write either.
+    fn request(&mut self, op: usize, key: u32, edit: u64) {
+        self.event(format!("request {op} {key} {edit}"), |t, n, s, c, room| {
+            request(t, n, s, c, room, u8::try_from(op).unwrap_or(u8::MAX), key, edit)
+        });
+    }
+
+    fn message(&mut self, bytes: &[u8]) {
+        self.event(format!("message {}", to_hex(bytes)), |t, n, s, c, room| {
+            message(t, n, s, c, room, bytes)
+        });
+    }
+
+    fn recover(&mut self, o: usize, j: usize) {
+        self.event(format!("recover {o} {j}"), |t, n, s, c, room| recover(t, n, s, c, room, o, j));
+    }
+
+    fn nudge(&mut self, o: usize, j: usize) {
+        self.event(format!("nudge {o} {j}"), |t, n, s, c, room| nudge(t, n, s, c, room, o, j));
+    }
+
+    fn settled(&mut self, o: usize, j: usize) {
+        let told = match settled(&self.table[..self.length], self.n, self.s, self.copy, o, j) {
+            Ok(Settled::Command { op, key, edit }) => format!("settled {op} {key} {edit}"),
+            Ok(Settled::Waits { owner, number }) => format!("waits {owner} {number}"),
+            Err(r) => format!("refused {r}"),
+        };
+        let room = vec![UNTOUCHED; self.room];
+        self.answer(format!("settled {o} {j}"), told, &room);
+    }
+
+    fn hand_out(&mut self, places: usize) {
+        let mut list = vec![0u16; places];
+        let t = &mut self.table[..self.length];
+        let told = match hand_out(t, self.n, self.s, self.copy, &mut list) {
+            Ok(count) => {
+                let codes: Vec<String> = list[..count].iter().map(u16::to_string).collect();
+                format!("codes {}", codes.join(" "))
+            }
+            Err(r) => format!("refused {r}"),
+        };
+        let room = vec![UNTOUCHED; self.room];
+        self.answer(format!("handout {places}"), told, &room);
+    }
+
+    /// Every call once, with good arguments.
+    fn every_call(&mut self) {
+        self.request(2, 7, 100);
+        self.message(&accept_ok(0, 1));
+        self.recover(0, 1);
+        self.nudge(0, 1);
+        self.settled(0, 1);
+        self.hand_out(4);
+    }
+}
+
+/// An AcceptOK from copy 1 to copy 0 at ballot 0.
+fn accept_ok(o: u8, j: u8) -> [u8; 10] {
+    [4, 1, 0, o, j, 0, 0, 0, 0, 0]
+}
+
+/// A Commit from copy 1 to copy 0 of a write, with these dependencies.
+fn commit(o: u8, j: u8, edit: u8, deps: [u8; 3]) -> Vec<u8> {
+    let mut bytes = vec![5, 1, 0, o, j, 0, 0, 0, 0, 0, 2, 7, 0, 0, 0, edit];
+    bytes.resize(23, 0);
+    for d in deps {
+        bytes.extend([d, 0]);
+    }
+    bytes.resize(37, 0);
+    bytes
+}
+
+fn to_hex(bytes: &[u8]) -> String {
+    if bytes.is_empty() {
+        return "-".into();
+    }
+    bytes.iter().map(|b| format!("{b:02x}")).collect()
+}
+
+fn checksum(bytes: &[u8]) -> u64 {
+    bytes.iter().fold(0u64, |h, &b| h.wrapping_mul(31).wrapping_add(b as u64))
+}
+
+fn setups(run: &mut Run, n: usize, s: usize) {
+    for wrong in [0, 1, 2, 4, 6, 8, 9, 256 + n] {
+        run.name(wrong, s, 0);
+        run.every_call();
+    }
+    for wrong in [0, s + 1, 65, 256 + s] {
+        run.name(n, wrong, 0);
+        run.every_call();
+    }
+    for wrong in [1, n, 7, 8, 256] {
+        run.name(n, s, wrong);
+        run.every_call();
+    }
+}
+
+fn lengths(run: &mut Run, n: usize, s: usize) {
+    for wrong in [0, 3, table_len(n, s) - 1, table_len(n, s) + 1] {
+        if wrong <= run.table.len() {
+            run.lend(wrong);
+            run.every_call();
+        }
+    }
+}
+
+fn rooms(run: &mut Run) {
+    for room in [0, 1, 255, 256, 257, 300] {
+        run.give(room);
+        run.every_call();
+        run.request(3, 7, 100);
+        run.message(&[]);
+    }
+}
+
+fn arguments(run: &mut Run, n: usize, s: usize) {
+    for op in [0, 1, 2, 3, 255, 256, 257, 258] {
+        run.request(op, u32::MAX, u64::MAX);
+    }
+    for (o, j) in [(0, 0), (n, 1), (0, s + 1), (256, 1), (0, 256 + 1), (n - 1, s), (0, 1)] {
+        run.settled(o, j);
+        run.nudge(o, j);
+        run.recover(o, j);
+    }
+    run.message(&[]);
+    run.message(&accept_ok(0, 0));
+    run.message(&accept_ok(n as u8, 1));
+    run.message(&accept_ok(0, s as u8 + 1));
+}
+
+/// Requests until no blank record is left.
+fn full(run: &mut Run, s: usize) {
+    for edit in 0..=s as u64 {
+        run.request(2, 7, edit);
+    }
+}
+
+fn ballots(run: &mut Run, n: usize, s: usize) {
+    let last = LAST_ROUND;
+    for joined in [0, 8, last - 8, last - 1, last, last + n as u32 - 1, last + 7] {
+        run.begin(n, s);
+        run.poke_record(0, &joined.to_le_bytes());
+        run.recover(0, 1);
+        run.nudge(0, 1);
+    }
+}
+
+fn lists(run: &mut Run) {
+    run.message(&commit(1, 1, 9, [0, 0, 0]));
+    run.message(&commit(1, 1, 9, [0, 0, 0]));
+    run.message(&commit(1, 1, 8, [0, 0, 0]));
+    run.message(&commit(0, 1, 9, [0, 1, 0]));
+    run.settled(0, 1);
+    run.recover(0, 1);
+    run.nudge(0, 1);
+    for places in [0, 1, 1, 1, 448] {
+        run.hand_out(places);
+    }
+}
+
+/// One damage for each clause of soundness, on a blank table or on one with a request in 0.1.
+const DAMAGES: [(bool, usize, &[u8]); 28] = [
+    (false, 0, &[7]),
+    (false, 0, &[0, 0, 0, 0, 1]),
+    (false, 4, &[8, 0, 0, 0]),
+    (false, 8, &[1]),
+    (false, 8, &[5]),
+    (false, 9, &[1]),
+    (false, 9, &[3]),
+    (false, 10, &[1]),
+    (false, 14, &[1]),
+    (false, 22, &[1]),
+    (false, 34, &[1]),
+    (false, 36, &[1]),
+    (false, 36, &[2]),
+    (false, 37, &[1]),
+    (false, 37, &[2]),
+    (false, 37, &[3]),
+    (false, 37, &[4]),
+    (false, 38, &[2]),
+    (false, 39, &[1]),
+    (false, 262, &[1]),
+    (true, 4, &[8]),
+    (true, 8, &[3]),
+    (true, 8, &[4]),
+    (true, 9, &[0, 0, 0, 0, 0, 0, 0, 0, 0, 0, 0, 0, 0]),
+    (true, 22, &[255, 255]),
+    (true, 38, &[1]),
+    (true, 38, &[2, 1]),
+    (true, 38, &[255]),
+];
+
+fn unsound(run: &mut Run, n: usize, s: usize) {
+    for (requested, at, bytes) in DAMAGES {
+        run.begin(n, s);
+        if requested {
+            run.request(2, 7, 100);
+        }
+        run.poke_record(at, bytes);
+        run.every_call();
+    }
+    for at in 0..3 {
+        run.begin(n, s);
+        run.poke(at, &[200]);
+        run.every_call();
+    }
+}
+
+fn main() {
+    let mut run = Run::new();
+    for (n, s) in [(3, 1), (3, 4), (5, 2), (7, 3), (7, 64)] {
+        run.begin(n, s);
+        setups(&mut run, n, s);
+        run.begin(n, s);
+        lengths(&mut run, n, s);
+        run.begin(n, s);
+        rooms(&mut run);
+        run.begin(n, s);
+        arguments(&mut run, n, s);
+        run.begin(n, s);
+        full(&mut run, s);
+        ballots(&mut run, n, s);
+        run.begin(n, s);
+        lists(&mut run);
+        unsound(&mut run, n, s);
+    }
+    print!("{}", run.text);
+}
