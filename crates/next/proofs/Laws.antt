@@ -1,20 +1,20 @@
 -- How far an instance has come, step by step. Assumes nothing.
-use Prim.Native.Nat.{ℕ, zero, suc, _+_, _*_, _-_, _/_, _%_, _≤_, _<_}
+use Prim.Native.Nat.{ℕ, _+_, _*_, _/_, _%_, _≤_, _<_}
 use mathlib.Core.Path.{_≡_, refl, sym, ap, _∙_}
-use mathlib.Core.Logic.{_⊎_, inl, inr, ⊎-elim}
-use mathlib.Core.Bool.{Bool, true, false, _&&_, _||_, not}
+use mathlib.Core.Logic.{⊎-elim}
+use mathlib.Core.Bool.{Bool, true, false, _||_, not}
 use mathlib.Core.List.{List}
 use native.Mathlib.Omega.{arith}
 use native.Mathlib.Nat.{eq-or-lt-of-le}
 use native.Mathlib.Decide.{decLt, ℕ-discrete}
 use lib.Dec.{leb, eqb}
-use lib.ListN.{length, getD, set, take, drop, length-set}
+use lib.ListN.{getD, set, drop, length-set}
 use lib.Seq.{getD-take, getD-drop, getD-set-same, getD-set-other}
 use Rattle.rules.specs.Order.{everywhere}
 use Rattle.reach.specs.High.{Inst}
-use Rattle.reach.proofs.Tests.{tf, bool, eqb-same, eqb-false, leb-le, leb-in, not-true}
+use Rattle.reach.proofs.Tests.{tf, eqb-same, eqb-false, leb-le, leb-in, not-true}
 use Rattle.reach.proofs.Instances.{every-at, every-in}
-use Rattle.next.specs.Slots.{slotOf, rowOf, markIn, lets, readyIn, Lists, Pair, Upto, Advancing, Advanced, Going, Asking}
+use Rattle.next.specs.Slots.{slotOf, markIn, lets, readyIn, Lists, Pair, Upto, Advancing, Advanced, Going, Asking}
 
 pub mark-read : (h : List ℕ) (x o : ℕ) → o < 7 → {y : ℕ} → y ≡ getD h (7 * x + o) 0 → y ≡ markIn h x o
 mark-read h x o l e = e ∙ sym (getD-take 7 (drop (7 * x) h) o 0 l ∙ getD-drop (7 * x) h o 0)

@@ -1,8 +1,6 @@
 use crate::logic::at_most;
 use crate::logic::below;
 use crate::logic::both;
-use crate::logic::either;
-use crate::logic::equal;
 use crate::logic::wide32;
 ghost use mathlib.Core.Path.{_≡_};
 ghost use Rattle.paper.specs.Ballot.{ballotOk, lead};
@@ -11,7 +9,10 @@ pub fn ballot_ok(n: usize, b: u32) -> bool
     ensures { λ r. ⌜ r ≡ ballotOk n b ⌝ }
 {
     let x = wide32(b);
-    either(equal(x, 0), both(at_most(8, x), below(x % 8, n)))
+    if x == 0 {
+        return true;
+    }
+    both(at_most(8, x), below(x % 8, n))
 }
 
 pub fn lead_of(o: usize, b: u32) -> usize

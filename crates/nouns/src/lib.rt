@@ -4,5 +4,6 @@ pub mod command;
 pub mod deps;
 pub mod logic;
 pub mod message;
+pub mod refusal;
 pub mod setup;
 pub mod vote;

@@ -9,7 +9,6 @@ use crate::logic::at_most;
 use crate::logic::below;
 use crate::logic::both;
 use crate::logic::equal;
-use crate::logic::implied;
 use crate::logic::wide8;
 use crate::logic::wide32;
 use paper::Command;
@@ -57,22 +56,25 @@ pub fn same_vote(v: Vote, w: Vote) -> bool
 pub fn none_is_blank(v: Vote) -> bool
     ensures { λ r. ⌜ r ≡ noneIsBlank v ⌝ }
 {
+    if v.status != 0 {
+        return true;
+    }
     let deps = v.deps;
     let voted = equal(wide32(v.voted), 0);
-    let nothing = both(both(voted, is_noop(v.command)), same_deps(deps, no_deps()));
-    implied(equal(wide8(v.status), 0), nothing)
+    both(both(voted, is_noop(v.command)), same_deps(deps, no_deps()))
 }
 
 pub fn vote_ok(n: usize, s: usize, k: usize, v: Vote) -> bool
     ensures { λ r. ⌜ r ≡ voteOk n s k v ⌝ }
 {
+    if !ballot_ok(n, v.voted) {
+        return false;
+    }
+    if !both(at_most(wide8(v.status), k), command_ok(v.command)) {
+        return false;
+    }
     let deps = v.deps;
-    let voted = ballot_ok(n, v.voted);
-    let status = at_most(wide8(v.status), k);
-    both(
-        both(both(voted, status), command_ok(v.command)),
-        deps_ok(n, s, deps),
-    )
+    deps_ok(n, s, deps)
 }
 
 pub fn told_ok(n: usize, s: usize, b: u32, v: Vote) -> bool

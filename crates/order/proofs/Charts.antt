@@ -1,13 +1,12 @@
 -- What every instance reaches and its state, as they are worked out place by place. Assumes nothing.
-use Prim.Native.Nat.{ℕ, zero, suc, _+_, _*_, _-_, _/_, _%_, _≤_, _<_}
+use Prim.Native.Nat.{ℕ, _+_, _*_, _-_, _/_, _%_, _≤_, _<_}
 use mathlib.Core.Path.{_≡_, refl, sym, ap, _∙_}
-use mathlib.Core.Logic.{_⊎_, inl, inr, ⊎-elim}
-use mathlib.Core.Bool.{Bool, true, false, _&&_, not}
+use mathlib.Core.Logic.{⊎-elim}
+use mathlib.Core.Bool.{Bool, true, false, _&&_}
 use mathlib.Core.List.{List, []}
 use native.Mathlib.Omega.{arith}
 use native.Mathlib.Nat.{add-sub-cancel-left, eq-or-lt-of-le}
-use native.Mathlib.Decide.{decLt, ℕ-discrete}
-use lib.Dec.{eqb}
+use native.Mathlib.Decide.{decLt}
 use lib.ListN.{length, getD, set, take, drop, length-set, length-take, length-drop, drop-of-length-le}
 use lib.Seq.{getD-set-same, getD-set-other}
 use borrow.Rule.Slice.PartMut.{putMid}
@@ -15,7 +14,6 @@ use Rattle.num.specs.Num.{numAt, splice}
 use Rattle.num.proofs.Laws.{splice-same, splice-before, splice-after, length-splice}
 use Rattle.record.specs.Layout.{recordAt}
 use Rattle.table.specs.Place.{placeOf, partAt}
-use Rattle.table.specs.Sizes.{Names}
 use Rattle.table.proofs.Laws.{put-splice}
 use Rattle.rules.specs.declared.First.the-variants.{At, Nowhere}
 use Rattle.rules.specs.Seen.{Records}
@@ -26,7 +24,7 @@ use Rattle.reach.proofs.High.{explored-highs}
 use Rattle.reach.proofs.First.{nowhere-every, at-every}
 use Rattle.search.specs.Searching.{Searching, Searched}
 use Rattle.next.specs.Slots.{slotOf, rowOf, markIn}
-use Rattle.order.specs.Chart.{Sized, Charting, Row, Charted, State, Stated, Asking, Stating}
+use Rattle.order.specs.Chart.{Sized, Charting, Row, Charted, State, Stated, Asking}
 
 -- the lent part is the row
 row-part : (h : List ℕ) (at : ℕ) → take (at + 7 - at) (drop at h) ≡ take 7 (drop at h)

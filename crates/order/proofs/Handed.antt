@@ -1,7 +1,6 @@
 -- What a hand-out starts from, and its outcomes, one law each. Assumes nothing.
-use Prim.Native.Nat.{ℕ, zero, suc, _+_, _*_, _-_, _≤_, _<_}
-use mathlib.Core.Path.{_≡_, refl, sym, ap, _∙_}
-use mathlib.Core.Bool.{true}
+use Prim.Native.Nat.{ℕ, zero, suc, _+_, _*_, _<_}
+use mathlib.Core.Path.{_≡_, refl, ap, _∙_}
 use mathlib.Core.List.{List, [], _∷_}
 use native.Mathlib.Omega.{arith}
 use lib.ListN.{length, getD, take, drop, replicate, length-replicate, length-take, length-drop}
@@ -21,7 +20,7 @@ use Rattle.table.proofs.Laws.{sizes, place-end}
 use Rattle.table.proofs.Round.{sound-at, part-bytes}
 use Rattle.seen.specs.Records.{recordsIn}
 use Rattle.reach.specs.High.{Inst}
-use Rattle.next.specs.Slots.{slotOf, markIn, Upto, Going}
+use Rattle.next.specs.Slots.{slotOf, markIn, Upto}
 use Rattle.order.specs.Passed.{Passed}
 use Rattle.order.specs.Chart.{Sized, Charting, Charted, Stating, Stated, Listing}
 use Rattle.order.specs.Calls.{handedTable, handedCodes, handedOpen, handed}

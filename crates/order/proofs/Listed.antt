@@ -1,27 +1,27 @@
 -- The list and the table of a hand-out, place by place. Assumes nothing.
-use Prim.Native.Nat.{ℕ, zero, suc, _+_, _*_, _-_, _≤_, _<_}
+use Prim.Native.Nat.{ℕ, zero, suc, _+_, _-_, _≤_, _<_}
 use mathlib.Core.Path.{_≡_, refl, sym, ap, _∙_}
-use mathlib.Core.Logic.{_⊎_, inl, inr, ⊎-elim}
-use mathlib.Core.Bool.{Bool, true, false, _&&_, _||_, not}
-use mathlib.Core.List.{List, [], _∷_, _++_, append-assoc, append-nil}
+use mathlib.Core.Logic.{⊎-elim}
+use mathlib.Core.Bool.{Bool, true, false, _&&_, not}
+use mathlib.Core.List.{List, [], _∷_, _++_, append-nil}
 use native.Mathlib.Omega.{arith}
 use native.Mathlib.Numerals.{add-one}
 use lib.Dec.{leb, eqb}
-use lib.ListN.{length, getD, set, take, drop, length-set, take-append-drop}
+use lib.ListN.{length, set, take, drop, length-set, take-append-drop}
 use lib.Seq.{take-suc-set, drop-set-lt, length-take-le, drop-drop, append-snoc}
 use Rattle.num.specs.Num.{splice}
 use Rattle.paper.specs.Logic.{implies}
 use Rattle.rules.specs.declared.First.the-variants.{At, Nowhere}
 use Rattle.rules.specs.Seen.{Records}
-use Rattle.rules.specs.Order.{everywhere, reaches, isSettled, isMarked, candidate, mark, nextOut, codeOf, handOut}
+use Rattle.rules.specs.Order.{reaches, isMarked, candidate, mark, nextOut, codeOf, handOut}
 use Rattle.seen.specs.Records.{recordsIn}
-use Rattle.reach.specs.High.{Inst, itself, Highs}
+use Rattle.reach.specs.High.{Inst, itself}
 use Rattle.reach.proofs.Tests.{tf, bool, and-l, and-r, and-in, eqb-eq, eqb-same, not-true}
 use Rattle.reach.proofs.First.{first-same, every-same, first-passes}
 use Rattle.reach.proofs.Same.{handOut-same}
 use Rattle.next.specs.Slots.{slotOf, markIn as markAt, lets, readyIn, nextIn, Going}
 use Rattle.order.specs.Calls.{markIn, handedTable, handedCodes}
-use Rattle.order.specs.Chart.{Row, Charted, State, Stated, Listing}
+use Rattle.order.specs.Chart.{Charted, Stated, Listing}
 use Rattle.order.proofs.Marked.{alike, listing-on}
 
 -- the lists' next one out is the rules'

@@ -1,8 +1,7 @@
 -- The table and the lists after one instance is marked. Assumes nothing.
-use Prim.Native.Nat.{ℕ, zero, suc, _+_, _*_, _-_, _≤_, _<_}
+use Prim.Native.Nat.{ℕ, _<_}
 use mathlib.Core.Path.{_≡_, refl, sym, ap, _∙_}
-use mathlib.Core.Logic.{_⊎_, inl, inr, ⊎-elim}
-use mathlib.Core.Bool.{Bool, true, false, _&&_, _||_, not, cond}
+use mathlib.Core.Bool.{Bool, true, false, _&&_, not}
 use mathlib.Core.List.{List}
 use native.Mathlib.Omega.{arith}
 use native.Mathlib.Decide.{ℕ-discrete}
@@ -13,24 +12,22 @@ use Rattle.num.specs.Num.{splice}
 use Rattle.num.proofs.Laws.{splice-same}
 use Rattle.codec.specs.Parts.{voteAt, voteBytes}
 use Rattle.paper.specs.Logic.{implies}
-use Rattle.paper.specs.declared.Vote.{Vote}
 use Rattle.paper.specs.declared.Record.{Record}
 use Rattle.record.specs.Layout.{votesAt, recordAt, frontBytes, recordBytes}
-use Rattle.table.specs.Place.{tableLength, placeOf, partAt}
+use Rattle.table.specs.Place.{placeOf, partAt}
 use Rattle.table.specs.Sizes.{Names}
-use Rattle.table.specs.Table.{recordIn, putRecord}
+use Rattle.table.specs.Table.{recordIn}
 use Rattle.table.proofs.Laws.{place-end}
 use Rattle.table.proofs.Round.{length-recordBytes, put-long, get-put-other}
-use Rattle.rules.specs.Seen.{Records}
 use Rattle.rules.specs.Events.{put}
-use Rattle.rules.specs.Order.{isMarked, marked, mark, reaches, isSettled}
+use Rattle.rules.specs.Order.{isMarked, marked, mark, isSettled}
 use Rattle.seen.specs.Records.{recordsIn}
-use Rattle.reach.specs.High.{Inst, Highs}
+use Rattle.reach.specs.High.{Inst}
 use Rattle.reach.proofs.Tests.{and-l, and-r, eqb-eq, eqb-same, not-true}
 use Rattle.reach.proofs.Same.{reaches-same, settled-same}
-use Rattle.next.specs.Slots.{slotOf, markIn as markAt, lets, Lists, Upto, Going}
+use Rattle.next.specs.Slots.{slotOf, markIn as markAt, lets, Going}
 use Rattle.order.specs.Calls.{markIn}
-use Rattle.order.specs.Chart.{Row, Charted, State, Stated, Listing}
+use Rattle.order.specs.Chart.{Charted, State, Listing}
 
 pub mark-written : (s : ℕ) (t : List ℕ) (o j : ℕ) {at : ℕ} {r : Record} {t₁ : List ℕ} → at ≡ placeOf s o j → r ≡ recordAt (partAt t at)
     → t₁ ≡ splice t at (recordBytes (marked r)) → t₁ ≡ markIn s t o j

@@ -1,14 +1,11 @@
 -- What a judged table gives the search. Assumes nothing.
-use Prim.Native.Nat.{ℕ, zero, suc, _≤_, _<_}
-use mathlib.Core.Path.{_≡_, refl, sym, ap, _∙_}
-use mathlib.Core.Bool.{Bool, true, false, _&&_, not, cond}
+use Prim.Native.Nat.{ℕ, _≤_, _<_}
+use mathlib.Core.Path.{_≡_, refl, _∙_}
+use mathlib.Core.Bool.{Bool, true, false, _&&_}
 use mathlib.Core.List.{List}
 use native.Mathlib.Omega.{arith}
-use lib.Dec.{leb, ltb}
 use lib.ListN.{getD, length}
 use borrow.Author.Tests.{leb-true, lt-ltb}
-use Rattle.paper.specs.Logic.{allBelow}
-use Rattle.paper.specs.Instance.{instanceOk}
 use Rattle.paper.specs.Deps.{entryLimit, entryOk, depsOk}
 use Rattle.paper.specs.Vote.{votedOk, statusOk, voteOk}
 use Rattle.paper.specs.Command.{commandOk}
@@ -22,13 +19,11 @@ use Rattle.table.specs.Place.{tableLength, placeOf, partAt}
 use Rattle.table.specs.Sizes.{Names}
 use Rattle.table.specs.Table.{fits, soundTable, recordIn}
 use Rattle.table.specs.Calls.{judged}
-use Rattle.table.specs.declared.Judging.{Judging}
 use Rattle.table.specs.declared.Judging.the-variants as judging
-use Rattle.table.proofs.Laws.{sizes, names}
+use Rattle.table.proofs.Laws.{sizes}
 use Rattle.table.proofs.Round.{sound-at}
 use Rattle.seen.specs.Records.{recordsIn}
-use Rattle.reach.specs.High.{Inst, entryOf, Fit}
-use Rattle.search.specs.Searching.{Searching, Searched}
+use Rattle.reach.specs.High.{Inst, Fit}
 use Rattle.order.specs.Passed.{Passed}
 
 -- a sound record's entries name instances, or none

@@ -1,8 +1,8 @@
 -- What a hand-out works out once, and what each of its parts rests on. Assumes nothing.
 -- n, s: the setup; t: the table's bytes; u: the records; h, st, up: the lists of `next`.
-use Prim.Native.Nat.{ℕ, _+_, _*_, _≤_, _<_}
+use Prim.Native.Nat.{ℕ, _≤_, _<_}
 use mathlib.Core.Path.{_≡_}
-use mathlib.Core.Bool.{Bool, _&&_, not}
+use mathlib.Core.Bool.{_&&_, not}
 use mathlib.Core.List.{List}
 use lib.Dec.{eqb}
 use lib.ListN.{length, getD}

@@ -1,21 +1,21 @@
 -- A search by high-water marks finds what is reached, and nothing else but where it starts. Assumes nothing.
 use Prim.Native.Nat.{ℕ, zero, suc, _+_, _-_, _*_, _≤_, _<_}
 use mathlib.Core.Path.{_≡_, refl, sym, ap, _∙_}
-use mathlib.Core.Logic.{_⊎_, inl, inr, ⊎-elim}
+use mathlib.Core.Logic.{inl, inr, ⊎-elim}
 use mathlib.Core.Bool.{Bool, true, false, _&&_, _||_, not}
-use mathlib.Core.List.{List, [], _∷_}
+use mathlib.Core.List.{List}
 use native.Mathlib.Omega.{arith}
 use native.Mathlib.Nat.{eq-or-lt-of-le}
 use native.Mathlib.Decide.{decLe, ℕ-discrete}
 use lib.Dec.{leb, eqb, ltb}
-use lib.ListN.{length, getD, set, length-set, List·getD-eq-default}
+use lib.ListN.{length, getD, set, length-set}
 use lib.Seq.{getD-set-same, getD-set-other}
 use Rattle.paper.specs.Instance.{instanceOk}
 use Rattle.paper.specs.Deps.{covers}
 use Rattle.rules.specs.Seen.{Records}
 use Rattle.rules.specs.Order.{coversIn, reachesIn, reaches}
 use Rattle.reach.specs.High.{Inst, entryOf, Fit, Few, Comes, Explored, itself, Highs}
-use Rattle.reach.proofs.Tests.{clash, tf, bool, not-not, and-l, and-r, and-in, eqb-eq, eqb-same, eqb-false, leb-le, leb-in, leb-gt, ltb-lt, ltb-in, not-true}
+use Rattle.reach.proofs.Tests.{tf, and-l, and-r, and-in, eqb-eq, eqb-same, leb-le, leb-in, leb-gt, ltb-lt, ltb-in, not-true}
 use Rattle.reach.proofs.Reach.{InRange, inrange, hop-of, reach-one, reach-on}
 
 -- how many instances are unvisited

@@ -1,20 +1,18 @@
 -- What is reached, settled and handed out goes by the records of the setup's instances alone; what is reached and settled, by
 -- their votes. Assumes nothing.
-use Prim.Native.Nat.{ℕ, zero, suc, _+_, _*_, _≤_, _<_}
-use mathlib.Core.Path.{_≡_, refl, sym, ap, ap₂, _∙_}
+use Prim.Native.Nat.{ℕ, zero, suc, _*_}
+use mathlib.Core.Path.{_≡_, refl, ap, ap₂}
 use mathlib.Core.Bool.{Bool, true, false, _&&_, _||_, not, cond}
 use mathlib.Core.List.{List, [], _∷_}
 use native.Mathlib.Omega.{arith}
 use lib.Dec.{eqb}
 use Rattle.paper.specs.Logic.{implies}
-use Rattle.paper.specs.Deps.{covers}
-use Rattle.paper.specs.declared.Vote.{Vote}
 use Rattle.paper.specs.declared.Record.{Record}
 use Rattle.rules.specs.declared.First.{First}
 use Rattle.rules.specs.declared.First.the-variants.{At, Nowhere}
 use Rattle.rules.specs.Seen.{Records}
 use Rattle.rules.specs.Events.{put}
-use Rattle.rules.specs.Order.{somewhere, everywhere, coversIn, reachesIn, reaches, waitsFor, isSettled, isMarked, candidate, marked, mark, nextOut, codeOf, found, handOut}
+use Rattle.rules.specs.Order.{somewhere, coversIn, reachesIn, reaches, waitsFor, isSettled, isMarked, candidate, marked, mark, nextOut, codeOf, found, handOut}
 use Rattle.reach.specs.High.{Inst}
 use Rattle.reach.proofs.Tests.{and-l, and-r, eqb-eq}
 use Rattle.reach.proofs.First.{first-same, every-same}

@@ -17,7 +17,7 @@ use Rattle.sound.specs.Front.{front}
 use Rattle.paper.specs.declared.Vote.{Vote}
 use Rattle.paper.specs.declared.Record.{Record}
 use Rattle.record.specs.Layout.{votesAt, votesBytes, frontBytes, recordAt}
-use Rattle.record.specs.Part.{opFits, replyPlace, opsFit, soundPart, frontOk, replyPart}
+use Rattle.record.specs.Part.{opFits, replyPlace, opsFit, soundPart, plainOk, busyPart, replyPart}
 
 pub length-voteBytes : (v : Vote) → length (voteBytes v) ≡ 32
 unfolding voteBytes
@@ -74,19 +74,21 @@ allBelow-both (suc k) f g = go (f k) (g k) (allBelow k f) (allBelow k g) (allBel
     go false b x y e = refl
 
 -- sound as the paper has it is sound as it is judged
-pub soundPart-is : (n s c o : ℕ) (b : List ℕ) → soundPart n s c o b ≡ (frontOk n s c o b && allBelow 7 (replyPart n s c b))
-unfolding soundPart frontOk replyPart opsFit soundRecord repliesOk
+pub soundPart-is : (n s c o : ℕ) (b : List ℕ) → soundPart n s c o b ≡ (plainOk n s b && busyPart n s c o b)
+unfolding soundPart plainOk busyPart replyPart opsFit soundRecord repliesOk
 soundPart-is n s c o b =
     let f : ℕ → Bool = λ q. opFits b (replyPlace q) in
     let g : ℕ → Bool = replyOk n s c (recordAt b) in
-    go (opFits b 4) (allBelow 7 f) (rangesOk n s (recordAt b) && votesOk (recordAt b) && phasesOk n c o (recordAt b)) (allBelow 7 g) (allBelow-both 7 f g)
+    go (opFits b 4) (allBelow 7 f) (rangesOk n s (recordAt b) && votesOk (recordAt b)) (phasesOk n c o (recordAt b)) (allBelow 7 g) (allBelow-both 7 f g)
   where
-    go : (a x y z : Bool) {w : Bool} → w ≡ (x && z) → (a && x && (y && z)) ≡ (a && y && w)
-    go true true true z e = sym e
-    go true true false z e = refl
-    go true false true z e = sym e
-    go true false false z e = refl
-    go false x y z e = refl
+    go : (a x y p z : Bool) {w : Bool} → w ≡ (x && z) → (a && x && (y && p && z)) ≡ (a && y && (p && w))
+    go true true true true z e = sym e
+    go true true true false z e = refl
+    go true true false p z e = refl
+    go true false true true z e = sym e
+    go true false true false z e = refl
+    go true false false p z e = refl
+    go false x y p z e = refl
 
 votesAt-at : (k : ℕ) (b : List ℕ) (at q : ℕ) (d : Vote) → q < k → getD (votesAt k b at) q d ≡ voteAt b (at + 32 * q)
 unfolding votesAt
@@ -115,30 +117,68 @@ module _ (n s c : ℕ) (b : List ℕ) (q : ℕ) (h : q < 7) where
   unfolding replyPart replyOk recordAt
   replyPart-out p m = rw (p, m, votesAt-place q b noVote h)
 
--- all but the replies, of the fields as they were read
-pub front-judged : (n s c o : ℕ) (b : List ℕ) {j : ℕ} {v : Vote} {m p t : ℕ} {a x y z u w r : Bool} → j ≡ numAt 4 b 0 → v ≡ voteAt b 4
-    → m ≡ numAt 1 b 36 → p ≡ numAt 1 b 37 → t ≡ numAt 1 b 38 → x ≡ rangesOk n s (front j v m p t) → y ≡ votesOk (front j v m 0 0)
-    → z ≡ phasesOk n c o (front j v 0 p t) → a ≡ opFits b 4 → u ≡ (x && y) → w ≡ (u && z) → r ≡ (a && w) → r ≡ frontOk n s c o b
-unfolding frontOk recordAt rangesOk votesOk phasesOk preparingOk proposingOk busyOk
-front-judged n s c o b ej ev em ep et ex ey ez ea eu ew er = rw (er, ew, eu, ea, ex, ey, ez, ej, ev, em, ep, et)
+-- of the fields as they were read
+module _ (b : List ℕ) {j : ℕ} {v : Vote} {p t : ℕ} (ej : j ≡ numAt 4 b 0) (ev : v ≡ voteAt b 4) (ep : p ≡ numAt 1 b 37) (et : t ≡ numAt 1 b 38) where
+  pub plain-op : (n s : ℕ) → opFits b 4 ≡ false → false ≡ plainOk n s b
+  unfolding plainOk
+  plain-op n s e = rw e
+
+  votes-judged : {m : ℕ} {y : Bool} → m ≡ numAt 1 b 36 → y ≡ votesOk (front j v m 0 0) → y ≡ votesOk (recordAt b)
+  unfolding recordAt votesOk
+  votes-judged em ey = rw (ey, ej, ev, em)
+
+  ranges-judged : (n s : ℕ) {m : ℕ} {x : Bool} → m ≡ numAt 1 b 36 → x ≡ rangesOk n s (front j v m p t) → x ≡ rangesOk n s (recordAt b)
+  unfolding recordAt rangesOk
+  ranges-judged n s em ex = rw (ex, ej, ev, em, ep, et)
+
+  pub plain-votes : (n s : ℕ) {m : ℕ} {y : Bool} → m ≡ numAt 1 b 36 → opFits b 4 ≡ true → y ≡ votesOk (front j v m 0 0) → y ≡ false → false ≡ plainOk n s b
+  unfolding plainOk
+  plain-votes n s em eo ey e = let q = sym (votes-judged em ey) ∙ e in rw (eo, q) (no (rangesOk n s (recordAt b)))
+    where
+      no : (a : Bool) → false ≡ (a && false)
+      no true = refl
+      no false = refl
+
+  pub plain-ranges : (n s : ℕ) {m : ℕ} {x y : Bool} → m ≡ numAt 1 b 36 → opFits b 4 ≡ true → y ≡ votesOk (front j v m 0 0) → y ≡ true
+      → x ≡ rangesOk n s (front j v m p t) → x ≡ plainOk n s b
+  unfolding plainOk
+  plain-ranges n s em eo ey e ex = let q = sym (votes-judged em ey) ∙ e in rw (eo, q) (ranges-judged n s em ex ∙ yes (rangesOk n s (recordAt b)))
+    where
+      yes : (a : Bool) → a ≡ (a && true)
+      yes true = refl
+      yes false = refl
+
+  pub phase-judged : (n c o : ℕ) {z : Bool} → z ≡ phasesOk n c o (front j v 0 p t) → z ≡ phasesOk n c o (recordAt b)
+  unfolding recordAt phasesOk preparingOk proposingOk busyOk
+  phase-judged n c o ez = rw (ez, ej, ev, ep, et)
 
 -- the rest of the replies is judged after those above
-pub record Judged (n s c o : ℕ) (b : List ℕ) (left : ℕ) : Type 0 where
-  pub so : soundPart n s c o b ≡ allBelow left (replyPart n s c b)
+pub record Judged (n s c : ℕ) (b : List ℕ) (left : ℕ) : Type 0 where
+  pub so : allBelow 7 (replyPart n s c b) ≡ allBelow left (replyPart n s c b)
   pub few : left ≤ 7
 
-module _ (n s c o : ℕ) (b : List ℕ) where
-  pub judged-front : frontOk n s c o b ≡ true → Judged n s c o b 7
-  judged-front p = record { so = soundPart-is n s c o b ∙ rw p; few = omega arith }
+module _ (n s c : ℕ) (b : List ℕ) where
+  pub judged-start : Judged n s c b 7
+  judged-start = record { so = refl; few = omega arith }
 
-  pub unsound-front : frontOk n s c o b ≡ false → false ≡ soundPart n s c o b
-  unsound-front p = sym (soundPart-is n s c o b ∙ rw p)
-
-  pub judged-next : (left : ℕ) → 0 < left → Judged n s c o b left → replyPart n s c b (left - 1) ≡ true → Judged n s c o b (left - 1)
+  pub judged-next : (left : ℕ) → 0 < left → Judged n s c b left → replyPart n s c b (left - 1) ≡ true → Judged n s c b (left - 1)
   judged-next left h j p = record { so = j .so ∙ allBelow-step left (replyPart n s c b) h ∙ rw p; few = omega (arith, j .few) }
 
-  pub unsound-reply : (left : ℕ) → 0 < left → Judged n s c o b left → replyPart n s c b (left - 1) ≡ false → false ≡ soundPart n s c o b
-  unsound-reply left h j p = sym (j .so ∙ allBelow-step left (replyPart n s c b) h ∙ rw p)
+  pub bad-reply : (left : ℕ) → 0 < left → Judged n s c b left → replyPart n s c b (left - 1) ≡ false → false ≡ allBelow 7 (replyPart n s c b)
+  bad-reply left h j p = sym (j .so ∙ allBelow-step left (replyPart n s c b) h ∙ rw p)
 
-  pub judged-all : (left : ℕ) → left ≡ 0 → Judged n s c o b left → true ≡ soundPart n s c o b
+  pub judged-all : (left : ℕ) → left ≡ 0 → Judged n s c b left → true ≡ allBelow 7 (replyPart n s c b)
   judged-all left e j = sym (j .so ∙ allBelow-none left (replyPart n s c b) e)
+
+-- the outcomes
+module _ (n s c o : ℕ) (b : List ℕ) where
+  pub unsound-plain : plainOk n s b ≡ false → false ≡ soundPart n s c o b
+  unsound-plain p = sym (soundPart-is n s c o b ∙ rw p)
+
+  pub unsound-phase : plainOk n s b ≡ true → phasesOk n c o (recordAt b) ≡ false → false ≡ soundPart n s c o b
+  unfolding busyPart
+  unsound-phase p q = sym (soundPart-is n s c o b ∙ rw (p, q))
+
+  pub sound-replies : plainOk n s b ≡ true → phasesOk n c o (recordAt b) ≡ true → allBelow 7 (replyPart n s c b) ≡ soundPart n s c o b
+  unfolding busyPart
+  sound-replies p q = sym (soundPart-is n s c o b ∙ rw (p, q))

@@ -1,6 +1,5 @@
 // One record in its 263 bytes: read, written and judged.
 use nouns::logic::at_most;
-use nouns::logic::both;
 use nouns::logic::wide8;
 use nouns::vote::is_member;
 use nouns::vote::no_vote;
@@ -15,8 +14,10 @@ ghost use mathlib.Core.Path.{_≡_};
 ghost use Prim.Native.Nat.{_+_, _*_, _≤_, _<_};
 ghost use lib.ListN.{length};
 ghost use Rattle.num.specs.Num.{splice};
+ghost use Rattle.paper.specs.Logic.{allBelow};
+ghost use Rattle.paper.specs.Sound.{phasesOk};
 ghost use Rattle.record.specs.Layout.{votesAt, votesBytes, recordAt, frontBytes, recordBytes};
-ghost use Rattle.record.specs.Part.{opFits, frontOk, replyPart, soundPart};
+ghost use Rattle.record.specs.Part.{opFits, plainOk, replyPart, isIdle, soundPart};
 
 fn read_votes(b: &[u8], at: usize) -> [Vote; 7]
     requires { ⌜ at + 224 ≤ length (now b) ⌝ }
@@ -97,20 +98,35 @@ fn op_ok(b: &[u8], at: usize) -> bool
     at_most(wide8(num::get_u8(b, at + 5)), 2)
 }
 
-// All but the replies.
-fn front_ok(b: &[u8], n: usize, s: usize, c: usize, o: usize) -> bool
-    requires { ⌜ (263 ≤ length (now b)) × (1 ≤ n) × (n ≤ 7) × (c < 8) ⌝ }
-    ensures { λ r. ⌜ r ≡ frontOk n s c o (now (b .entry)) ⌝ }
+// What holds in any phase.
+fn plain_ok(b: &[u8], n: usize, s: usize) -> bool
+    requires { ⌜ (263 ≤ length (now b)) × (n ≤ 7) ⌝ }
+    ensures { λ r. ⌜ r ≡ plainOk n s (now (b .entry)) ⌝ }
 {
     let joined = num::get_u32(b, 0);
     let v = codec::read_vote(b, 4);
     let mark = num::get_u8(b, 36);
     let phase = num::get_u8(b, 37);
     let set = num::get_u8(b, 38);
-    let ranges = ranges_ok(n, s, joined, v, mark, phase, set);
-    let votes = votes_ok(joined, v, mark);
-    let phases = phases_ok(n, c, o, joined, v, phase, set);
-    both(op_ok(b, 4), both(both(ranges, votes), phases))
+    if !op_ok(b, 4) {
+        return false;
+    }
+    if !votes_ok(joined, v, mark) {
+        return false;
+    }
+    ranges_ok(n, s, joined, v, mark, phase, set)
+}
+
+// What the phase asks.
+fn phase_ok(b: &[u8], n: usize, c: usize, o: usize) -> bool
+    requires { ⌜ (263 ≤ length (now b)) × (1 ≤ n) × (c < 8) ⌝ }
+    ensures { λ r. ⌜ r ≡ phasesOk n c o (recordAt (now (b .entry))) ⌝ }
+{
+    let joined = num::get_u32(b, 0);
+    let v = codec::read_vote(b, 4);
+    let phase = num::get_u8(b, 37);
+    let set = num::get_u8(b, 38);
+    phases_ok(n, c, o, joined, v, phase, set)
 }
 
 // The place of the reply of copy q.
@@ -133,14 +149,10 @@ fn reply_ok(b: &[u8], n: usize, s: usize, c: usize, q: usize) -> bool
     same_vote(v, no_vote())
 }
 
-// The record in these bytes is sound at copy c for an instance of owner o.
-pub fn sound_part(b: &[u8], n: usize, s: usize, c: usize, o: usize) -> bool
-    requires { ⌜ (263 ≤ length (now b)) × (1 ≤ n) × (n ≤ 7) × (c < 8) ⌝ }
-    ensures { λ r. ⌜ r ≡ soundPart n s c o (now (b .entry)) ⌝ }
+fn replies_ok(b: &[u8], n: usize, s: usize, c: usize) -> bool
+    requires { ⌜ 263 ≤ length (now b) ⌝ }
+    ensures { λ r. ⌜ r ≡ allBelow 7 (replyPart n s c (now (b .entry))) ⌝ }
 {
-    if !front_ok(b, n, s, c, o) {
-        return false;
-    }
     let mut left = 7;
     while 0 < left {
         left -= 1;
@@ -149,4 +161,35 @@ pub fn sound_part(b: &[u8], n: usize, s: usize, c: usize, o: usize) -> bool
         }
     }
     true
+}
+
+// Most records are in no phase and have nothing collected: then neither has to be looked at.
+fn is_idle(b: &[u8]) -> bool
+    requires { ⌜ 263 ≤ length (now b) ⌝ }
+    ensures { λ r. ⌜ r ≡ isIdle (now (b .entry)) ⌝ }
+{
+    let mut any = 0;
+    let mut i = 37;
+    while i < 263 {
+        any |= b[i];
+        i += 1;
+    }
+    any == 0
+}
+
+// The record in these bytes is sound at copy c for an instance of owner o.
+pub fn sound_part(b: &[u8], n: usize, s: usize, c: usize, o: usize) -> bool
+    requires { ⌜ (263 ≤ length (now b)) × (1 ≤ n) × (n ≤ 7) × (c < 8) ⌝ }
+    ensures { λ r. ⌜ r ≡ soundPart n s c o (now (b .entry)) ⌝ }
+{
+    if !plain_ok(b, n, s) {
+        return false;
+    }
+    if is_idle(b) {
+        return true;
+    }
+    if !phase_ok(b, n, c, o) {
+        return false;
+    }
+    replies_ok(b, n, s, c)
 }

@@ -1,7 +1,7 @@
 -- Lists of dependencies: the join is above both, and Seen counts each command that is met. Assumes nothing.
 use Prim.Native.Nat.{ℕ, zero, suc, _+_, _≤_, _<_}
 use mathlib.Core.Path.{_≡_, refl, sym, _∙_}
-use mathlib.Core.Bool.{Bool, true, false, cond}
+use mathlib.Core.Bool.{true}
 use mathlib.Core.List.{List, [], _∷_}
 use native.Mathlib.Omega.{arith}
 use lib.Dec.{eqb}
@@ -9,15 +9,15 @@ use lib.ListN.{getD, length}
 use lib.Seq.{ext-getD}
 use Rattle.paper.specs.Logic.{allBelow}
 use Rattle.paper.specs.Command.{sameCommand, opNumber}
-use Rattle.paper.specs.Deps.{noDeps, sameDeps, larger, joinFrom, join}
+use Rattle.paper.specs.Deps.{noDeps, sameDeps, joinFrom, join}
 use Rattle.paper.specs.Vote.{noVote}
 use Rattle.paper.specs.declared.Command.{Command}
 use Rattle.paper.specs.declared.Vote.{Vote}
-use Rattle.rules.specs.Sets.{highest}
 use Rattle.rules.specs.Accepting.{joinAll}
 use Rattle.rules.specs.Seen.{Records, met, seenEntry, seenFrom, seen}
-use Rattle.reach.proofs.Tests.{tf, and-in, eqb-eq, eqb-same, ltb-in}
-use Rattle.safety.proofs.Sets.{all-at, larger-l, larger-r}
+use Rattle.rules.proofs.Rests.{highest-above, join-above}
+use Rattle.reach.proofs.Tests.{and-in, eqb-eq, eqb-same, ltb-in}
+use Rattle.safety.proofs.Sets.{all-at}
 use Rattle.reach.proofs.Instances.{all-in}
 
 -- entry by entry at most
@@ -42,21 +42,15 @@ pub same-command-refl : (a b : Command) → a ≡ b → sameCommand a b ≡ true
 unfolding sameCommand
 same-command-refl a b q = rw q (and-in _ _ (and-in _ _ (eqb-same (opNumber (b .op)) (opNumber (b .op)) refl) (eqb-same (b .key) (b .key) refl)) (eqb-same (b .edit) (b .edit) refl))
 
-join-at : (k i p : ℕ) (d e : List ℕ) → p < k → getD (joinFrom k d e i) p 0 ≡ larger (getD d (i + p) 0) (getD e (i + p) 0)
-unfolding joinFrom
-join-at zero i p d e l = absurd (omega arith)
-join-at (suc k) i zero d e l = let z : i + 0 ≡ i = omega arith in rw z refl
-join-at (suc k) i (suc p) d e l = let z : i + suc p ≡ i + 1 + p = omega arith in rw z (join-at k (i + 1) p d e (omega arith))
-
 pub join-length : (d e : List ℕ) → length (join d e) ≡ 7
 unfolding joinFrom
 join-length d e = refl
 
 pub join-l : (d e : List ℕ) → Under d (join d e)
-join-l d e i l = rw (join-at 7 0 i d e l) (let z : 0 + i ≡ i = omega arith in rw z (larger-l (getD d i 0) (getD e i 0)))
+join-l d e i l = let z : 0 + i ≡ i = omega arith in rw z at (join-above 7 d e 0 i l .0)
 
 pub join-r : (d e : List ℕ) → Under e (join d e)
-join-r d e i l = rw (join-at 7 0 i d e l) (let z : 0 + i ≡ i = omega arith in rw z (larger-r (getD d i 0) (getD e i 0)))
+join-r d e i l = let z : 0 + i ≡ i = omega arith in rw z at (join-above 7 d e 0 i l .1)
 
 pub joins-length : (d : List ℕ) (vs : List Vote) → length d ≡ 7 → length (joinAll d vs) ≡ 7
 unfolding joinAll
@@ -82,15 +76,6 @@ joins-each d (v ∷ vs) zero = under-trans (v .deps) (join d (v .deps)) (joinAll
 joins-each d (v ∷ vs) (suc q) = joins-each (join d (v .deps)) vs q
 
 -- Seen
-highest-ge : (s : ℕ) (f : ℕ → Bool) (i : ℕ) → 1 ≤ i → i ≤ s → f i ≡ true → i ≤ highest s f
-unfolding highest
-highest-ge zero f i l h e = absurd (omega arith)
-highest-ge (suc s) f i l h e = go (f (suc s)) refl (λ q. highest-ge s f i l q e)
-  where
-    go : (b : Bool) → f (suc s) ≡ b → (i ≤ s → i ≤ highest s f) → i ≤ cond b (suc s) (highest s f)
-    go true q ih = h
-    go false q ih = let n : i ≡ suc s → ⊥ = λ z. tf (f i) e (rw z q) in ih (omega (arith, n))
-
 seen-at : (k p q n s : ℕ) (t : Records) (o j : ℕ) (c : Command) → q < k → getD (seenFrom k p n s t o j c) q 0 ≡ seenEntry n s t o j c (p + q)
 unfolding seenFrom
 seen-at zero p q n s t o j c l = absurd (omega arith)
@@ -107,4 +92,4 @@ pub seen-counts : (n s : ℕ) (t : Records) (o j : ℕ) (c : Command) (p i : ℕ
 unfolding seenEntry
 seen-counts n s t o j c p i ln l7 l1 ls m =
     let z : 0 + p ≡ p = omega arith in
-    rw (seen-at 7 0 p n s t o j c l7) (rw (z, ltb-in p n ln) (highest-ge s (met t o j c p) i l1 ls m))
+    rw (seen-at 7 0 p n s t o j c l7) (rw (z, ltb-in p n ln) (highest-above s (met t o j c p) i l1 ls m))

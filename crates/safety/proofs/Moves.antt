@@ -1,19 +1,19 @@
 -- Every move of a run but the mark is a move of the model. Assumes nothing.
-use Prim.Native.Nat.{ℕ, zero, suc, _+_, _≤_, _<_}
+use Prim.Native.Nat.{ℕ, _≤_, _<_}
 use mathlib.Core.Path.{_≡_, refl}
-use mathlib.Core.Bool.{Bool, true, false, cond}
+use mathlib.Core.Bool.{true, false}
 use mathlib.Core.List.{List, List·Memᴰ}
 use native.Mathlib.Omega.{arith}
 use Rattle.paper.specs.Instance.{instanceOk}
 use Rattle.paper.specs.Valid.{valid}
 use Rattle.paper.specs.declared.Command.{Command}
-use Rattle.paper.specs.declared.Record.{Record}
 use Rattle.paper.specs.declared.Message.{Message}
 use Rattle.rules.specs.Seen.{seen}
 use Rattle.rules.specs.Step.{isCommitted}
-use Rattle.rules.specs.Request.{isBlank, lowestBlank}
+use Rattle.rules.specs.Request.{isBlank}
 use Rattle.rules.specs.Nudge.{nothingToNudge}
 use Rattle.rules.specs.Events.{requestNumber, onRequest, onMessage, onRecover, onNudge, messages}
+use Rattle.rules.proofs.Rests.{blank-above, request-blank}
 use Rattle.safety.specs.Run.{State, saved, asked, Among}
 use Rattle.safety.proofs.Deps.{seen-length, under-refl}
 use Rattle.safety.proofs.Case.{Case, copies, code-owner, code-number, in-range}
@@ -21,18 +21,6 @@ use Rattle.safety.proofs.Rel.Votes.{on-request, on-recover}
 use Rattle.safety.proofs.Rel.Leads.{on-nudge}
 use Rattle.safety.proofs.Received.{Fit, fits, on-received}
 use Rattle.safety.proofs.Sim.{Tie, Next, counted, spot, event}
-
--- the lowest blank number is one, if it is in range
-lowest-blank : (k i : ℕ) (row : ℕ → Record) → lowestBlank k i row < i + k → (i ≤ lowestBlank k i row) × (isBlank (row (lowestBlank k i row)) ≡ true)
-unfolding lowestBlank
-lowest-blank zero i row l = absurd (omega arith)
-lowest-blank (suc k) i row l = go (isBlank (row i)) refl l (lowest-blank k (i + 1) row)
-  where
-    go : (b : Bool) → isBlank (row i) ≡ b → cond b i (lowestBlank k (i + 1) row) < i + suc k
-        → (lowestBlank k (i + 1) row < i + 1 + k → (i + 1 ≤ lowestBlank k (i + 1) row) × (isBlank (row (lowestBlank k (i + 1) row)) ≡ true))
-        → (i ≤ cond b i (lowestBlank k (i + 1) row)) × (isBlank (row (cond b i (lowestBlank k (i + 1) row))) ≡ true)
-    go true e l ih = (omega arith, e)
-    go false e l ih = let (a, b) = ih (omega arith) in (omega arith, b)
 
 module _ {C : Case} {x : State} (t : Tie C x) where
   open Case C using (s, fit)
@@ -73,8 +61,7 @@ module _ {C : Case} {x : State} (t : Tie C x) where
       → Next t (asked (saved x c c (requestNumber s c (x .tables c)) (onRequest n s c (x .tables c) k) out) c (requestNumber s c (x .tables c)) k)
   unfolding onRequest requestNumber
   request-next c k out lc ls am rq =
-      let (l1, bl) = lowest-blank s 1 (x .tables c c) (omega arith) in
-      go (requestNumber s c (x .tables c)) bl (in-range n s c (requestNumber s c (x .tables c)) lc l1 ls) am rq
+      go (requestNumber s c (x .tables c)) (request-blank s c (x .tables c) ls) (in-range n s c (requestNumber s c (x .tables c)) lc (blank-above s 1 (x .tables c c)) ls) am rq
     where
       go : (j : ℕ) → isBlank (x .tables c c j) ≡ true → instanceOk n s c j ≡ true → Among out (messages (Rattle.rules.specs.Request.request n c j k (seen n s (x .tables c) c j k)))
           → List·Memᴰ (c, j, k) (C .wanted) → Next t (asked (saved x c c j (Rattle.rules.specs.Request.request n c j k (seen n s (x .tables c) c j k)) out) c j k)

@@ -1,5 +1,5 @@
 -- The demand is not empty: scripts of three copies that commit and hand out, played by the rules. Assumes nothing.
-use Prim.Native.Nat.{ℕ, zero, suc, _<_}
+use Prim.Native.Nat.{ℕ, zero, suc, _^_, _<_}
 use mathlib.Core.Path.{_≡_, refl}
 use mathlib.Core.Bool.{Bool, true, false, _&&_, not}
 use mathlib.Core.List.{List, [], _∷_, _++_, List·Memᴰ, List·Memᴰ·head, List·Memᴰ·tail}
@@ -40,7 +40,7 @@ use Rattle.rules.specs.Nudge.{nothingToNudge, again}
 use Rattle.rules.specs.Received.{byKind, conflict, refused10}
 use Rattle.rules.specs.Events.{put, requestNumber, onRequest, onMessage, onRecover, onNudge, messagesFrom, messages}
 use Rattle.rules.specs.Order.{everywhere, somewhere, firstOwner, firstNumber, coversIn, reachesIn, reaches, waitsFor, isSettled, candidate, nextOut, found}
-use Rattle.safety.specs.Run.{State, start, saved, asked, marked, Move, request, receive, recover, nudge, handOut, Run, stay, further}
+use Rattle.safety.specs.Run.{Asked, State, start, saved, asked, marked, Move, request, receive, recover, nudge, handOut, Run, stay, further}
 use Rattle.safety.specs.Demand.{Committed}
 use Rattle.reach.proofs.Tests.{clash, and-l, and-r, not-not, eqb-eq, leb-le, ltb-lt}
 
@@ -144,14 +144,21 @@ lost = recovers 1 0 1 ∷ arrives 1 ∷ arrives 2 ∷ arrives 4 ∷ arrives 5 �
 saved-edit : List Line
 saved-edit = ask 0 (write 1) ∷ arrives 0 ∷ recovers 2 0 1 ∷ arrives 4 ∷ arrives 5 ∷ arrives 7 ∷ arrives 8 ∷ []
 
+-- what was asked for fits the calls: key and edit are a u32 and a u64
+abbrev pub fitting : List Asked → Bool
+fitting [] = true
+fitting (a ∷ l) = ltb (a .2 .key) (256 ^ 4) && ltb (a .2 .edit) (256 ^ 8) && fitting l
+
 -- a script that is fair leads to a state of a run in which P holds
 pub record Reached (n s : ℕ) (P : State → Type 0) : Type 0 where
   pub state : State
   pub run : Run n s start state
+  pub fits : fitting (state .requested) ≡ true
   pub holds : P state
 
-by-script : (n s : ℕ) (l : List Line) (P : State → Type 0) → fairly n s start l ≡ true → P (played n s start l) → Reached n s P
-by-script n s l P f h = record { state = played n s start l; run = play n s start l stay f; holds = h }
+by-script : (n s : ℕ) (l : List Line) (P : State → Type 0) → fairly n s start l ≡ true → fitting (played n s start l .requested) ≡ true → P (played n s start l)
+    → Reached n s P
+by-script n s l P f g h = record { state = played n s start l; run = play n s start l stay f; fits = g; holds = h }
 
 pub record Shown : Type 0 where
   -- a fast commit
@@ -175,9 +182,9 @@ unfolding fast slow out lost saved-edit write deps put requestNumber lowestBlank
     largestBelow nack onRecover Rattle.rules.specs.Recover.recover onNudge Rattle.rules.specs.Nudge.nudge again commitBack nackBack ones onesIn
     nextOut firstNumber firstOwner candidate isSettled waitsFor reaches reachesIn coversIn covers everywhere somewhere
 shown = record {
-  fast = by-script 3 1 fast _ refl (record { status = refl; command = refl; deps = refl });
-  slow = by-script 3 1 slow _ refl (record { status = refl; command = refl; deps = refl });
-  lost = by-script 3 1 lost _ refl (record { status = refl; command = refl; deps = refl });
-  saved = by-script 3 1 saved-edit _ refl (record { status = refl; command = refl; deps = refl });
-  out = by-script 3 1 (slow ++ out) _ refl (record { status = refl; command = refl; deps = refl }, record { status = refl; command = refl; deps = refl }, refl, refl);
+  fast = by-script 3 1 fast _ refl refl (record { status = refl; command = refl; deps = refl });
+  slow = by-script 3 1 slow _ refl refl (record { status = refl; command = refl; deps = refl });
+  lost = by-script 3 1 lost _ refl refl (record { status = refl; command = refl; deps = refl });
+  saved = by-script 3 1 saved-edit _ refl refl (record { status = refl; command = refl; deps = refl });
+  out = by-script 3 1 (slow ++ out) _ refl refl (record { status = refl; command = refl; deps = refl }, record { status = refl; command = refl; deps = refl }, refl, refl);
 }

@@ -1,7 +1,7 @@
 -- The search over a table's bytes: what it reads, and what each call rests on. Assumes nothing.
 use Prim.Native.Nat.{ℕ, _+_, _-_, _≤_, _<_}
-use mathlib.Core.Path.{_≡_, refl, sym, ap, _∙_}
-use mathlib.Core.Bool.{Bool, true, false, _&&_, _||_, not}
+use mathlib.Core.Path.{_≡_, ap, _∙_}
+use mathlib.Core.Bool.{Bool, _&&_, _||_, not}
 use mathlib.Core.List.{List}
 use native.Mathlib.Omega.{arith}
 use native.Mathlib.Nat.{add-sub-cancel-left}
@@ -16,8 +16,8 @@ use Rattle.rules.specs.Step.{isCommitted}
 use Rattle.rules.specs.Order.{waitsFor}
 use Rattle.seen.specs.Records.{recordsIn}
 use Rattle.reach.specs.High.{Inst, entryOf, Explored, itself}
-use Rattle.reach.proofs.High.{unvisited, unvisited-kept, unvisited-raised, raised-few, explore-skip, explore-more}
-use Rattle.search.specs.Searching.{Searching, Searched, Asked}
+use Rattle.reach.proofs.High.{unvisited, unvisited-kept, unvisited-raised, raised-few, explore-more}
+use Rattle.search.specs.Searching.{Searching, Asked}
 
 -- the part that was lent is the record's
 whole : (t : List ℕ) (at : ℕ) → take (at + 263 - at) (drop at t) ≡ partAt t at
@@ -77,9 +77,6 @@ module _ (n s : ℕ) (t : List ℕ) (p k : ℕ) (m : List ℕ) (h : Searching n 
 
 -- the walk over what was visited
 module _ (n s : ℕ) (t : List ℕ) (p k : ℕ) (m : List ℕ) (o j : ℕ) (h : Asked n s t p k m o j) where
-  pub asked-names : Names n s o j
-  asked-names = record { copies = h .searched .copies; numbers = h .searched .numbers; owner = h .inst .owner; first = h .inst .first; last = h .inst .last }
-
   pub waits-is : {at : ℕ} {a b x y z : Bool} {i : ℕ} → at ≡ placeOf s o j → a ≡ itself p k o j → i ≡ getD m o 0 → b ≡ leb j i → x ≡ (a || b)
       → y ≡ isCommitted (recordAt (partAt t at)) → z ≡ (x && not y) → z ≡ waitsFor n s (recordsIn s t) p k o j
   unfolding waitsFor

@@ -46,10 +46,14 @@ pub fn ranges_ok(n: usize, s: usize, joined: u32, v: Vote, mark: u8, phase: u8, 
     requires { ⌜ n ≤ 7 ⌝ }
     ensures { λ r. ⌜ r ≡ rangesOk n s (front joined v mark phase set) ⌝ }
 {
-    let ballots = both(ballot_ok(n, joined), vote_ok(n, s, 4, v));
-    let marks = both(ballots, at_most(wide8(mark), 1));
-    let phases = both(marks, at_most(wide8(phase), 3));
-    both(phases, below(wide8(set), power(n)))
+    if !ballot_ok(n, joined) {
+        return false;
+    }
+    if !vote_ok(n, s, 4, v) {
+        return false;
+    }
+    let small = both(at_most(wide8(mark), 1), at_most(wide8(phase), 3));
+    both(small, below(wide8(set), power(n)))
 }
 
 pub fn votes_ok(joined: u32, v: Vote, mark: u8) -> bool

@@ -2,7 +2,7 @@ use Rattle.next.proofs.advance.Statement.{statement}
 use Rattle.next.proofs.advance.Tie as tie
 use borrow.Author.Needs.{needs}
 use mathlib.Core.Path.{_≡_, refl}
-use Prim.Native.Nat.{_+_, _*_, _-_, _/_, _%_, _≤_, _<_}
+use Prim.Native.Nat.{_*_, _-_, _/_, _%_, _≤_, _<_}
 use native.Mathlib.Omega.{arith}
 use Rattle.next.specs.Slots.{slotOf, markIn, Upto}
 use Rattle.next.proofs.Laws.{mark-at, there, past-row, one-passes, one-stops, ended}

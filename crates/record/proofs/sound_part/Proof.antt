@@ -1,58 +1,47 @@
 use borrow.Author.Needs.{needs}
+use Rattle.record.proofs.sound_part.Statement.{statement}
+use Rattle.record.proofs.sound_part.Tie as tie
 use mathlib.Core.Path.{_≡_, refl, sym, ap, _∙_}
 use Prim.Native.Nat.{ℕ, _+_, _*_, _-_, _≤_, _<_}
 use native.Mathlib.Omega.{arith}
-use lib.ListN.{length, take, length-append}
+use lib.ListN.{length}
 use borrow.Author.Tests.{not-true, not-false}
-use Rattle.record.proofs.Laws.{Judged, judged-front, unsound-front, judged-next, unsound-reply, judged-all}
-use Rattle.record.proofs.sound_part.Statement.{statement}
-use Rattle.record.proofs.sound_part.Tie as tie
+use Rattle.record.proofs.Laws.{unsound-plain, unsound-phase, sound-replies}
+use Rattle.record.proofs.Quick.{quick}
 
-abbrev Inv-loop : tie.InvT-loop
-Inv-loop b n s c o left₀ left = Judged n s c o b left × (263 ≤ length b)
+plain-ok-requires : tie.Need-plain-ok-requires
+plain-ok-requires c κs = search needs
 
-abbrev μ-loop : tie.MeasureT-loop
-μ-loop b n s c o left₀ left = left
+returns : tie.Need-returns
+returns c = unsound-plain _ _ _ _ _ (sym (c .before .plain-ok .ensures) ∙ not-true _ (c .if1 .taken))
 
-front-ok-requires : tie.Need-front-ok-requires Inv-loop μ-loop
-front-ok-requires c κs = c .before .pre
+is-idle-requires : tie.Need-is-idle-requires
+is-idle-requires c κs = search needs
 
-returns : tie.Need-returns Inv-loop μ-loop
-returns c = unsound-front _ _ _ _ _ (sym (c .before .front-ok .ensures) ∙ not-true _ (c .if1 .taken))
+returns-2 : tie.Need-returns-2
+returns-2 c = quick _ _ _ _ (sym (c .before .is-idle .ensures) ∙ c .if2 .taken) _ (sym (c .before .before .before .plain-ok .ensures) ∙ not-false _ (c .before .before .if1 .left))
 
-loop-holds : tie.Need-loop-holds Inv-loop μ-loop
-loop-holds c = (judged-front _ _ _ _ _ (sym (c .before .front-ok .ensures) ∙ not-false _ (c .if1 .left)), c .before .before .before .pre .0)
+phase-ok-requires : tie.Need-phase-ok-requires
+phase-ok-requires c κs = search needs
 
-sub-left : tie.Need-sub-left Inv-loop μ-loop
-sub-left c = omega arith
+returns-3 : tie.Need-returns-3
+returns-3 c = unsound-phase _ _ _ _ _ (sym (c .before .before .before .before .before .plain-ok .ensures) ∙ not-false _ (c .before .before .before .before .if1 .left)) (sym (c .before .phase-ok .ensures) ∙ not-true _ (c .if3 .taken))
 
-reply-ok-requires : tie.Need-reply-ok-requires Inv-loop μ-loop
-reply-ok-requires c κs = (c .before .loop .inv .1, omega (arith, c .before .loop .inv .0 .few))
+replies-ok-requires : tie.Need-replies-ok-requires
+replies-ok-requires c κs = search needs
 
-returns-2 : tie.Need-returns-2 Inv-loop μ-loop
-returns-2 c = unsound-reply _ _ _ _ _ _ (c .before .before .loop-test .taken) (c .before .before .before .loop .inv .0) (sym (c .before .reply-ok .ensures) ∙ not-true _ (c .if2 .taken))
-
-loop-less : tie.Need-loop-less Inv-loop μ-loop
-loop-less c = omega arith
-
-loop-again : tie.Need-loop-again Inv-loop μ-loop
-loop-again c = (judged-next _ _ _ _ _ _ (c .before .before .loop-test .taken) (c .before .before .before .loop .inv .0) (sym (c .before .reply-ok .ensures) ∙ not-false _ (c .if2 .left)), c .before .before .before .loop .inv .1)
-
-returns-3 : tie.Need-returns-3 Inv-loop μ-loop
-returns-3 c = judged-all _ _ _ _ _ _ (omega arith) (c .before .loop .inv .0)
+returns-4 : tie.Need-returns-4
+returns-4 c = c .replies-ok .ensures ∙ sound-replies _ _ _ _ _ (sym (c .before .before .before .before .before .before .plain-ok .ensures) ∙ not-false _ (c .before .before .before .before .before .if1 .left)) (sym (c .before .before .phase-ok .ensures) ∙ not-false _ (c .before .if3 .left))
 
 pub sound-part-spec : {M : Type 1} → statement M
 sound-part-spec =
     tie.close
     (tie.spec
-    Inv-loop
-    μ-loop
-    front-ok-requires
+    plain-ok-requires
     returns
-    loop-holds
-    sub-left
-    reply-ok-requires
+    is-idle-requires
     returns-2
-    loop-less
-    loop-again
-    returns-3)
+    phase-ok-requires
+    returns-3
+    replies-ok-requires
+    returns-4)

@@ -14,9 +14,8 @@ use borrow.Author.Needs.{needs}
 use mathlib.Core.Path.{_≡_, refl}
 use Prim.Native.Nat.{_+_, _-_, _≤_}
 use native.Mathlib.Omega.{arith}
-use lib.ListN.{getD, length}
 use Rattle.seen.specs.Records.{recordsIn}
-use Rattle.reach.specs.High.{entryOf, Explored}
+use Rattle.reach.specs.High.{Explored}
 use Rattle.reach.proofs.High.{unvisited, explore-start, explore-skip}
 use Rattle.search.proofs.Laws.{above, reached, fewer, onward, more, shrinks, marks-long}
 

@@ -1,9 +1,8 @@
 use borrow.Author.Needs.{needs}
 use Rattle.search.proofs.waits_for.Statement.{statement}
 use Rattle.search.proofs.waits_for.Tie as tie
-use Rattle.search.proofs.Laws.{asked-names, waits-is}
-use native.Mathlib.Omega.{arith}
-use mathlib.Core.Path.{_≡_, refl, ap₂, _∙_}
+use Rattle.search.proofs.Laws.{waits-is}
+use mathlib.Core.Path.{ap₂, _∙_}
 use mathlib.Core.Bool.{_&&_}
 
 place-of-requires : tie.Need-place-of-requires

@@ -1,13 +1,18 @@
-use Rattle.paper.specs.Ballot.{ballotOk}
 use borrow.Author.Needs.{needs}
 use Rattle.nouns.proofs.ballot.ballot_ok.Statement.{statement}
 use Rattle.nouns.proofs.ballot.ballot_ok.Tie as tie
+use mathlib.Core.Path.{_≡_, sym, ap, ap₂, _∙_}
+use mathlib.Core.Bool.{_&&_}
+use Prim.Native.Nat.{ℕ}
+use lib.Dec.{leb}
+use borrow.Author.Tests.{not-true, not-false}
+use Rattle.nouns.proofs.Laws.{ballot-0, ballot-other}
 
 wide32-requires : tie.Need-wide32-requires
 wide32-requires c κs = search needs
 
-equal-requires : tie.Need-equal-requires
-equal-requires c κs = search needs
+returns : tie.Need-returns
+returns c = ballot-0 _ _ (c .before .wide32 .ensures) (c .if1 .taken)
 
 at-most-requires : tie.Need-at-most-requires
 at-most-requires c κs = search needs
@@ -18,21 +23,10 @@ below-requires c κs = search needs
 both-requires : tie.Need-both-requires
 both-requires c κs = search needs
 
-either-requires : tie.Need-either-requires
-either-requires c κs = search needs
-
-returns : tie.Need-returns
-unfolding ballotOk
-returns c = cc
+returns-2 : tie.Need-returns-2
+returns-2 c = ballot-other _ _ (c .before .before .before .before .wide32 .ensures) (c .before .before .before .if1 .left) (c .both .ensures ∙ ap₂ _&&_ (c .before .before .at-most .ensures) (c .before .below .ensures))
 
 pub ballot-ok-spec : {M : Type 1} → statement M
 ballot-ok-spec =
     tie.close
-    (tie.spec
-    wide32-requires
-    equal-requires
-    at-most-requires
-    below-requires
-    both-requires
-    either-requires
-    returns)
+    (tie.spec wide32-requires returns at-most-requires below-requires both-requires returns-2)

@@ -1,7 +1,11 @@
-use Rattle.paper.specs.Vote.{noneIsBlank}
 use borrow.Author.Needs.{needs}
 use Rattle.nouns.proofs.vote.none_is_blank.Statement.{statement}
 use Rattle.nouns.proofs.vote.none_is_blank.Tie as tie
+use mathlib.Core.Path.{_≡_}
+use Rattle.nouns.proofs.Laws.{some-status, no-status}
+
+returns : tie.Need-returns
+returns c = some-status _ (c .if1 .taken)
 
 wide32-requires : tie.Need-wide32-requires
 wide32-requires c κs = search needs
@@ -24,23 +28,14 @@ same-deps-requires c κs = search needs
 both-requires-2 : tie.Need-both-requires-2
 both-requires-2 c κs = search needs
 
-wide8-requires : tie.Need-wide8-requires
-wide8-requires c κs = search needs
-
-equal-requires-2 : tie.Need-equal-requires-2
-equal-requires-2 c κs = search needs
-
-implied-requires : tie.Need-implied-requires
-implied-requires c κs = search needs
-
-returns : tie.Need-returns
-unfolding noneIsBlank
-returns c = cc
+returns-2 : tie.Need-returns-2
+returns-2 c = no-status _ (c .before .before .before .before .before .before .before .before .if1 .left) (cc)
 
 pub none-is-blank-spec : {M : Type 1} → statement M
 none-is-blank-spec =
     tie.close
     (tie.spec
+    returns
     wide32-requires
     equal-requires
     is-noop-requires
@@ -48,7 +43,4 @@ none-is-blank-spec =
     no-deps-requires
     same-deps-requires
     both-requires-2
-    wide8-requires
-    equal-requires-2
-    implied-requires
-    returns)
+    returns-2)

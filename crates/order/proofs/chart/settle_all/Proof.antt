@@ -1,6 +1,5 @@
 use Rattle.order.proofs.chart.settle_all.Statement.{statement}
 use Rattle.order.proofs.chart.settle_all.Tie as tie
-use borrow.Author.Needs.{needs}
 use mathlib.Core.Path.{_≡_, refl, sym, _∙_}
 use mathlib.Core.Logic.{⊎-elim}
 use Prim.Native.Nat.{_*_, _-_, _<_}

@@ -1,7 +1,7 @@
 use borrow.Author.Needs.{needs}
 use Rattle.order.proofs.chart.state_of.Statement.{statement}
 use Rattle.order.proofs.chart.state_of.Tie as tie
-use mathlib.Core.Path.{sym, ap, _∙_}
+use mathlib.Core.Path.{sym, _∙_}
 use Rattle.order.proofs.Charts.{state-out, state-settled, state-waits, state-row, marked-is}
 
 place-of-requires : tie.Need-place-of-requires

@@ -1,8 +1,8 @@
 use Rattle.order.proofs.hand_out.list_all.Statement.{statement}
 use Rattle.order.proofs.hand_out.list_all.Tie as tie
 use borrow.Author.Needs.{needs}
-use mathlib.Core.Path.{_≡_, refl, sym, _∙_}
-use Prim.Native.Nat.{_+_, _-_, _<_}
+use mathlib.Core.Path.{sym, _∙_}
+use Prim.Native.Nat.{_-_}
 use native.Mathlib.Omega.{arith}
 use lib.ListN.{length}
 use Rattle.order.proofs.Listed.{Listed, listed-start, found-inst, listed-on, listed-none, listed-full}

@@ -1,0 +1,335 @@
+//! bench [quick]: the library beside the second program, as Markdown for docs/BENCH.md. Every figure of a line was
+//! measured in the same rounds, turn and turn about; times are medians.
+
+use compare::both::{library_side, second_side, Call, Lent, LIST, OUT};
+use compare::cases::{self, Case};
+use compare::measure::Rounds;
+use compare::stack::Stack;
+use compare::{fields, linear, make, shapes, UNTOUCHED, UNTOUCHED_CODE};
+use pumxaqert::{raw, Setup};
+use second::table::RECORD_LEN;
+use std::hint::black_box;
+use std::time::Duration;
+
+const LARGEST: Setup = Setup { n: 7, s: 64, copy: 0 };
+
+fn main() {
+    let quick = std::env::args().nth(1).is_some_and(|word| word == "quick");
+    let rounds = match quick {
+        true => Rounds { rounds: 5, each: Duration::from_micros(100) },
+        // Short turns and many of them: what another program takes of the processor then falls into few of them.
+        false => Rounds { rounds: 101, each: Duration::from_micros(200) },
+    };
+    limits(&rounds);
+    largest(&rounds);
+    sizes(&rounds, false);
+    sizes(&rounds, true);
+    messages(&rounds);
+    orders(&rounds);
+    growth(&rounds);
+    stack();
+}
+
+/// The value counts as used.
+fn keep<T>(value: T) {
+    black_box(value);
+}
+
+/// One load and one add a byte: an empty piece of assembly holds the sum, so that no two bytes are added at once.
+#[inline(never)]
+fn sum_by_bytes(t: &[u8]) -> u64 {
+    let mut sum = 0u64;
+    for &byte in t {
+        sum += byte as u64;
+        // SAFETY: it does nothing.
+        unsafe {
+            std::arch::asm!("/* {0} */", inout(reg) sum, options(nomem, nostack, preserves_flags))
+        };
+    }
+    sum
+}
+
+/// The plain loop, which the compiler adds many bytes at a time.
+#[inline(never)]
+fn sum_by_vectors(t: &[u8]) -> u64 {
+    t.iter().map(|&byte| byte as u64).sum()
+}
+
+/// Each byte goes through memory of its own on its way.
+#[inline(never)]
+fn sum_by_black_box(t: &[u8]) -> u64 {
+    t.iter().map(|&byte| black_box(byte) as u64).sum()
+}
+
+fn limits(rounds: &Rounds) {
+    let t = shapes::full(LARGEST);
+    let times = rounds.medians(&mut [
+        &mut || keep(sum_by_bytes(black_box(&t))),
+        &mut || keep(sum_by_black_box(black_box(&t))),
+        &mut || keep(sum_by_vectors(black_box(&t))),
+    ]);
+    println!("## The physical limit: a sum over the {} bytes of N = 7, S = 64\n", t.len());
+    println!("| sum | time |\n|---|---|");
+    println!("| byte by byte, one load and one add each | {} |", time(times[0]));
+    println!("| byte by byte through `black_box` | {} |", time(times[1]));
+    println!("| plain loop, vectorised by the compiler | {} |", time(times[2]));
+}
+
+fn time(nanoseconds: f64) -> String {
+    match nanoseconds {
+        t if t < 1e3 => format!("{t:.0} ns"),
+        t => format!("{:.1} µs", t / 1e3),
+    }
+}
+
+fn lent() -> Lent {
+    Lent { out: [UNTOUCHED; OUT], list: [UNTOUCHED_CODE; LIST] }
+}
+
+/// Library, second program, byte sum: the event alone. Putting the record back is measured too and taken off both.
+fn event(rounds: &Rounds, case: &Case) -> [f64; 3] {
+    let mut tables = vec![case.table.clone(); 3];
+    let [ours, theirs, bare] = &mut tables[..] else { unreachable!("three tables") };
+    let (mut a, mut b) = (lent(), lent());
+    let (at, end) = (case.at, case.at + RECORD_LEN);
+    let (setup, call) = (case.setup, case.event.call());
+    let times = rounds.medians(&mut [
+        &mut || {
+            keep(library_side(setup, OUT, black_box(call), theirs, &mut a));
+            theirs[at..end].copy_from_slice(black_box(&case.record));
+        },
+        &mut || {
+            keep(second_side(setup, OUT, black_box(call), ours, &mut b));
+            ours[at..end].copy_from_slice(black_box(&case.record));
+        },
+        &mut || black_box(&mut *bare)[at..end].copy_from_slice(black_box(&case.record)),
+        &mut || keep(sum_by_bytes(black_box(&case.table))),
+    ]);
+    [times[0] - times[2], times[1] - times[2], times[3]]
+}
+
+fn largest(rounds: &Rounds) {
+    println!("\n## Events on a full table of N = 7, S = 64\n");
+    println!("| event | library | second | ratio (at most 1.1) | of the byte sum (at most 2) |");
+    println!("|---|---|---|---|---|");
+    for case in cases::events(LARGEST, true) {
+        line(case.name, event(rounds, &case));
+    }
+    // The table that is dearest to judge.
+    let busy = cases::busy(LARGEST);
+    let mut last = cases::events(LARGEST, true).remove(1);
+    let at = last.at;
+    last.table = busy;
+    last.table[at..at + RECORD_LEN].copy_from_slice(&last.record);
+    line("PreAccept, all records in a phase with all replies", event(rounds, &last));
+}
+
+fn line(name: &str, [library, second, sum]: [f64; 3]) {
+    let (ratio, of_sum) = (library / second, library / sum);
+    println!("| {name} | {} | {} | {ratio:.2} | {of_sum:.2} |", time(library), time(second));
+}
+
+fn sizes(rounds: &Rounds, full: bool) {
+    let sizes: Vec<Setup> = [3, 5, 7]
+        .into_iter()
+        .flat_map(|n| [1, 8, 64].into_iter().map(move |s| Setup { n, s, copy: 0 }))
+        .collect();
+    let words = if full { "full" } else { "empty" };
+    println!("\n## Events on {words} tables: the library's time, and its ratio to the second program's\n");
+    let heads: String = sizes.iter().map(|z| format!(" N={} S={} |", z.n, z.s)).collect();
+    println!("| event |{heads}\n|---|{}", "---|".repeat(sizes.len()));
+    let all: Vec<Vec<Case>> = sizes.iter().map(|&setup| cases::events(setup, full)).collect();
+    for at in 0..all[0].len() {
+        print!("| {} |", all[0][at].name);
+        for cases in &all {
+            let [library, second, _] = event(rounds, &cases[at]);
+            print!(" {}, {:.2} |", time(library), library / second);
+        }
+        println!();
+    }
+}
+
+fn messages(rounds: &Rounds) {
+    const NAMES: [&str; 8] = [
+        "PreAccept",
+        "PreAcceptOK",
+        "Accept",
+        "AcceptOK",
+        "Commit",
+        "Prepare",
+        "PrepareOK",
+        "Nack",
+    ];
+    println!("\n## Messages, N = 7, S = 64: the C calls, and the second program to and from the same numbers\n");
+    let heads = "library | second | ratio (at most 1) | second, its own struct | wrapper";
+    println!("| kind | read: {heads} | write: {heads} |");
+    println!("|---|{}", "---|".repeat(10));
+    for (kind, name) in (1u8..).zip(NAMES) {
+        let (from, owner, ballot) = match kind {
+            6 => (2, 1, 10),
+            7 => (1, 1, 8),
+            _ => (1, (kind % 2) as usize, 0),
+        };
+        let [read, write] = message(rounds, &cases::message(kind, from, owner, 64, ballot));
+        let cells = |[library, second, own, wrapper]: [f64; 4]| {
+            let ratio = library / second;
+            format!("{library:.1} ns | {second:.1} ns | {ratio:.2} | {own:.1} ns | {wrapper:.1} ns")
+        };
+        println!("| {name} | {} | {} |", cells(read), cells(write));
+    }
+}
+
+/// Reading and writing: the C call, the second program with numbers and with its struct, and the wrapper, which makes
+/// an enum of the numbers.
+fn message(rounds: &Rounds, m: &second::Message) -> [[f64; 4]; 2] {
+    let mut outs = [[0; 256]; 4];
+    let length = second::write_message(7, 64, 0, &mut outs[0], m).expect("a valid message");
+    let copied = outs[0];
+    let bytes = &copied[..length];
+    let wrapped = LARGEST.read_message(bytes).expect("a valid message");
+    let numbers = fields::fields(m);
+    let [c_out, numbers_out, struct_out, wrapper_out] = &mut outs;
+    let (mut read, mut other, mut written) = ([0; 18], [0; 18], 0);
+    // SAFETY: all areas are arrays, lent with their lengths.
+    let times = rounds.medians(&mut [
+        &mut || unsafe {
+            let (at, length) = (black_box(bytes).as_ptr(), bytes.len());
+            keep(raw::pumxaqert_read_message(7, 64, 0, at, length, black_box(&mut read)));
+        },
+        &mut || {
+            if let Ok(m) = second::read_message(7, 64, 0, black_box(bytes)) {
+                fields::put(&m, black_box(&mut other));
+            }
+        },
+        &mut || keep(second::read_message(7, 64, 0, black_box(bytes))),
+        &mut || keep(LARGEST.read_message(black_box(bytes))),
+        &mut || unsafe {
+            let (at, f) = (black_box(&mut *c_out).as_mut_ptr(), black_box(&numbers));
+            keep(raw::pumxaqert_write_message(7, 64, 0, at, 256, f, &mut written));
+        },
+        &mut || keep(fields::write(7, 64, 0, black_box(&mut *numbers_out), black_box(&numbers))),
+        &mut || keep(second::write_message(7, 64, 0, black_box(&mut *struct_out), black_box(m))),
+        &mut || keep(LARGEST.write_message(black_box(&mut *wrapper_out), black_box(&wrapped))),
+    ]);
+    [[times[0], times[1], times[2], times[3]], [times[4], times[5], times[6], times[7]]]
+}
+
+fn orders(rounds: &Rounds) {
+    println!("\n## Settled and hand-out, 448 instances\n");
+    let hand_outs = "library | second | ratio (at most 1.5) | linear | ratio (under 5)";
+    println!("| shape | settled: library | second | ratio | hand-out: {hand_outs} |");
+    println!("|---|---|---|---|---|---|---|---|---|");
+    for (name, table) in shapes::orders(LARGEST) {
+        let settled = settled(rounds, &table);
+        let [library, second, linear] = hand_out(rounds, &table);
+        println!(
+            "| {name} | {} | {} | {:.2} | {} | {} | {:.2} | {} | {:.2} |",
+            time(settled[0]),
+            time(settled[1]),
+            settled[0] / settled[1],
+            time(library),
+            time(second),
+            library / second,
+            time(linear),
+            library / linear
+        );
+    }
+}
+
+/// Of the instance that comes last.
+fn settled(rounds: &Rounds, table: &[u8]) -> [f64; 2] {
+    let (mut ours, mut theirs, mut a, mut b) = (table.to_vec(), table.to_vec(), lent(), lent());
+    let call = Call::Settled(6, 64);
+    let times = rounds.medians(&mut [
+        &mut || keep(library_side(LARGEST, OUT, black_box(call), &mut theirs, &mut a)),
+        &mut || keep(second_side(LARGEST, OUT, black_box(call), &mut ours, &mut b)),
+    ]);
+    [times[0], times[1]]
+}
+
+/// Library, second, linear; taking the marks off again is measured too and taken off all three.
+fn hand_out(rounds: &Rounds, table: &[u8]) -> [f64; 3] {
+    let mut tables = vec![table.to_vec(); 4];
+    let [ours, theirs, line, bare] = &mut tables[..] else { unreachable!("four tables") };
+    let (mut a, mut b, mut list) = (lent(), lent(), [0; 448]);
+    let call = Call::HandOut(448);
+    let times = rounds.medians(&mut [
+        &mut || {
+            black_box(library_side(LARGEST, OUT, black_box(call), theirs, &mut a));
+            unmark(theirs);
+        },
+        &mut || {
+            black_box(second_side(LARGEST, OUT, black_box(call), ours, &mut b));
+            unmark(ours);
+        },
+        &mut || {
+            keep(linear::hand_out(line, 7, 64, 0, black_box(&mut list)));
+            unmark(line);
+        },
+        &mut || unmark(black_box(bare)),
+    ]);
+    [times[0] - times[3], times[1] - times[3], times[2] - times[3]]
+}
+
+fn unmark(t: &mut [u8]) {
+    for o in 0..7 {
+        for j in 1..=64 {
+            t[make::place(LARGEST, o, j) + 36] = 0;
+        }
+    }
+}
+
+fn growth(rounds: &Rounds) {
+    println!("\n## Growth with S: PreAccept on a full table of N = 7\n");
+    println!("| S | table bytes | library | second | byte sum | library, for each record |");
+    println!("|---|---|---|---|---|---|");
+    for s in [1, 2, 4, 8, 16, 32, 64] {
+        let setup = Setup { n: 7, s, copy: 0 };
+        let case = cases::events(setup, true).remove(1);
+        let [library, second, sum] = event(rounds, &case);
+        println!(
+            "| {s} | {} | {} | {} | {} | {:.1} ns |",
+            case.table.len(),
+            time(library),
+            time(second),
+            time(sum),
+            library / (7 * s) as f64
+        );
+    }
+}
+
+/// The C calls' greatest depth over the benchmark's inputs; the few frames between are measured and taken off.
+fn stack() {
+    println!("\n## Greatest depth of the stack, N = 7, S = 64\n");
+    println!("| calls | library | second |\n|---|---|---|");
+    let events: Vec<Case> =
+        [false, true].iter().flat_map(|&full| cases::events(LARGEST, full)).collect();
+    let mut inputs: Vec<(Call, &[u8])> =
+        events.iter().map(|c| (c.event.call(), &c.table[..])).collect();
+    depth_line("events", &inputs);
+    let orders = shapes::orders(LARGEST);
+    let last = Call::Settled(6, 64);
+    inputs = orders.iter().map(|(_, table)| (last, &table[..])).collect();
+    depth_line("settled", &inputs);
+    inputs = orders.iter().map(|(_, table)| (Call::HandOut(448), &table[..])).collect();
+    depth_line("hand-out", &inputs);
+    inputs = orders.iter().map(|(_, table)| (Call::Judge, &table[..])).collect();
+    depth_line("judge", &inputs);
+}
+
+fn depth_line(name: &str, inputs: &[(Call, &[u8])]) {
+    let (mut stack, mut memory) = (Stack::default(), lent());
+    let nothing = stack.depth(&mut || {});
+    let mut depths = [0, 0];
+    for &(call, table) in inputs {
+        let mut t = table.to_vec();
+        for (side, greatest) in [library_side, second_side].into_iter().zip(&mut depths) {
+            let depth = stack.depth(&mut || {
+                t.copy_from_slice(table);
+                keep(side(LARGEST, OUT, call, &mut t, &mut memory));
+            });
+            *greatest = depth.saturating_sub(nothing).max(*greatest);
+        }
+    }
+    println!("| {name} | {} bytes | {} bytes |", depths[0], depths[1]);
+}

@@ -1,0 +1,170 @@
+//! replay DIR_OR_FILES: recorded runs through the public C calls and through the second program: every answer, every
+//! outgoing byte and every list as recorded, and every table byte the same on both sides.
+
+use compare::both::{Answer, Both, Call, Pair, LIST};
+use compare::make;
+use pumxaqert::{Setup, ROOM};
+use std::path::{Path, PathBuf};
+use std::process::ExitCode;
+
+/// The copies of one run.
+struct Run {
+    n: usize,
+    s: usize,
+    tables: Vec<Pair>,
+    both: Both,
+}
+
+impl Run {
+    fn start(words: &[&str]) -> Result<Run, String> {
+        let (n, s) = (number(words, 1)?, number(words, 2)?);
+        let mut both = Both::default();
+        let mut tables = Vec::new();
+        for copy in 0..n {
+            let setup = Setup { n, s, copy };
+            let mut pair = Pair::of(&vec![0xa5; second::table_len(n, s)]);
+            match both.call(setup, ROOM, Call::Blank, &mut pair)? {
+                Answer::Done if pair.ours == make::blank(setup) => tables.push(pair),
+                other => return Err(format!("no blank table: {other:?}")),
+            }
+        }
+        Ok(Run { n, s, tables, both })
+    }
+
+    /// The answer as the recorded runs write it.
+    fn call(&mut self, words: &[&str]) -> Result<String, String> {
+        let copy: usize = number(words, 0)?;
+        let bytes;
+        let named = || Ok::<_, String>((number(words, 2)?, number(words, 3)?));
+        let call = match *words.get(1).ok_or("no call")? {
+            "request" => Call::Request(number(words, 2)?, number(words, 3)?, number(words, 4)?),
+            "message" => {
+                bytes = from_hex(words.get(2).ok_or("no bytes")?)?;
+                Call::Message(&bytes)
+            }
+            "recover" => named().map(|(o, j)| Call::Recover(o, j))?,
+            "nudge" => named().map(|(o, j)| Call::Nudge(o, j))?,
+            "settled" => named().map(|(o, j)| Call::Settled(o, j))?,
+            "handout" => Call::HandOut(number::<usize>(words, 2)?.min(LIST)),
+            _ => return Err("unknown call".into()),
+        };
+        let setup = Setup { n: self.n, s: self.s, copy };
+        let pair = self.tables.get_mut(copy).ok_or("no such copy")?;
+        let answer = self.both.call(setup, ROOM, call, pair)?;
+        Ok(self.written(answer))
+    }
+
+    fn written(&self, answer: Answer) -> String {
+        match answer {
+            Answer::Refused(number) => format!("refused {number}"),
+            Answer::Event(o, j, written) => {
+                format!("event {o} {j} {}", to_hex(&self.both.ours.out[..written]))
+            }
+            Answer::Settled(op, key, edit) => format!("settled {op} {key} {edit}"),
+            Answer::Waits(o, j) => format!("waits {o} {j}"),
+            Answer::Codes(count) => {
+                let codes = self.both.ours.list[..count].iter();
+                format!("codes{}", codes.map(|code| format!(" {code}")).collect::<String>())
+            }
+            other => format!("{other:?}"),
+        }
+    }
+}
+
+fn number<T: std::str::FromStr>(words: &[&str], at: usize) -> Result<T, String> {
+    words.get(at).and_then(|w| w.parse().ok()).ok_or_else(|| format!("word {at} is no such number"))
+}
+
+fn from_hex(text: &str) -> Result<Vec<u8>, String> {
+    if text == "-" {
+        return Ok(Vec::new());
+    }
+    if !text.is_ascii() || !text.len().is_multiple_of(2) {
+        return Err("bad hex".into());
+    }
+    (0..text.len())
+        .step_by(2)
+        .map(|i| u8::from_str_radix(&text[i..i + 2], 16).map_err(|_| "bad hex".to_string()))
+        .collect()
+}
+
+fn to_hex(bytes: &[u8]) -> String {
+    match bytes.is_empty() {
+        true => "-".into(),
+        false => bytes.iter().map(|b| format!("{b:02x}")).collect(),
+    }
+}
+
+/// Calls compared and mismatches found in one file.
+fn replay(path: &Path) -> Result<(usize, usize), String> {
+    let text = std::fs::read_to_string(path).map_err(|e| e.to_string())?;
+    let (mut calls, mut mismatches) = (0, 0);
+    let mut run = Err("no run was started".to_string());
+    let mut lines = text.lines().enumerate();
+    while let Some((at, line)) = lines.next() {
+        let words: Vec<&str> = line.split_whitespace().collect();
+        if words.is_empty() {
+            continue;
+        }
+        if words[0] == "run" {
+            run = Run::start(&words);
+            continue;
+        }
+        let wanted = lines.next().and_then(|(_, answer)| answer.strip_prefix('=')).map(str::trim);
+        let got = run.as_mut().map_err(|wrong| wrong.clone()).and_then(|run| run.call(&words));
+        calls += 1;
+        if got.as_deref().ok() != wanted || wanted.is_none() {
+            mismatches += 1;
+            let wanted = wanted.unwrap_or("no answer line");
+            println!(
+                "{}:{}: {line}\n  recorded: {wanted}\n  library:  {got:?}",
+                path.display(),
+                at + 1
+            );
+        }
+    }
+    Ok((calls, mismatches))
+}
+
+/// The files named, and for a folder its .txt files by name.
+fn files() -> std::io::Result<Vec<PathBuf>> {
+    let mut files = Vec::new();
+    for word in std::env::args().skip(1) {
+        let path = PathBuf::from(word);
+        if path.is_dir() {
+            let entries: Result<Vec<_>, _> =
+                path.read_dir()?.map(|e| e.map(|e| e.path())).collect();
+            let mut entries = entries?;
+            entries.retain(|path| path.extension().is_some_and(|e| e == "txt"));
+            entries.sort();
+            files.extend(entries);
+        } else {
+            files.push(path);
+        }
+    }
+    Ok(files)
+}
+
+fn main() -> ExitCode {
+    let files = match files() {
+        Ok(files) if !files.is_empty() => files,
+        other => {
+            eprintln!("usage: replay DIR_OR_FILES ({other:?})");
+            return ExitCode::from(2);
+        }
+    };
+    let (mut calls, mut mismatches) = (0, 0);
+    for path in &files {
+        let (c, m) = replay(path).unwrap_or_else(|wrong| {
+            println!("{}: {wrong}", path.display());
+            (0, 1)
+        });
+        calls += c;
+        mismatches += m;
+    }
+    println!("{} files, {calls} calls, {mismatches} mismatches", files.len());
+    match mismatches == 0 && calls > 0 {
+        true => ExitCode::SUCCESS,
+        false => ExitCode::FAILURE,
+    }
+}

@@ -1,0 +1,27 @@
+//! The proved library beside the second program: the same calls on the same bytes, and whatever differs is a failure.
+// An index is a copy's or an instance's number here, and reads best as one.
+#![allow(clippy::needless_range_loop)]
+
+pub mod both;
+pub mod cases;
+mod classify;
+pub mod demand;
+pub mod fields;
+pub mod guarded;
+pub mod linear;
+pub mod make;
+pub mod measure;
+pub mod places;
+pub mod probe;
+pub mod random;
+pub mod shapes;
+pub mod stack;
+pub mod threads;
+pub mod world;
+
+/// Contents of lent memory before a call, to see what the call leaves alone.
+pub const UNTOUCHED: u8 = 0xa5;
+pub const UNTOUCHED_CODE: u16 = 0xa5a5;
+
+/// The length of each kind of message; kind 0 is none.
+pub const LENGTHS: [usize; 9] = [0, 37, 24, 37, 10, 37, 10, 42, 14];

@@ -1,0 +1,227 @@
+//! Differences that can be planted: the paper's "errors that look reasonable", and slips in each kind of lent memory.
+
+use second::table::{Record, Vote, RECORD_LEN};
+use second::{read_message, record_part, Event, Message};
+use std::sync::OnceLock;
+
+#[derive(Clone, Copy, PartialEq, Eq)]
+pub enum Planted {
+    Nothing,
+    /// PrepareOK reports the joined ballot as the voted one.
+    JoinedAsVoted,
+    /// A repeated PreAccept has its dependencies worked out anew.
+    WorkedOutAnew,
+    /// Replies count that agree among themselves, whatever was sent.
+    AgreeAmongThemselves,
+    /// Recovery takes F matching replies though the owner is one of the replies.
+    OwnerAmongReplies,
+    /// A byte of the room after the written ones is touched.
+    RoomTouched,
+    /// A place of the list after the listed ones is touched.
+    ListTouched,
+    /// A Commit that is already stored is stored once more, its mark forgotten.
+    MarkForgotten,
+    /// A refused Commit leaves its edit behind.
+    RefusedButStored,
+    /// A refused nudge leaves values behind.
+    ValuesLeft,
+    /// The hand-out writes one place past the list.
+    PastTheEnd,
+    /// The judge does not look at a record's last byte.
+    LastByteUnjudged,
+}
+
+use Planted::*;
+
+const ALL: [Planted; 12] = [
+    Nothing,
+    JoinedAsVoted,
+    WorkedOutAnew,
+    AgreeAmongThemselves,
+    OwnerAmongReplies,
+    RoomTouched,
+    ListTouched,
+    MarkForgotten,
+    RefusedButStored,
+    ValuesLeft,
+    PastTheEnd,
+    LastByteUnjudged,
+];
+
+impl Planted {
+    pub fn now() -> Planted {
+        static CHOSEN: OnceLock<Planted> = OnceLock::new();
+        *CHOSEN.get_or_init(|| {
+            let number = std::env::var("PUMXAQERT_PLANTED").unwrap_or("0".into());
+            ALL[number.parse::<usize>().expect("the number of a planted difference")]
+        })
+    }
+}
+
+#[derive(Clone, Copy)]
+pub struct Setup {
+    pub n: usize,
+    pub s: usize,
+    pub copy: usize,
+}
+
+/// One message event, with what is planted in it.
+pub fn message(
+    planted: Planted,
+    setup: Setup,
+    t: &mut [u8],
+    out: &mut [u8],
+    bytes: &[u8],
+) -> Result<Event, u8> {
+    let Setup { n, s, copy } = setup;
+    let found = match planted {
+        JoinedAsVoted | WorkedOutAnew | AgreeAmongThemselves | OwnerAmongReplies
+        | MarkForgotten | RefusedButStored => at_message(setup, t, bytes),
+        _ => None,
+    };
+    let Some((m, at, record)) = found else {
+        return second::message(t, n, s, copy, out, bytes);
+    };
+    let before = t[at..at + RECORD_LEN].to_vec();
+    let sent = changed_before(planted, setup, t, &m, at, record);
+    let answer = second::message(t, n, s, copy, out, sent.as_deref().unwrap_or(bytes));
+    if answer.is_err() {
+        t[at..at + RECORD_LEN].copy_from_slice(&before);
+    }
+    changed_after(planted, &answer, t, out, &m, at, &before);
+    answer
+}
+
+/// The message and the record that it is about, where it comes so far.
+fn at_message(setup: Setup, t: &[u8], bytes: &[u8]) -> Option<(Message, usize, Record)> {
+    let Setup { n, s, copy } = setup;
+    second::judge_table(t, n, s, copy).ok()?;
+    let m = read_message(n, s, copy, bytes).ok()?;
+    let (at, _) = record_part(t, n, s, copy, m.owner as usize, m.number as usize);
+    Some((m, at, record_at(t, at)))
+}
+
+fn record_at(t: &[u8], at: usize) -> Record {
+    Record::read(t[at..].first_chunk().expect("a whole record"))
+}
+
+fn put(t: &mut [u8], at: usize, record: &Record) {
+    record.write(t[at..].first_chunk_mut().expect("a whole record"));
+}
+
+/// Changes the record before the event; gives other bytes for the message where that is what is planted.
+fn changed_before(
+    planted: Planted,
+    setup: Setup,
+    t: &mut [u8],
+    m: &Message,
+    at: usize,
+    mut record: Record,
+) -> Option<Vec<u8>> {
+    let f = (setup.n - 1) / 2;
+    let mut m = *m;
+    let own = record.own;
+    match planted {
+        WorkedOutAnew if m.kind == 1 && matches!(own.status, 1 | 2) => {
+            if own.voted == m.ballot && record.joined == m.ballot {
+                record.own = Vote::default();
+            }
+        }
+        AgreeAmongThemselves if m.kind == 2 && record.phase == 2 => {
+            count_agreeing(f, &mut m, &mut record);
+        }
+        OwnerAmongReplies if m.kind == 7 && record.phase == 1 => {
+            take_matching(f, &mut m, &mut record);
+        }
+        _ => return None,
+    }
+    put(t, at, &record);
+    let mut room = [0; 256];
+    let length = second::write_message(setup.n, setup.s, setup.copy, &mut room, &m).ok()?;
+    Some(room[..length].to_vec())
+}
+
+/// With 2F-1 replies that agree at ballot 0, they are made to agree with what was sent.
+fn count_agreeing(f: usize, m: &mut Message, record: &mut Record) {
+    if m.ballot != 0 || record.joined != 0 || record.set >> m.from & 1 == 1 {
+        return;
+    }
+    let (set, deps) = (record.set, m.deps);
+    let inside = |q: usize| set >> q & 1 == 1;
+    let replies = record.replies.iter_mut().enumerate().filter(|(q, _)| inside(*q));
+    let agreeing: Vec<&mut Vote> = replies.map(|(_, r)| r).filter(|r| r.deps == deps).collect();
+    if agreeing.len() + 1 >= 2 * f - 1 {
+        agreeing.into_iter().for_each(|r| r.deps = record.own.deps);
+        m.deps = record.own.deps;
+    }
+}
+
+/// With F of status 2 at ballot 0 and nothing higher, the lowest of them is made to count as accepted.
+fn take_matching(f: usize, m: &mut Message, record: &mut Record) {
+    let mut set = record.set;
+    if set >> m.from & 1 == 1 || set.count_ones() as usize != f || record.joined != m.ballot {
+        return;
+    }
+    set |= 1 << m.from;
+    let vote = |q: u8| match q == m.from {
+        true => (m.voted, m.status),
+        false => (record.replies[q as usize].voted, record.replies[q as usize].status),
+    };
+    let inside = || (0..7u8).filter(|&q| set >> q & 1 == 1);
+    let higher = inside().any(|q| vote(q).0 > 0 || vote(q).1 == 3);
+    let matching = inside().filter(|&q| vote(q).1 == 2).count();
+    if higher || matching < f {
+        return;
+    }
+    // The replies that are stored must stay sound; the one that has just come will do.
+    if m.status == 2 {
+        m.status = 3;
+    }
+}
+
+fn changed_after(
+    planted: Planted,
+    answer: &Result<Event, u8>,
+    t: &mut [u8],
+    out: &mut [u8],
+    m: &Message,
+    at: usize,
+    before: &[u8],
+) {
+    match (planted, answer) {
+        (JoinedAsVoted, Ok(event)) if event.written > 0 && out[0] == 7 => {
+            // What was joined before this Prepare; a reply must still be valid to do harm.
+            let joined: [u8; 4] = before[..4].try_into().expect("four bytes");
+            if out[14] > 0 && u32::from_le_bytes(joined) < m.ballot {
+                out[10..14].copy_from_slice(&joined);
+            }
+        }
+        (MarkForgotten, Ok(_)) if m.kind == 5 => t[at + 36] = 0,
+        (RefusedButStored, Err(10)) => t[at + 14] ^= 1,
+        _ => {}
+    }
+}
+
+pub fn after_nudge(planted: Planted, answer: &Result<Event, u8>, out: &mut [u8]) {
+    if let (RoomTouched, Ok(event)) = (planted, answer) {
+        if let Some(byte) = out.get_mut(event.written) {
+            *byte = 0;
+        }
+    }
+}
+
+pub fn after_hand_out(planted: Planted, codes: usize, list: &mut [u16]) {
+    if planted == ListTouched {
+        if let Some(place) = list.get_mut(codes) {
+            *place = 0;
+        }
+    }
+}
+
+/// The table as the judge then sees it: the last byte of its last record is nothing.
+pub fn before_judge(planted: Planted, t: &[u8]) -> Option<Vec<u8>> {
+    let last = t.len().checked_sub(1).filter(|_| planted == LastByteUnjudged)?;
+    let mut seen = t.to_vec();
+    seen[last] = 0;
+    Some(seen)
+}

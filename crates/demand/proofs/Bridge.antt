@@ -1,0 +1,324 @@
+-- A run over bytes beside a run of the rules: each saved table is sound and its records are the rules' table, and all that is
+-- sent is the bytes of a valid message of the rules. Assumes nothing.
+use Prim.Native.Nat.{ℕ, _<_}
+use mathlib.Core.Path.{_≡_, refl, sym, ap, ap₂, _∙_, subst}
+use mathlib.Core.Bool.{Bool, true, false, cond}
+use mathlib.Core.Logic.{⊎-elim}
+use mathlib.Core.List.{List, [], _∷_, _++_, map, List·Memᴰ, List·Memᴰ·not-nil, List·Memᴰ·append-cases, List·Memᴰ·eq-of-singleton, Memᴰ·append-left, Memᴰ·append-right}
+use lib.Dec.{eqb}
+use lib.ListN.{length}
+use borrow.Author.Tests.{eqb-true, eqb-false, eq-eqb, ne-eqb}
+use Rattle.num.specs.Num.{splice}
+use Rattle.paper.specs.Setup.{setupOk}
+use Rattle.paper.specs.Instance.{instanceOk}
+use Rattle.paper.specs.declared.Message.{Message}
+use Rattle.rules.specs.declared.Step.{Step}
+use Rattle.rules.specs.declared.First.the-variants.{At}
+use Rattle.rules.specs.Seen.{Records}
+use Rattle.rules.specs.Events.{put, messages}
+use Rattle.rules.specs.Order.{nextOut, mark}
+use Rattle.wire.specs.Wire.{messageBytes}
+use Rattle.table.specs.Place.{placeOf}
+use Rattle.table.specs.Table.{blankTable, putRecord}
+use Rattle.seen.specs.Records.{recordsIn}
+use Rattle.closed.specs.Held.{Closed}
+use Rattle.log.specs.Out.{outBytes}
+use Rattle.log.specs.declared.Answer.the-variants.{Event}
+use Rattle.log.specs.Events.{Outcome, answerNumber, answerOwner, answerInstance, answerWritten}
+use Rattle.log.specs.Events as log
+use Rattle.log.proofs.Held.{out-short}
+use Rattle.order.specs.declared.Handing.the-variants.{Codes}
+use Rattle.order.specs.Calls.{markIn, handed}
+use Rattle.safety.specs.Run.{Instance, Asked, Setup, replaced}
+use Rattle.safety.specs.Run as rules
+use Rattle.demand.specs.Run.{Copy, State, start, Call, request, receive, recover, nudge, outcome, Possible, recorded, written, savedPart, acted, handing, marking, restarted, changed, asked, Move, event, leave, handOut, cut, Run, stay, further}
+use Rattle.demand.specs.Run.{mark as mv-mark}
+use Rattle.demand.proofs.Saved.{Kept, setup-of, blank-kept, put-own, put-kept}
+use Rattle.demand.proofs.Range.{next-alike}
+use Rattle.demand.proofs.Records.{records, alike, setup-at, blank-records, put-records}
+use Rattle.demand.proofs.Written.{Carried, carried-more, sent-carried, written-is}
+use Rattle.demand.proofs.Handing.{Pending, part-at, none-pending, all-saved, listed-pending, Marked, marked-next, mark-kept, mark-records}
+use Rattle.demand.proofs.Steps.{Brought, ownerIn, numberIn, stepIn, moved, Stepped, stepped}
+
+module _ (n s : ℕ) (setup : Setup n s) where
+  -- copy q as its host has it, beside the same copy of the rules
+  pub record Beside (y : rules.State) (q : ℕ) (k : Copy) : Type 0 where
+    pub table : y .tables q ≡ records n s (k .saved)
+    pub kept : q < n → Kept n s q (k .saved)
+    pub pending : Pending n s (k .saved) (k .lent) (k .listed)
+    pub leaving : (b : List ℕ) → List·Memᴰ b (k .leaving) → Carried n s (y .sent) b
+    pub marks : y .marks q ≡ k .marks
+
+  pub record Tie (x : State) (y : rules.State) : Type 0 where
+    pub copies : (q : ℕ) → Beside y q (x .copies q)
+    pub sent : (b : List ℕ) → List·Memᴰ b (x .sent) → Carried n s (y .sent) b
+    pub requested : y .requested ≡ x .requested
+
+  -- what the rules' run is after a move over bytes
+  pub record Next (y : rules.State) (x : State) : Type 0 where
+    pub later : rules.State
+    pub run : rules.Run n s y later
+    pub tie : Tie x later
+
+  -- one copy changes, the others are as they were
+  pub one-copy : (y : rules.State) (f : ℕ → Copy) (c : ℕ) (k : Copy) → ((q : ℕ) → (q ≡ c → ⊥) → Beside y q (f q)) → Beside y c k → (q : ℕ) → Beside y q (replaced f c k q)
+  one-copy y f c k others here q = go (eqb q c) refl
+    where
+      go : (b : Bool) → eqb q c ≡ b → Beside y q (cond b k (f q))
+      go true e = rw (eqb-true q c e) here
+      go false e = others q (eqb-false q c e)
+
+  pub other-stays : {A : Type 0} (f : ℕ → A) (c : ℕ) (a : A) (q : ℕ) → (q ≡ c → ⊥) → replaced f c a q ≡ f q
+  other-stays f c a q ne = rw (ne-eqb q c ne)
+
+  pub here-is : {A : Type 0} (f : ℕ → A) (c : ℕ) (a : A) → replaced f c a c ≡ a
+  here-is f c a = rw (eq-eqb c c refl)
+
+  -- a copy that a step of another left alone
+  beside-still : (y z : rules.State) (q : ℕ) (k : Copy) → z .tables q ≡ y .tables q → z .marks q ≡ y .marks q
+      → ((m : Message) → List·Memᴰ m (y .sent) → List·Memᴰ m (z .sent)) → Beside y q k → Beside z q k
+  beside-still y z q k t m more b =
+      record {
+        table = t ∙ b .table;
+        kept = b .kept;
+        pending = b .pending;
+        leaving = λ e i. carried-more n s (y .sent) (z .sent) e more (b .leaving e i);
+        marks = m ∙ b .marks;
+      }
+
+  -- the start
+  pub begin : Tie (start n s) rules.start
+  begin =
+      record {
+        copies = λ q.
+            record {
+              table = sym (blank-records n s setup q);
+              kept = λ l. blank-kept n s q (setup-at n s setup q l);
+              pending = none-pending n s (blankTable n s q) (blankTable n s q) refl;
+              leaving = λ b i. absurd (List·Memᴰ·not-nil i);
+              marks = refl;
+            };
+        sent = λ b i. absurd (List·Memᴰ·not-nil i);
+        requested = refl;
+      }
+
+  module _ (x : State) (y : rules.State) (tie : Tie x y) (c : ℕ) (copy : c < n) where
+    abbrev k : Copy
+    k = x .copies c
+
+    abbrev side : Beside y c (x .copies c)
+    side = tie .copies c
+
+    -- only copy c's host knows of it
+    quietly : (j : Copy) → Beside y c j → Tie (changed x c j) y
+    quietly j b = record { copies = one-copy y (x .copies) c j (λ q ne. tie .copies q) b; sent = tie .sent; requested = tie .requested }
+
+    -- an event
+    brought : (call : Call) → Possible x call → Brought n s (y .sent) call
+    brought (request op key edit) p = record { key = p .0; edit = p .1 }
+    brought (receive b) p = tie .sent b p
+    brought (recover o j) p = tt
+    brought (nudge o j) p = tt
+
+    -- the part that is saved is all that the event changed
+    part-saved : (t : List ℕ) (o j : ℕ) (e : Step) → Kept n s c t → instanceOk n s o j ≡ true → Closed n s c o e
+        → savedPart n s c t (putRecord s t o j (e .entry)) o j ≡ putRecord s t o j (e .entry)
+    part-saved t o j e h i d =
+        ap (splice t (placeOf s o j))
+        (part-at n s c (putRecord s t o j (e .entry)) (put-kept n s c t h o j i (e .entry) (d .held)) o j i ∙ put-own n s c t h o j i (e .entry) (d .held))
+
+    -- the instance and the step of a call here
+    abbrev ownerOf : Call → ℕ
+    ownerOf call = ownerIn c call
+
+    abbrev numberOf : Call → ℕ
+    numberOf call = numberIn s c (y .tables c) call
+
+    abbrev stepOf : Call → Step
+    stepOf call = stepIn n s c (y .tables c) call
+
+    -- the copy and the state after it
+    abbrev host : (call : Call) (out : List ℕ) → Copy
+    host call out = acted n s c k (outcome n s c (k .lent) out call) (ownerOf call) (numberOf call) (length (outBytes (stepOf call)))
+
+    abbrev pub after : (call : Call) (out : List ℕ) → State
+    after call out = asked (changed x c (host call out)) (recorded (x .requested) (ownerOf call) (numberOf call) call)
+
+    module _ (call : Call) (out : List ℕ) (st : Stepped n s c (k .saved) out call y) (eu : k .lent ≡ k .saved) where
+      abbrev e : Step
+      e = stepOf call
+
+      abbrev table : List ℕ
+      table = putRecord s (k .saved) (ownerOf call) (numberOf call) (e .entry)
+
+      abbrev here : Kept n s c (k .saved)
+      here = side .kept copy
+
+      abbrev named : setupOk n s c ≡ true
+      named = setup-of n s c (k .saved) (here .setup)
+
+      did : outcome n s c (k .lent) out call ≡ log.acted s (k .saved) out (ownerOf call) (numberOf call) e
+      did = ap (λ (v : List ℕ). outcome n s c v out call) eu ∙ st .is
+
+      -- the table in memory is the call's
+      lent-is : host call out .lent ≡ table
+      unfolding log.acted
+      lent-is = ap (λ (v : Outcome). v .table) did
+
+      -- its record is saved
+      saved-is : host call out .saved ≡ table
+      saved-is =
+          ap (λ (v : List ℕ). savedPart n s c (k .saved) v (ownerOf call) (numberOf call)) lent-is
+          ∙ part-saved (k .saved) (ownerOf call) (numberOf call) e here (st .range) (st .closed)
+
+      -- its messages, and no others, may leave
+      leaving-is : host call out .leaving ≡ k .leaving ++ map messageBytes (messages e)
+      unfolding log.acted
+      leaving-is =
+          ap (λ (v : Outcome). k .leaving ++ written (length (outBytes e)) (v .out)) did
+          ∙ ap (λ (l : List (List ℕ)). k .leaving ++ l) (written-is e out (st .long) (out-short n s c named e (st .closed .sent)))
+
+      pub event-tie : Tie (after call out) (moved n s y c call (messages e))
+      event-tie =
+          let z : rules.State = moved n s y c call (messages e) in
+          let more : (m : Message) → List·Memᴰ m (y .sent) → List·Memᴰ m (z .sent) = λ m i. Memᴰ·append-left (messages e) i in
+          let new : (m : Message) → List·Memᴰ m (messages e) → List·Memᴰ m (z .sent) = λ m i. Memᴰ·append-right (y .sent) i in
+          record {
+            copies = one-copy z (x .copies) c (host call out)
+                (λ q ne. beside-still y z q (x .copies q) (other-stays (y .tables) c _ q ne) refl more (tie .copies q))
+                (record {
+                  table = here-is (y .tables) c (put (y .tables c) (ownerOf call) (numberOf call) (e .entry))
+                      ∙ ap (λ (f : Records). put f (ownerOf call) (numberOf call) (e .entry)) (side .table)
+                      ∙ sym (ap (records n s) saved-is ∙ put-records n s c (k .saved) here (ownerOf call) (numberOf call) (st .range) (e .entry) (st .closed .held));
+                  kept = λ l. subst (Kept n s c) (sym saved-is) (put-kept n s c (k .saved) here (ownerOf call) (numberOf call) (st .range) (e .entry) (st .closed .held));
+                  pending = none-pending n s (host call out .saved) (host call out .lent) (lent-is ∙ sym saved-is);
+                  leaving = λ b i.
+                      ⊎-elim (λ (w : List·Memᴰ b (k .leaving)). carried-more n s (y .sent) (z .sent) b more (side .leaving b w))
+                      (λ (w : List·Memᴰ b (map messageBytes (messages e))).
+                      carried-more n s (messages e) (z .sent) b new (sent-carried n s c (setup-at n s setup) named e (st .closed .sent) b w))
+                      (List·Memᴰ·append-cases (k .leaving) (subst (List·Memᴰ b) leaving-is i));
+                  marks = side .marks;
+                });
+            sent = λ b i. carried-more n s (y .sent) (z .sent) b more (tie .sent b i);
+            requested = ap (λ (l : List Asked). recorded l (ownerOf call) (numberOf call) call) (tie .requested);
+          }
+
+    -- one mark is saved
+    pub marked-here : (code : ℕ) (rest : List ℕ) → k .listed ≡ code ∷ rest → Marked n s c (k .saved) (k .lent) code rest
+    marked-here code rest e = marked-next n s c (k .saved) (k .lent) code rest (k .listed) (side .kept copy) (side .pending) e
+
+    pub mark-out : (code : ℕ) (rest : List ℕ) (m : Marked n s c (k .saved) (k .lent) code rest) → nextOut n s (y .tables c) ≡ At (m .owner) (m .number)
+    mark-out code rest m =
+        let t : List ℕ = k .saved in
+        ap (nextOut n s) (side .table) ∙ sym (next-alike n s (recordsIn s t) (records n s t) (alike n s t)) ∙ m .next
+
+    pub mark-tie : (code : ℕ) (rest : List ℕ) (m : Marked n s c (k .saved) (k .lent) code rest)
+        → Tie (changed x c (marking n s c k code rest)) (rules.marked y c (m .owner) (m .number))
+    mark-tie code rest m =
+        let t : List ℕ = k .saved in
+        let h : Kept n s c t = side .kept copy in
+        let o : ℕ = m .owner in
+        let j : ℕ = m .number in
+        let z : rules.State = rules.marked y c o j in
+        let disk : marking n s c k code rest .saved ≡ markIn s t o j =
+        ap₂ (λ (p i : ℕ). savedPart n s c t (k .lent) p i) (m .is-owner) (m .is-number) ∙ m .saved in
+        record {
+          copies = one-copy z (x .copies) c (marking n s c k code rest)
+              (λ q ne. beside-still y z q (x .copies q) (other-stays (y .tables) c _ q ne) (other-stays (y .marks) c _ q ne) (λ a i. i) (tie .copies q))
+              (record {
+                table = here-is (y .tables) c (mark (y .tables c) o j) ∙ ap (λ (f : Records). mark f o j) (side .table)
+                    ∙ sym (ap (records n s) disk ∙ mark-records n s c t h o j (m .found));
+                kept = λ l. subst (Kept n s c) (sym disk) (mark-kept n s c t h o j (m .found));
+                pending = subst (λ (v : List ℕ). Pending n s v (k .lent) rest) (sym disk) (m .pending);
+                leaving = side .leaving;
+                marks = here-is (y .marks) c (y .marks c ++ (o, j) ∷ []) ∙ ap (λ (l : List Instance). l ++ (o, j) ∷ []) (side .marks)
+                    ∙ ap₂ (λ (p i : ℕ). k .marks ++ (p, i) ∷ []) (sym (m .is-owner)) (sym (m .is-number));
+              });
+          sent = tie .sent;
+          requested = tie .requested;
+        }
+
+    -- once all that was listed is saved, the table in memory is the saved one
+    pub in-memory : k .listed ≡ [] → k .lent ≡ k .saved
+    in-memory none = all-saved n s (k .saved) (k .lent) (k .listed) (side .pending) none
+
+    pub hand-tie : (list : List ℕ) (i : ℕ) → k .listed ≡ [] → handed n s c (k .lent) list .answer ≡ Codes i
+        → Tie (changed x c (handing k (handed n s c (k .lent) list) i)) y
+    hand-tie list i none ans =
+        let eu = in-memory none in
+        quietly (handing k (handed n s c (k .lent) list) i)
+        (record {
+          table = side .table;
+          kept = side .kept;
+          pending = rw eu (listed-pending n s c (k .saved) list (side .kept copy) i (rw eu at ans));
+          leaving = side .leaving;
+          marks = side .marks;
+        })
+
+    cut-tie : Tie (changed x c (restarted k)) y
+    cut-tie =
+        quietly (restarted k)
+        (record {
+          table = side .table;
+          kept = side .kept;
+          pending = none-pending n s (k .saved) (k .saved) refl;
+          leaving = λ b i. absurd (List·Memᴰ·not-nil i);
+          marks = side .marks;
+        })
+
+    leave-tie : (b : List ℕ) → List·Memᴰ b (k .leaving) → Tie (record { copies = x .copies; sent = x .sent ++ b ∷ []; requested = x .requested }) y
+    leave-tie b i =
+        record {
+          copies = tie .copies;
+          sent = λ d q.
+              ⊎-elim (λ (h : List·Memᴰ d (x .sent)). tie .sent d h) (λ (h : List·Memᴰ d (b ∷ [])). rw (List·Memᴰ·eq-of-singleton h) (side .leaving b i))
+              (List·Memᴰ·append-cases (x .sent) q);
+          requested = tie .requested;
+        }
+
+  still : (y : rules.State) {z : State} → Tie z y → Next y z
+  still y t = record { later = y; run = rules.stay; tie = t }
+
+  -- an answered call, as it was answered
+  answered : (x : State) (y : rules.State) (tie : Tie x y) (c : ℕ) (copy : c < n) (call : Call) (out : List ℕ) (o j w : ℕ) → Possible x call → x .copies c .listed ≡ []
+      → outcome n s c (x .copies c .lent) out call .answer ≡ Event o j w
+      → Next y (asked (changed x c (acted n s c (x .copies c) (outcome n s c (x .copies c .lent) out call) o j w)) (recorded (x .requested) o j call))
+  unfolding log.acted
+  answered x y tie c copy call out o j w poss none ans =
+      let eu = in-memory x y tie c copy none in
+      let res : outcome n s c (x .copies c .saved) out call .answer ≡ Event o j w = ap (λ (v : List ℕ). outcome n s c v out call .answer) (sym eu) ∙ ans in
+      let st = stepped n s c (x .copies c .saved) out (tie .copies c .kept copy) copy y (tie .copies c .table) call (brought x y tie c copy call poss) (ap answerNumber res) in
+      let e : Event o j w ≡ Event (ownerIn c call) (numberIn s c (y .tables c) call) (length (outBytes (stepIn n s c (y .tables c) call))) =
+      sym res ∙ ap (λ (v : Outcome). v .answer) (st .is) in
+      rw (ap answerOwner e, ap answerInstance e, ap answerWritten e)
+      (record {
+        later = moved n s y c call (messages (stepIn n s c (y .tables c) call));
+        run = rules.further rules.stay (st .move _ (λ m i. i));
+        tie = event-tie x y tie c copy call out st eu;
+      })
+
+  -- every move over bytes is a move of the rules, or none
+  pub move-next : {x z : State} (y : rules.State) → Tie x y → Move n s x z → Next y z
+  move-next {x = x} y tie (event c call out o j w copy poss none ans) = answered x y tie c copy call out o j w poss none ans
+  move-next {x = x} y tie (leave c b copy i) = still y (leave-tie x y tie c copy b i)
+  move-next {x = x} y tie (handOut c list i copy none ans) = still y (hand-tie x y tie c copy list i none ans)
+  move-next {x = x} y tie (mv-mark c code rest copy e) =
+      let m = marked-here x y tie c copy code rest e in
+      record {
+        later = rules.marked y c (m .owner) (m .number);
+        run = rules.further rules.stay (rules.handOut c (m .owner) (m .number) copy (mark-out x y tie c copy code rest m));
+        tie = mark-tie x y tie c copy code rest m;
+      }
+  move-next {x = x} y tie (cut c copy) = still y (cut-tie x y tie c copy)
+
+  run-on : {x y z : rules.State} → rules.Run n s x y → rules.Run n s y z → rules.Run n s x z
+  run-on r rules.stay = r
+  run-on r (rules.further q m) = rules.further (run-on r q) m
+
+  -- the bridge
+  pub bridge : {x z : State} (y : rules.State) → Tie x y → Run n s x z → Next y z
+  bridge y tie stay = record { later = y; run = rules.stay; tie = tie }
+  bridge y tie (further r m) =
+      let a = bridge y tie r in
+      let b = move-next (a .later) (a .tie) m in
+      record { later = b .later; run = run-on (a .run) (b .run); tie = b .tie }

@@ -1,0 +1,211 @@
+-- Demand 3 holds of every run over bytes, for every setup. Assumes nothing.
+use Prim.Native.Nat.{ℕ, _<_}
+use mathlib.Core.Path.{_≡_, refl, sym, ap, _∙_}
+use mathlib.Core.Bool.{Bool, true, false, _&&_, _||_, not, cond}
+use mathlib.Core.List.{List, _++_, List·Memᴰ}
+use lib.Dec.{ltb, eqb}
+use lib.ListN.{length}
+use borrow.Author.Tests.{not-false}
+use Rattle.paper.specs.Instance.{instanceOk}
+use Rattle.paper.specs.Refusal.{numberOf}
+use Rattle.paper.specs.Valid.{valid}
+use Rattle.paper.proofs.Laws.{and-true}
+use Rattle.paper.specs.declared.Command.{Command}
+use Rattle.paper.specs.declared.Record.{Record}
+use Rattle.paper.specs.declared.Message.{Message}
+use Rattle.paper.specs.declared.Refusal.{Refusal}
+use Rattle.paper.specs.declared.Refusal.the-variants as why
+use Rattle.rules.specs.declared.Step.{Step}
+use Rattle.rules.specs.declared.First.{First}
+use Rattle.rules.specs.declared.First.the-variants.{At, Nowhere}
+use Rattle.rules.specs.Seen.{Records}
+use Rattle.rules.specs.Step.{isCommitted}
+use Rattle.rules.specs.Received.{refused10}
+use Rattle.rules.specs.Recover.{outOfBallots}
+use Rattle.rules.specs.Nudge.{nothingToNudge}
+use Rattle.rules.specs.Events.{requestNumber}
+use Rattle.rules.specs.Order.{found, firstOpen}
+use Rattle.wire.specs.Wire.{messageAt, validBytes, framed, opFits}
+use Rattle.table.specs.Table.{recordIn}
+use Rattle.seen.specs.Records.{recordsIn}
+use Rattle.closed.proofs.Laws.{by-cond, tf}
+use Rattle.closed.proofs.Heard.{valid-instance}
+use Rattle.log.specs.Events.{Outcome, refuse, acted, requestOpen, receiveOpen, recoverOpen, nudgeOpen, answerNumber}
+use Rattle.order.specs.Calls.{settledOpen, settled, handedOpen, handed, settlingNumber, handingNumber}
+use Rattle.order.specs.declared.Settling.{Settling}
+use Rattle.order.specs.declared.Settling.the-variants as settling
+use Rattle.safety.specs.Run.{Instance, Setup}
+use Rattle.safety.specs.Run as rules
+use Rattle.safety.specs.Demand as rules-demand
+use Rattle.safety.proofs.Demand as rules-proved
+use Rattle.demand.specs.Run.{State, start, Call, request, receive, recover, nudge, outcome, Run, stay}
+use Rattle.demand.specs.Demand.{Committed, Unrefused, Lasting, Demand}
+use Rattle.demand.proofs.Saved.{Kept}
+use Rattle.demand.proofs.Records.{at-range}
+use Rattle.demand.proofs.Handing.{sound-judged, left}
+use Rattle.demand.proofs.Steps.{gate-is}
+use Rattle.demand.proofs.Bridge.{Tie, Next, begin, in-memory, bridge}
+
+module _ (n s : ℕ) (setup : Setup n s) where
+  -- the rules' run beside a moment x and a later one y
+  module _ (x y : State) (rx : Run n s (start n s) x) (ry : Run n s x y) where
+    abbrev atX : Next n s setup rules.start x
+    atX = bridge n s setup rules.start (begin n s setup) rx
+
+    abbrev atY : Next n s setup (atX .later) y
+    atY = bridge n s setup (atX .later) (atX .tie) ry
+
+  -- a commit in saved bytes is one of the rules, and back
+  record-is : (x : State) (y : rules.State) → Tie n s setup x y → (c o j : ℕ) → instanceOk n s o j ≡ true → y .tables c o j ≡ recordIn s (x .copies c .saved) o j
+  record-is x y t c o j i = ap (λ (u : Records). u o j) (t .copies c .table) ∙ at-range n s (x .copies c .saved) o j i
+
+  to-rules : (x : State) (y : rules.State) → Tie n s setup x y → (c o j : ℕ) (k : Command) (d : List ℕ) → Committed n s x c o j k d → rules-demand.Committed y c o j k d
+  to-rules x y t c o j k d h =
+      let e = record-is x y t c o j (h .range) in
+      record { status = rw e (h .status); command = rw e (h .command); deps = rw e (h .deps) }
+
+  pub of-rules : (x : State) (y : rules.State) → Tie n s setup x y → (c o j : ℕ) (k : Command) (d : List ℕ) → c < n → instanceOk n s o j ≡ true
+      → rules-demand.Committed y c o j k d → Committed n s x c o j k d
+  of-rules x y t c o j k d l i h =
+      let e = record-is x y t c o j i in
+      record { copy = l; range = i; status = rw (← e) (h .status); command = rw (← e) (h .command); deps = rw (← e) (h .deps) }
+
+  -- no call on a sound table is refused 1 or 11
+  abbrev Other : ℕ → Type 0
+  Other a = (a ≡ 1 → ⊥) × (a ≡ 11 → ⊥)
+
+  other : (a : ℕ) → (eqb a 1 || eqb a 11) ≡ false → Other a
+  other a h = (λ e. tf (eqb a 1 || eqb a 11) (rw e) h, λ e. tf (eqb a 1 || eqb a 11) (rw e) h)
+
+  record Fine (x : Outcome) : Type 0 where
+    is : Other (answerNumber (x .answer))
+
+  -- a refusal that is neither, or the rest
+  or-else : (b : Bool) (r : Refusal) (t out : List ℕ) (rest : Outcome) → (eqb (numberOf r) 1 || eqb (numberOf r) 11) ≡ false → Fine rest → Fine (cond b (refuse r t out) rest)
+  or-else b r t out rest h f = by-cond Fine b (λ e. record { is = other (numberOf r) h }) (λ e. f)
+
+  done : (t out : List ℕ) (o j : ℕ) (x : Step) → Fine (acted s t out o j x)
+  unfolding acted
+  done t out o j x = record { is = other 0 refl }
+
+  open-fine : (c : ℕ) (t out : List ℕ) → Kept n s c t → (call : Call) → Fine (outcome n s c t out call)
+  unfolding requestOpen receiveOpen recoverOpen nudgeOpen
+  open-fine c t out k (request op key edit) =
+      rw (gate-is n s c t out (requestOpen n s c t out op key edit) k)
+      (or-else (ltb (length out) 256) why.Room t out _ refl
+      (or-else (not (eqb op 1 || eqb op 2)) why.Op t out _ refl (or-else (ltb s (requestNumber s c (recordsIn s t))) why.Full t out _ refl (done t out _ _ _))))
+  open-fine c t out k (receive b) =
+      let r : Record = recordIn s t (messageAt b .owner) (messageAt b .number) in
+      rw (gate-is n s c t out (receiveOpen n s c t out b) k)
+      (or-else (ltb (length out) 256) why.Room t out _ refl
+      (or-else (not (validBytes n s c b)) why.Message t out _ refl (or-else (refused10 r (messageAt b)) why.Differs t out _ refl (done t out _ _ _))))
+  open-fine c t out k (recover o j) =
+      let r : Record = recordIn s t o j in
+      rw (gate-is n s c t out (recoverOpen n s c t out o j) k)
+      (or-else (ltb (length out) 256) why.Room t out _ refl
+      (or-else (not (instanceOk n s o j)) why.Instance t out _ refl
+      (or-else (isCommitted r) why.Committed t out _ refl (or-else (outOfBallots r) why.Ballots t out _ refl (done t out _ _ _)))))
+  open-fine c t out k (nudge o j) =
+      rw (gate-is n s c t out (nudgeOpen n s c t out o j) k)
+      (or-else (ltb (length out) 256) why.Room t out _ refl
+      (or-else (not (instanceOk n s o j)) why.Instance t out _ refl (or-else (nothingToNudge (recordIn s t o j)) why.Idle t out _ refl (done t out _ _ _))))
+
+  question-fine : (c : ℕ) (t : List ℕ) → Kept n s c t → (o j : ℕ) → Other (settlingNumber (settled n s c t o j))
+  unfolding settled settledOpen
+  question-fine c t k o j =
+      rw (sound-judged n s c t k)
+      (by-cond (λ (x : Settling). Other (settlingNumber x)) (not (instanceOk n s o j)) (λ e. other 6 refl) (λ e. go (firstOpen n s (recordsIn s t) o j)))
+    where
+      go : (f : First) → Other (settlingNumber (found f (settling.Settled (recordIn s t o j .vote .command)) settling.Waits))
+      go Nowhere = other 0 refl
+      go (At p i) = other 0 refl
+
+  hand-fine : (c : ℕ) (t : List ℕ) → Kept n s c t → (list : List ℕ) → Other (handingNumber (handed n s c t list .answer))
+  unfolding handed handedOpen
+  hand-fine c t k list = rw (sound-judged n s c t k) (other 0 refl)
+
+  unrefused : (c : ℕ) (t : List ℕ) (r : ℕ) → Kept n s c t → ((a : ℕ) → Other a → a ≡ r → ⊥) → Unrefused n s c t r
+  unrefused c t r k h =
+      record {
+        event = λ out call. h _ (open-fine c t out k call .is);
+        question = λ o j. h _ (question-fine c t k o j);
+        handOut = λ list. h _ (hand-fine c t k list);
+      }
+
+  -- nor does what was sent differ from a stored commit
+  abbrev Agrees : Outcome → Type 0
+  Agrees x = answerNumber (x .answer) ≡ 10 → ⊥
+
+  ten : (a : ℕ) → eqb a 10 ≡ false → a ≡ 10 → ⊥
+  ten a h e = tf (eqb a 10) (rw e) h
+
+  sent-agrees : (x : State) (y : rules.State) → Tie n s setup x y → rules.Run n s rules.start y → (c : ℕ) → c < n → (out b : List ℕ) → List·Memᴰ b (x .sent)
+      → Agrees (outcome n s c (x .copies c .saved) out (receive b))
+  unfolding receiveOpen validBytes acted
+  sent-agrees x y t r c l out b i =
+      let v : List ℕ = x .copies c .saved in
+      let m : Message = messageAt b in
+      let same : validBytes n s c b ≡ true → refused10 (recordIn s v (m .owner) (m .number)) m ≡ false =
+      λ h.
+      let g : valid n s c m ≡ true = and-true (framed b && opFits b) _ h .1 in
+      rw (← record-is x y t c (m .owner) (m .number) (valid-instance n s c m g)) (rules-proved.lasting n s setup .unrefused y r c m (t .sent b i .among) g) in
+      rw (gate-is n s c v out (receiveOpen n s c v out b) (t .copies c .kept l))
+      (by-cond Agrees (ltb (length out) 256) (λ e. ten 2 refl)
+      (λ e. by-cond Agrees (not (validBytes n s c b)) (λ f. ten 3 refl)
+      (λ f. by-cond Agrees (refused10 (recordIn s v (m .owner) (m .number)) m) (λ g. tf _ g (same (not-false _ f))) (λ g. ten 0 refl))))
+
+  -- the table in memory is sound, also while marks are still to be saved
+  lent-kept : (x : State) → Run n s (start n s) x → (c : ℕ) → c < n → Kept n s c (x .copies c .lent)
+  lent-kept x r c l =
+      let b = atX x x r stay .tie .copies c in
+      rw (b .pending .table) (left (b .pending .room) n s c (x .copies c .saved) (b .kept l) .kept)
+
+-- demand 3
+module _ (n s : ℕ) (setup : Setup n s) where
+  abbrev D : rules-demand.Demand n s
+  D = rules-proved.demand-3 n s setup
+
+  lasting : Lasting n s
+  lasting = record {
+    commit = λ x y rx ry a o j k d h.
+        let p = atX n s setup x y rx ry in
+        let q = atY n s setup x y rx ry in
+        of-rules n s setup y (q .later) (q .tie) a o j k d (h .copy) (h .range)
+        (D .lasting .commit (p .later) (q .later) (p .run) (q .run) a o j k d (to-rules n s setup x (p .later) (p .tie) a o j k d h));
+    marks = λ x y rx ry a.
+        let p = atX n s setup x y rx ry in
+        let q = atY n s setup x y rx ry in
+        let (l, e) = D .lasting .marks (p .later) (q .later) (p .run) (q .run) a in
+        (l, sym (q .tie .copies a .marks) ∙ e ∙ ap (λ (m : List Instance). m ++ l) (p .tie .copies a .marks));
+    never-10 = λ x r c l none out b i e.
+        let p = atX n s setup x x r stay in
+        let m = in-memory n s setup x (p .later) (p .tie) c l none in
+        sent-agrees n s setup x (p .later) (p .tie) (p .run) c l out b i (rw m at e);
+    never-1 = λ x r c l. unrefused n s setup c (x .copies c .lent) 1 (lent-kept n s setup x r c l) (λ a o e. o .0 e);
+    never-11 = λ x r c l. unrefused n s setup c (x .copies c .lent) 11 (lent-kept n s setup x r c l) (λ a o e. o .1 e);
+  }
+
+  pub demand-3 : Demand n s
+  demand-3 = record {
+    agreement = λ x y rx ry a b o j k l d e h g.
+        let p = atX n s setup x y rx ry in
+        let q = atY n s setup x y rx ry in
+        D .agreement (p .later) (q .later) (p .run) (q .run) a b o j k l d e (to-rules n s setup x (p .later) (p .tie) a o j k d h)
+        (to-rules n s setup y (q .later) (q .tie) b o j l e g);
+    requested = λ x rx a o j k d h.
+        let p = atX n s setup x x rx stay in
+        rw (← p .tie .requested) (D .requested (p .later) (p .run) a o j k d (to-rules n s setup x (p .later) (p .tie) a o j k d h));
+    covering = λ x y rx ry a b o j p i k l d e ne h g it.
+        let u = atX n s setup x y rx ry in
+        let v = atY n s setup x y rx ry in
+        D .covering (u .later) (v .later) (u .run) (v .run) a b o j p i k l d e ne (to-rules n s setup x (u .later) (u .tie) a o j k d h)
+        (to-rules n s setup y (v .later) (v .tie) b p i l e g) it;
+    order = λ x y rx ry a b c e o j p i k l d f h g it bf mo mp.
+        let u = atX n s setup x y rx ry in
+        let v = atY n s setup x y rx ry in
+        let at = v .tie .copies b .marks in
+        rw (← at)
+        (D .order (u .later) (v .later) (u .run) (v .run) a b c e o j p i k l d f (to-rules n s setup y (v .later) (v .tie) c o j k d h)
+        (to-rules n s setup y (v .later) (v .tie) e p i l f g) it (rw (u .tie .copies a .marks) bf) (rw at mo) (rw at mp));
+    lasting = lasting;
+  }

@@ -1,0 +1,230 @@
+-- What a hand-out listed and is not saved yet: its marks, one after the other, are those of the saved table. Assumes nothing.
+use Prim.Native.Nat.{ℕ, zero, suc, _/_, _%_, _≤_, _<_}
+use mathlib.Core.Path.{_≡_, refl, sym, ap, _∙_}
+use mathlib.Core.Bool.{true, not}
+use mathlib.Core.List.{List, [], _∷_}
+use native.Mathlib.Omega.{arith}
+use lib.ListN.{length, take, drop, getD}
+use borrow.Author.Tests.{not-true}
+use Rattle.num.specs.Num.{splice}
+use Rattle.num.proofs.Laws.{splice-same}
+use Rattle.paper.specs.Instance.{instanceOk}
+use Rattle.paper.specs.declared.Record.{Record}
+use Rattle.record.specs.Layout.{recordBytes}
+use Rattle.rules.specs.declared.First.{First}
+use Rattle.rules.specs.declared.First.the-variants.{At, Nowhere}
+use Rattle.rules.specs.Seen.{Records}
+use Rattle.rules.specs.Events.{put}
+use Rattle.rules.specs.Order.{isSettled, isMarked, candidate, marked, mark, nextOut, codeOf, found, handOut}
+use Rattle.table.specs.Place.{placeOf, partAt}
+use Rattle.table.specs.Table.{fits, recordIn}
+use Rattle.table.specs.Calls.{judged, partOf}
+use Rattle.table.specs.declared.Judging.the-variants as judging
+use Rattle.table.proofs.Laws.{sizes, names}
+use Rattle.table.proofs.Round.{put-part}
+use Rattle.seen.specs.Records.{recordsIn}
+use Rattle.closed.specs.Held.{Held}
+use Rattle.closed.proofs.Laws.{three, tf, eqb-self}
+use Rattle.closed.proofs.Mark.{marked-held, Found, candidate-committed, nextOut-found}
+use Rattle.order.specs.Calls.{markIn, handedTable, handedCodes, handedOpen, handed}
+use Rattle.order.specs.declared.Handing.{Handing}
+use Rattle.order.specs.declared.Handing.the-variants.{Codes}
+use Rattle.order.specs.declared.Handing.the-variants as handing
+use Rattle.demand.specs.Run.{savedPart}
+use Rattle.demand.proofs.Saved.{Kept, put-own, put-kept}
+use Rattle.demand.proofs.Range.{Alike, out-alike}
+use Rattle.demand.proofs.Records.{records, at-range, held, put-records}
+
+pub sound-judged : (n s c : ℕ) (t : List ℕ) → Kept n s c t → judged n s c t ≡ judging.Sound
+unfolding judged
+sound-judged n s c t k = rw (k .setup, k .sound)
+
+pub part-at : (n s c : ℕ) (t : List ℕ) → Kept n s c t → (o j : ℕ) → instanceOk n s o j ≡ true → partOf n s c t o j ≡ partAt t (placeOf s o j)
+unfolding partOf
+part-at n s c t k o j i = rw (k .setup, i)
+
+-- a mark of a sound table, on what it hands out next
+module _ (n s c : ℕ) (t : List ℕ) (k : Kept n s c t) (o j : ℕ) (f : Found n s (candidate n s (recordsIn s t)) (At o j)) where
+  mark-held : Held n s c o (marked (recordIn s t o j))
+  mark-held = marked-held n s c o (recordIn s t o j) (held n s c t k o j (f .0)) (candidate-committed n s (recordsIn s t) o j (f .0) (f .1))
+
+  pub mark-kept : Kept n s c (markIn s t o j)
+  unfolding markIn
+  mark-kept = put-kept n s c t k o j (f .0) (marked (recordIn s t o j)) mark-held
+
+  pub mark-records : records n s (markIn s t o j) ≡ mark (records n s t) o j
+  unfolding markIn
+  mark-records =
+      put-records n s c t k o j (f .0) (marked (recordIn s t o j)) mark-held
+      ∙ ap (λ (r : Record). put (records n s t) o j (marked r)) (sym (at-range n s t o j (f .0)))
+
+  mark-alike : Alike n s (mark (recordsIn s t) o j) (recordsIn s (markIn s t o j))
+  unfolding put
+  mark-alike p i z =
+      let a : recordIn s (markIn s t o j) p i ≡ mark (records n s t) o j p i = sym (at-range n s (markIn s t o j) p i z) ∙ ap (λ (u : Records). u p i) mark-records in
+      sym (a ∙ rw (at-range n s t o j (f .0), at-range n s t p i z))
+
+  mark-part : partAt (markIn s t o j) (placeOf s o j) ≡ recordBytes (marked (recordIn s t o j))
+  unfolding markIn
+  mark-part = put-own n s c t k o j (f .0) (marked (recordIn s t o j)) mark-held
+
+  -- what was marked before is another instance, and its part stays
+  mark-frame : (p i : ℕ) → instanceOk n s p i ≡ true → isMarked (recordIn s t p i) ≡ true → partAt (markIn s t o j) (placeOf s p i) ≡ partAt t (placeOf s p i)
+  unfolding markIn candidate
+  mark-frame p i z m =
+      put-part n s t (sizes n s c t (k .setup) .long) o j (names n s c t o j (k .setup) (f .0)) (marked (recordIn s t o j)) (mark-held .fits .seven) p i
+      (names n s c t p i (k .setup) z)
+      (λ (x, y). let u : isMarked (recordIn s t o j) ≡ true = rw (x, y) m in tf _ u (not-true _ (three (isSettled n s (recordsIn s t) o j) (not (isMarked (recordIn s t o j))) _ (f .1) .1)))
+
+  -- the hand-out goes on from there
+  pub next-table : (room : ℕ) → nextOut n s (recordsIn s t) ≡ At o j → handedTable (suc room) n s t ≡ handedTable room n s (markIn s t o j)
+  unfolding handedTable
+  next-table room e = rw e
+
+  pub next-codes : (room : ℕ) → nextOut n s (recordsIn s t) ≡ At o j → handedCodes (suc room) n s t ≡ codeOf o j ∷ handedCodes room n s (markIn s t o j)
+  unfolding handedCodes handOut
+  next-codes room e =
+      rw e (ap (λ (l : List ℕ). codeOf o j ∷ l) (out-alike n s room (mark (recordsIn s t) o j) (recordsIn s (markIn s t o j)) mark-alike))
+
+-- it leaves a sound table, and the part of what is marked already
+pub record Left (n s c : ℕ) (t u : List ℕ) : Type 0 where
+  pub kept : Kept n s c u
+  pub frame : (p i : ℕ) → instanceOk n s p i ≡ true → isMarked (recordIn s t p i) ≡ true → partAt u (placeOf s p i) ≡ partAt t (placeOf s p i)
+
+pub left : (room n s c : ℕ) (t : List ℕ) → Kept n s c t → Left n s c t (handedTable room n s t)
+unfolding handedTable
+left zero n s c t k = record { kept = k; frame = λ p i z m. refl }
+left (suc room) n s c t k = go (nextOut n s (recordsIn s t)) (nextOut-found n s (recordsIn s t)) (λ u h. left room n s c u h)
+  where
+    go : (f : First) → Found n s (candidate n s (recordsIn s t)) f → ((u : List ℕ) → Kept n s c u → Left n s c u (handedTable room n s u))
+        → Left n s c t (found f t (λ o j. handedTable room n s (markIn s t o j)))
+    go Nowhere f more = record { kept = k; frame = λ p i z m. refl }
+    go (At o j) f more =
+        let h = more (markIn s t o j) (mark-kept n s c t k o j f) in
+        record {
+          kept = h .kept;
+          frame = λ p i z m.
+              let e = mark-frame n s c t k o j f p i z m in
+              let v : isMarked (recordIn s (markIn s t o j) p i) ≡ true = rw e m in
+              h .frame p i z v ∙ e;
+        }
+
+at-mark : (x : Records) (o j : ℕ) → isMarked (mark x o j o j) ≡ true
+unfolding put
+at-mark x o j = rw (eqb-self o, eqb-self j)
+
+-- the first mark of a hand-out, saved, is one mark of the saved table
+pub save-mark : (n s c : ℕ) (t : List ℕ) (k : Kept n s c t) (o j : ℕ) (f : Found n s (candidate n s (recordsIn s t)) (At o j)) (room : ℕ)
+    → nextOut n s (recordsIn s t) ≡ At o j → savedPart n s c t (handedTable (suc room) n s t) o j ≡ markIn s t o j
+unfolding markIn
+save-mark n s c t k o j f room e =
+    let u : List ℕ = markIn s t o j in
+    let l = left room n s c u (mark-kept n s c t k o j f) in
+    let p : partAt u (placeOf s o j) ≡ recordBytes (marked (recordIn s t o j)) = mark-part n s c t k o j f in
+    let m : isMarked (recordIn s u o j) ≡ true =
+    ap isMarked (sym (at-range n s u o j (f .0)) ∙ ap (λ (x : Records). x o j) (mark-records n s c t k o j f)) ∙ at-mark (records n s t) o j in
+    let q : partOf n s c (handedTable (suc room) n s t) o j ≡ recordBytes (marked (recordIn s t o j)) =
+    ap (λ (x : List ℕ). partOf n s c x o j) (next-table n s c t k o j f room e) ∙ part-at n s c (handedTable room n s u) (l .kept) o j (f .0)
+    ∙ l .frame o j (f .0) m ∙ p in
+    ap (splice t (placeOf s o j)) q
+
+-- what a copy's host has in memory beside what it saved: a hand-out of so many places, of which nothing is saved yet
+pub record Pending (n s : ℕ) (saved lent listed : List ℕ) : Type 0 where
+  pub room : ℕ
+  pub table : lent ≡ handedTable room n s saved
+  pub codes : listed ≡ handedCodes room n s saved
+
+pub none-pending : (n s : ℕ) (t u : List ℕ) → u ≡ t → Pending n s t u []
+unfolding handedTable handedCodes handOut
+none-pending n s t u e = record { room = 0; table = e; codes = refl }
+
+empty : {x : ℕ} {l : List ℕ} {A : Type 0} → [] ≡ x ∷ l → A
+empty {x} {l} e = let z : 0 ≡ suc (length l) = ap length e in absurd (omega arith)
+
+-- once all that was listed is saved, memory and disk are the same
+pub all-saved : (n s : ℕ) (t u l : List ℕ) → Pending n s t u l → l ≡ [] → u ≡ t
+unfolding handedTable handedCodes handOut
+all-saved n s t u l p e = go (p .room) (p .table) (sym e ∙ p .codes)
+  where
+    by : (room : ℕ) (f : First) → [] ≡ found f [] (λ o j. codeOf o j ∷ handOut room n s (mark (recordsIn s t) o j))
+        → found f t (λ o j. handedTable room n s (markIn s t o j)) ≡ t
+    by room Nowhere z = refl
+    by room (At o j) z = empty z
+
+    go : (room : ℕ) → u ≡ handedTable room n s t → [] ≡ handedCodes room n s t → u ≡ t
+    go zero x y = x
+    go (suc room) x y = x ∙ by room (nextOut n s (recordsIn s t)) y
+
+-- what a hand-out lists
+short : (room n s : ℕ) (t : Records) → length (handOut room n s t) ≤ room
+unfolding handOut
+short zero n s t = omega arith
+short (suc room) n s t = go (nextOut n s t) (λ u. short room n s u)
+  where
+    go : (f : First) → ((u : Records) → length (handOut room n s u) ≤ room) → length (found f [] (λ o j. codeOf o j ∷ handOut room n s (mark t o j))) ≤ suc room
+    go Nowhere h = omega arith
+    go (At o j) h = omega (arith, h (mark t o j))
+
+codesIn : Handing → ℕ
+codesIn (handing.Codes i) = i
+codesIn (handing.Refused r) = 0
+
+module _ (n s c : ℕ) (t list : List ℕ) (k : Kept n s c t) where
+  pub hand-answers : handed n s c t list .answer ≡ Codes (length (handedCodes (length list) n s t))
+  unfolding handed handedOpen
+  hand-answers = rw (sound-judged n s c t k)
+
+  pub listed-is : (i : ℕ) → handed n s c t list .answer ≡ Codes i → take i (handed n s c t list .list) ≡ handedCodes (length list) n s t
+  unfolding handed handedOpen handedCodes codesIn
+  listed-is i e =
+      let l : List ℕ = handOut (length list) n s (recordsIn s t) in
+      let z : length l ≡ i = ap codesIn (sym hand-answers ∙ e) in
+      rw (sound-judged n s c t k) (splice-same list 0 l i z (omega (arith, short (length list) n s (recordsIn s t))))
+
+  pub listed-pending : (i : ℕ) → handed n s c t list .answer ≡ Codes i → Pending n s t (handed n s c t list .table) (take i (handed n s c t list .list))
+  unfolding handed handedOpen
+  listed-pending i e = record { room = length list; table = rw (sound-judged n s c t k); codes = listed-is i e }
+
+-- a code tells its instance
+code-owner : (o j : ℕ) → j < 256 → codeOf o j / 256 ≡ o
+code-owner o j l = omega arith
+
+code-number : (o j : ℕ) → j < 256 → codeOf o j % 256 ≡ j
+code-number o j l = omega arith
+
+-- one mark is saved: it was listed first, it is what the saved table hands out next, and the rest is still pending
+pub record Marked (n s c : ℕ) (t u : List ℕ) (code : ℕ) (rest : List ℕ) : Type 0 where
+  pub owner : ℕ
+  pub number : ℕ
+  pub found : Found n s (candidate n s (recordsIn s t)) (At owner number)
+  pub next : nextOut n s (recordsIn s t) ≡ At owner number
+  pub is-owner : code / 256 ≡ owner
+  pub is-number : code % 256 ≡ number
+  pub saved : savedPart n s c t u owner number ≡ markIn s t owner number
+  pub pending : Pending n s (markIn s t owner number) u rest
+
+pub marked-next : (n s c : ℕ) (t u : List ℕ) (code : ℕ) (rest l : List ℕ) → Kept n s c t → Pending n s t u l → l ≡ code ∷ rest → Marked n s c t u code rest
+unfolding handedCodes handOut
+marked-next n s c t u code rest l k p e = by (p .room) (p .table) (sym e ∙ p .codes)
+  where
+    found-here : (room : ℕ) (f : First) → nextOut n s (recordsIn s t) ≡ f → Found n s (candidate n s (recordsIn s t)) f → u ≡ handedTable (suc room) n s t
+        → code ∷ rest ≡ handedCodes (suc room) n s t → Marked n s c t u code rest
+    found-here room Nowhere g f x y = empty (sym (y ∙ rw g))
+    found-here room (At o j) g f x y =
+        let z : code ∷ rest ≡ codeOf o j ∷ handedCodes room n s (markIn s t o j) = y ∙ next-codes n s c t k o j f room g in
+        let q : code ≡ codeOf o j = ap (λ (l : List ℕ). getD l 0 0) z in
+        let small : j < 256 = let a = names n s c t o j (k .setup) (f .0) in omega (arith, a .last, a .numbers) in
+        record {
+          owner = o;
+          number = j;
+          found = f;
+          next = g;
+          is-owner = ap (λ (m : ℕ). m / 256) q ∙ code-owner o j small;
+          is-number = ap (λ (m : ℕ). m % 256) q ∙ code-number o j small;
+          saved = rw x (save-mark n s c t k o j f room g);
+          pending = record { room = room; table = x ∙ next-table n s c t k o j f room g; codes = ap (drop 1) z };
+        }
+
+    by : (room : ℕ) → u ≡ handedTable room n s t → code ∷ rest ≡ handedCodes room n s t → Marked n s c t u code rest
+    by zero x y = empty (sym y)
+    by (suc room) x y = found-here room (nextOut n s (recordsIn s t)) refl (nextOut-found n s (recordsIn s t)) x y

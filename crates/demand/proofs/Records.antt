@@ -1,0 +1,88 @@
+-- A table's bytes as records, blank out of range: put into the bytes is put into the records. Assumes nothing.
+use Prim.Native.Nat.{ℕ, _<_}
+use mathlib.Core.Path.{_≡_, refl, sym, ap, _∙_, fun-ext}
+use mathlib.Core.Bool.{Bool, true, false, _&&_, _||_, cond}
+use mathlib.Core.List.{List}
+use native.Mathlib.Omega.{arith}
+use lib.Dec.{eqb}
+use borrow.Author.Tests.{eqb-true, lt-ltb}
+use Rattle.paper.specs.Setup.{setupOk, copiesOk}
+use Rattle.paper.specs.Instance.{instanceOk}
+use Rattle.paper.specs.Vote.{blank}
+use Rattle.paper.specs.declared.Record.{Record}
+use Rattle.record.specs.Layout.{recordAt}
+use Rattle.record.proofs.Round.{recordAt-recordBytes}
+use Rattle.rules.specs.Seen.{Records}
+use Rattle.rules.specs.Events.{put}
+use Rattle.table.specs.Table.{blankTable, recordIn, putRecord}
+use Rattle.table.specs.Sizes.{Names}
+use Rattle.table.proofs.Laws.{sizes, names}
+use Rattle.table.proofs.Round.{get-put, get-put-other}
+use Rattle.seen.specs.Records.{recordsIn}
+use Rattle.closed.specs.Held.{Held, SoundRecords}
+use Rattle.closed.proofs.Laws.{two, both, clash, eqb-self}
+use Rattle.closed.proofs.Shapes.{blank-held}
+use Rattle.log.proofs.Held.{sound-records}
+use Rattle.safety.specs.Run.{Setup}
+use Rattle.demand.proofs.Fits.{record-fits}
+use Rattle.demand.proofs.Saved.{Kept, blank-kept, blank-part}
+use Rattle.demand.proofs.Range.{Alike}
+
+-- the records of a table, blank where there is no instance
+pub records : ℕ → ℕ → List ℕ → Records
+records n s t o j = cond (instanceOk n s o j) (recordIn s t o j) blank
+
+module _ (n s : ℕ) where
+  pub at-range : (t : List ℕ) (o j : ℕ) → instanceOk n s o j ≡ true → records n s t o j ≡ recordIn s t o j
+  unfolding records
+  at-range t o j i = rw i
+
+  pub alike : (t : List ℕ) → Alike n s (recordsIn s t) (records n s t)
+  alike t o j i = sym (at-range t o j i)
+
+  -- every copy of a setup has its numbers
+  pub setup-at : Setup n s → (c : ℕ) → c < n → setupOk n s c ≡ true
+  unfolding setupOk
+  setup-at h c l = both _ _ (both _ _ (h .copies) (h .numbers)) (lt-ltb c n l)
+
+  some-copy : copiesOk n ≡ true → 0 < n
+  some-copy h = go (eqb n 3) (eqb n 5) refl refl h
+    where
+      go : (a b : Bool) → eqb n 3 ≡ a → eqb n 5 ≡ b → (a || b || eqb n 7) ≡ true → 0 < n
+      go true b e f k = omega (arith, eqb-true n 3 e)
+      go false true e f k = omega (arith, eqb-true n 5 f)
+      go false false e f k = omega (arith, eqb-true n 7 k)
+
+  pub blank-records : Setup n s → (c : ℕ) → records n s (blankTable n s c) ≡ (λ o j. blank)
+  unfolding records
+  blank-records h c = fun-ext (λ o. fun-ext (λ j. go o j (instanceOk n s o j) refl))
+    where
+      go : (o j : ℕ) (b : Bool) → instanceOk n s o j ≡ b → cond b (recordIn s (blankTable n s c) o j) blank ≡ blank
+      go o j false e = refl
+      go o j true e =
+          let k = blank-kept n s 0 (setup-at h 0 (some-copy (h .copies))) in
+          let a : Names n s o j = names n s 0 (blankTable n s 0) o j (k .setup) e in
+          ap recordAt (blank-part n s c o j a) ∙ recordAt-recordBytes blank (record-fits blank (blank-held n s c o .fits))
+
+  -- a record that holds is put into a table
+  module _ (c : ℕ) (t : List ℕ) (k : Kept n s c t) where
+    pub held : SoundRecords n s c (recordsIn s t)
+    held = sound-records n s c t (k .bytes) (k .setup) (k .sound)
+
+    pub put-records : (o j : ℕ) → instanceOk n s o j ≡ true → (r : Record) → Held n s c o r → records n s (putRecord s t o j r) ≡ put (records n s t) o j r
+    unfolding records put
+    put-records o j i r h = fun-ext (λ p. fun-ext (λ q. go p q (eqb p o && eqb q j) refl))
+      where
+        other : (p q : ℕ) → ((o ≡ p) × (j ≡ q) → ⊥) → (b : Bool) → instanceOk n s p q ≡ b
+            → cond b (recordIn s (putRecord s t o j r) p q) blank ≡ cond b (recordIn s t p q) blank
+        other p q ne false e = refl
+        other p q ne true e =
+            get-put-other n s t (sizes n s c t (k .setup) .long) o j (names n s c t o j (k .setup) i) r (h .fits .seven) p q (names n s c t p q (k .setup) e) ne
+
+        go : (p q : ℕ) (b : Bool) → (eqb p o && eqb q j) ≡ b
+            → cond (instanceOk n s p q) (recordIn s (putRecord s t o j r) p q) blank ≡ cond b r (cond (instanceOk n s p q) (recordIn s t p q) blank)
+        go p q true e =
+            let (x, y) = two _ _ e in
+            rw (eqb-true p o x, eqb-true q j y, i) (get-put n s t (sizes n s c t (k .setup) .long) o j (names n s c t o j (k .setup) i) r (h .fits .seven) (record-fits r (h .fits)))
+        go p q false e =
+            other p q (λ (x, y). let z : (eqb p o && eqb q j) ≡ true = rw (← x, ← y) (both _ _ (eqb-self o) (eqb-self j)) in clash (cc)) (instanceOk n s p q) refl

@@ -1,0 +1,205 @@
+-- A call that answers an event on a sound table is a move of the rules on its records. Assumes nothing.
+use Prim.Native.Nat.{ℕ, zero, suc, _+_, _≤_, _<_}
+use mathlib.Core.Path.{_≡_, refl, sym, ap, ap₂, _∙_}
+use mathlib.Core.Bool.{Bool, true, false, _&&_, _||_, not, cond}
+use mathlib.Core.List.{List, _++_}
+use native.Mathlib.Omega.{arith}
+use lib.Dec.{ltb, eqb}
+use lib.ListN.{length}
+use borrow.Author.Tests.{ltb-false, not-false}
+use Rattle.codec.specs.Parts.{opOf}
+use Rattle.paper.specs.Setup.{setupOk}
+use Rattle.paper.specs.Instance.{instanceOk}
+use Rattle.paper.specs.Command.{isNoop, commandOk}
+use Rattle.paper.specs.Valid.{valid}
+use Rattle.paper.specs.Refusal.{numberOf}
+use Rattle.paper.proofs.Laws.{and-true}
+use Rattle.paper.proofs.Numbers.{numberOf-pos}
+use Rattle.paper.specs.declared.Command.{Command}
+use Rattle.paper.specs.declared.Record.{Record}
+use Rattle.paper.specs.declared.Message.{Message}
+use Rattle.paper.specs.declared.Refusal.{Refusal}
+use Rattle.paper.specs.declared.Refusal.the-variants as why
+use Rattle.rules.specs.declared.Step.{Step}
+use Rattle.rules.specs.Seen.{Records}
+use Rattle.rules.specs.Step.{isCommitted}
+use Rattle.rules.specs.Received.{refused10}
+use Rattle.rules.specs.Recover.{outOfBallots}
+use Rattle.rules.specs.Nudge.{nothingToNudge}
+use Rattle.rules.specs.Events.{put, requestNumber, onRequest, onMessage, onRecover, onNudge, messages}
+use Rattle.rules.proofs.Rests.{blank-above}
+use Rattle.wire.specs.Wire.{messageAt, validBytes, framed, opFits}
+use Rattle.table.specs.Table.{fits, recordIn}
+use Rattle.seen.specs.Records.{recordsIn}
+use Rattle.closed.specs.Fits.{CommandFits}
+use Rattle.closed.specs.Held.{Closed}
+use Rattle.closed.proofs.Heard.{valid-instance}
+use Rattle.closed.proofs.Closed.{request-event, message-event, recover-event, nudge-event}
+use Rattle.log.specs.declared.Gate.the-variants.{Open, Shut}
+use Rattle.log.specs.Events.{Outcome, refuse, acted, gateOf, gated, through, requestOpen, receiveOpen, recoverOpen, nudgeOpen, answerNumber}
+use Rattle.safety.specs.Run.{replaced}
+use Rattle.safety.specs.Run as rules
+use Rattle.demand.specs.Run.{Call, request, receive, recover, nudge, outcome, recorded}
+use Rattle.demand.proofs.Saved.{Kept, setup-of}
+use Rattle.demand.proofs.Range.{in-range, number-alike, request-alike, message-alike, recover-alike, nudge-alike}
+use Rattle.demand.proofs.Records.{records, at-range, alike, held}
+use Rattle.demand.proofs.Written.{Carried}
+
+-- a refusal that was not given
+pub record Past (b : Bool) (x rest : Outcome) : Type 0 where
+  pub test : b ≡ false
+  pub is : x ≡ rest
+  pub answered : answerNumber (rest .answer) ≡ 0
+
+past : (b : Bool) (r : Refusal) (t out : List ℕ) (x rest : Outcome) → x ≡ cond b (refuse r t out) rest → answerNumber (x .answer) ≡ 0 → Past b x rest
+past true r t out x rest e h = let z : numberOf r ≡ 0 = ap (λ (y : Outcome). answerNumber (y .answer)) (sym e) ∙ h in absurd (omega (arith, numberOf-pos r))
+past false r t out x rest e h = record { test = refl; is = e; answered = ap (λ (y : Outcome). answerNumber (y .answer)) (sym e) ∙ h }
+
+-- a sound table is refused neither 1 nor 11
+pub gate-is : (n s c : ℕ) (t out : List ℕ) (rest : Outcome) → Kept n s c t → gated n s c t out rest ≡ cond (ltb (length out) 256) (refuse why.Room t out) rest
+unfolding gated gateOf
+gate-is n s c t out rest k = rw (k .setup, k .sound) (go (ltb (length out) 256))
+  where
+    go : (b : Bool) → through (cond b (Shut why.Room) Open) t out rest ≡ cond b (refuse why.Room t out) rest
+    go true = refl
+    go false = refl
+
+-- what was asked of a call before it is made
+abbrev pub Brought : ℕ → ℕ → List Message → Call → Type 0
+Brought n s l (request op key edit) = CommandFits (record { op = opOf op; key = key; edit = edit })
+Brought n s l (receive b) = Carried n s l b
+Brought n s l (recover o j) = Unit {0}
+Brought n s l (nudge o j) = Unit {0}
+
+-- the instance of a call at copy c, and what it does there to a table of records
+abbrev pub ownerIn : ℕ → Call → ℕ
+ownerIn c (request op key edit) = c
+ownerIn c (receive b) = messageAt b .owner
+ownerIn c (recover o j) = o
+ownerIn c (nudge o j) = o
+
+abbrev pub numberIn : ℕ → ℕ → Records → Call → ℕ
+numberIn s c u (request op key edit) = requestNumber s c u
+numberIn s c u (receive b) = messageAt b .number
+numberIn s c u (recover o j) = j
+numberIn s c u (nudge o j) = j
+
+abbrev pub stepIn : ℕ → ℕ → ℕ → Records → Call → Step
+stepIn n s c u (request op key edit) = onRequest n s c u (record { op = opOf op; key = key; edit = edit })
+stepIn n s c u (receive b) = onMessage n s c u (messageAt b)
+stepIn n s c u (recover o j) = onRecover n c u o j
+stepIn n s c u (nudge o j) = onNudge n c u o j
+
+-- the rules' run after it, once the messages l have left
+abbrev pub moved : ℕ → ℕ → rules.State → ℕ → Call → List Message → rules.State
+moved n s y c call l =
+    record {
+      tables = replaced (y .tables) c (put (y .tables c) (ownerIn c call) (numberIn s c (y .tables c) call) (stepIn n s c (y .tables c) call .entry));
+      sent = y .sent ++ l;
+      requested = recorded (y .requested) (ownerIn c call) (numberIn s c (y .tables c) call) call;
+      marks = y .marks;
+    }
+
+pub record Stepped (n s c : ℕ) (t out : List ℕ) (call : Call) (y : rules.State) : Type 0 where
+  pub is : outcome n s c t out call ≡ acted s t out (ownerIn c call) (numberIn s c (y .tables c) call) (stepIn n s c (y .tables c) call)
+  pub range : instanceOk n s (ownerIn c call) (numberIn s c (y .tables c) call) ≡ true
+  pub closed : Closed n s c (ownerIn c call) (stepIn n s c (y .tables c) call)
+  pub long : 256 ≤ length out
+  pub move : (l : List Message) → rules.Among l (messages (stepIn n s c (y .tables c) call)) → rules.Move n s y (moved n s y c call l)
+
+-- a request's op is a read or a write
+op-asked : (op : ℕ) → (eqb op 1 || eqb op 2) ≡ true → (key edit : ℕ) → isNoop (record { op = opOf op; key = key; edit = edit }) ≡ false
+op-asked zero e key edit = sym e
+op-asked (suc zero) e key edit = refl
+op-asked (suc (suc op)) e key edit = refl
+
+module _ (n s c : ℕ) (t out : List ℕ) (k : Kept n s c t) (copy : c < n) (y : rules.State) (at : y .tables c ≡ records n s t) where
+  abbrev setup : setupOk n s c ≡ true
+  setup = setup-of n s c t (k .setup)
+
+  here : (o j : ℕ) → instanceOk n s o j ≡ true → y .tables c o j ≡ recordIn s t o j
+  here o j i = ap (λ (u : Records). u o j) at ∙ at-range n s t o j i
+
+  request-step : (op key edit : ℕ) → Brought n s (y .sent) (request op key edit) → answerNumber (outcome n s c t out (request op key edit) .answer) ≡ 0
+      → Stepped n s c t out (request op key edit) y
+  unfolding requestOpen requestNumber commandOk
+  request-step op key edit f h =
+      let v : Command = record { op = opOf op; key = key; edit = edit } in
+      let j : ℕ = requestNumber s c (recordsIn s t) in
+      let x : Step = onRequest n s c (recordsIn s t) v in
+      let a = past _ why.Room t out _ _ (gate-is n s c t out (requestOpen n s c t out op key edit) k) h in
+      let b = past (not (eqb op 1 || eqb op 2)) why.Op t out (requestOpen n s c t out op key edit) _ refl (a .answered) in
+      let d = past (ltb s j) why.Full t out _ (acted s t out c j x) refl (b .answered) in
+      let noop : isNoop v ≡ false = op-asked op (not-false _ (b .test)) key edit in
+      let small : j ≤ s = ltb-false s j (d .test) in
+      let num : requestNumber s c (y .tables c) ≡ j = ap (requestNumber s c) at ∙ sym (number-alike n s (recordsIn s t) (records n s t) (alike n s t) c copy) in
+      let same : onRequest n s c (y .tables c) v ≡ x = ap (λ (u : Records). onRequest n s c u v) at ∙ sym (request-alike n s (recordsIn s t) (records n s t) (alike n s t) c copy v) in
+      record {
+        is = a .is ∙ b .is ∙ d .is ∙ ap₂ (λ (i : ℕ) (z : Step). acted s t out c i z) (sym num) (sym same);
+        range = rw num (in-range n s c j copy (blank-above s 1 (recordsIn s t c)) small);
+        closed = rw same (request-event n s c setup (recordsIn s t) (held n s c t k) v (rw noop) f noop small);
+        long = ltb-false (length out) 256 (a .test);
+        move = λ l am. rules.request c v l copy noop (rw num small) am;
+      }
+
+  receive-step : (b : List ℕ) → Brought n s (y .sent) (receive b) → answerNumber (outcome n s c t out (receive b) .answer) ≡ 0 → Stepped n s c t out (receive b) y
+  unfolding receiveOpen validBytes
+  receive-step b f h =
+      let m : Message = messageAt b in
+      let x : Step = onMessage n s c (recordsIn s t) m in
+      let a = past _ why.Room t out _ _ (gate-is n s c t out (receiveOpen n s c t out b) k) h in
+      let d = past (not (validBytes n s c b)) why.Message t out (receiveOpen n s c t out b) _ refl (a .answered) in
+      let e = past (refused10 (recordIn s t (m .owner) (m .number)) m) why.Differs t out _ (acted s t out (m .owner) (m .number) x) refl (d .answered) in
+      let v : valid n s c m ≡ true = and-true (framed b && opFits b) _ (not-false _ (d .test)) .1 in
+      let i : instanceOk n s (m .owner) (m .number) ≡ true = valid-instance n s c m v in
+      let same : onMessage n s c (y .tables c) m ≡ x = ap (λ (u : Records). onMessage n s c u m) at ∙ sym (message-alike n s (recordsIn s t) (records n s t) (alike n s t) c m i) in
+      record {
+        is = a .is ∙ d .is ∙ e .is ∙ ap (acted s t out (m .owner) (m .number)) (sym same);
+        range = i;
+        closed = rw same (message-event n s c setup (recordsIn s t) (held n s c t k) m v (f .fits));
+        long = ltb-false (length out) 256 (a .test);
+        move = λ l am. rules.receive c m l copy (f .among) v (rw (here (m .owner) (m .number) i) (e .test)) am;
+      }
+
+  recover-step : (o j : ℕ) → answerNumber (outcome n s c t out (recover o j) .answer) ≡ 0 → Stepped n s c t out (recover o j) y
+  unfolding recoverOpen
+  recover-step o j h =
+      let x : Step = onRecover n c (recordsIn s t) o j in
+      let r : Record = recordIn s t o j in
+      let a = past _ why.Room t out _ _ (gate-is n s c t out (recoverOpen n s c t out o j) k) h in
+      let b = past (not (instanceOk n s o j)) why.Instance t out (recoverOpen n s c t out o j) _ refl (a .answered) in
+      let d = past (isCommitted r) why.Committed t out _ (cond (outOfBallots r) (refuse why.Ballots t out) (acted s t out o j x)) refl (b .answered) in
+      let e = past (outOfBallots r) why.Ballots t out _ (acted s t out o j x) refl (d .answered) in
+      let i : instanceOk n s o j ≡ true = not-false _ (b .test) in
+      let same : onRecover n c (y .tables c) o j ≡ x = ap (λ (u : Records). onRecover n c u o j) at ∙ sym (recover-alike n s (recordsIn s t) (records n s t) (alike n s t) c o j i) in
+      record {
+        is = a .is ∙ b .is ∙ d .is ∙ e .is ∙ ap (acted s t out o j) (sym same);
+        range = i;
+        closed = rw same (recover-event n s c setup (recordsIn s t) (held n s c t k) o j i (d .test) (e .test));
+        long = ltb-false (length out) 256 (a .test);
+        move = λ l am. rules.recover c o j l copy i (rw (here o j i) (d .test)) (rw (here o j i) (e .test)) am;
+      }
+
+  nudge-step : (o j : ℕ) → answerNumber (outcome n s c t out (nudge o j) .answer) ≡ 0 → Stepped n s c t out (nudge o j) y
+  unfolding nudgeOpen
+  nudge-step o j h =
+      let x : Step = onNudge n c (recordsIn s t) o j in
+      let r : Record = recordIn s t o j in
+      let a = past _ why.Room t out _ _ (gate-is n s c t out (nudgeOpen n s c t out o j) k) h in
+      let b = past (not (instanceOk n s o j)) why.Instance t out (nudgeOpen n s c t out o j) _ refl (a .answered) in
+      let d = past (nothingToNudge r) why.Idle t out _ (acted s t out o j x) refl (b .answered) in
+      let i : instanceOk n s o j ≡ true = not-false _ (b .test) in
+      let same : onNudge n c (y .tables c) o j ≡ x = ap (λ (u : Records). onNudge n c u o j) at ∙ sym (nudge-alike n s (recordsIn s t) (records n s t) (alike n s t) c o j i) in
+      record {
+        is = a .is ∙ b .is ∙ d .is ∙ ap (acted s t out o j) (sym same);
+        range = i;
+        closed = rw same (nudge-event n s c setup (recordsIn s t) (held n s c t k) o j i (d .test));
+        long = ltb-false (length out) 256 (a .test);
+        move = λ l am. rules.nudge c o j l copy i (rw (here o j i) (d .test)) am;
+      }
+
+  pub stepped : (call : Call) → Brought n s (y .sent) call → answerNumber (outcome n s c t out call .answer) ≡ 0 → Stepped n s c t out call y
+  stepped (request op key edit) f h = request-step op key edit f h
+  stepped (receive b) f h = receive-step b f h
+  stepped (recover o j) f h = recover-step o j h
+  stepped (nudge o j) f h = nudge-step o j h

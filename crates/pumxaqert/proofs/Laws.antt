@@ -1,0 +1,96 @@
+-- Answers as numbers: one law for each outcome. Assumes nothing.
+use mathlib.Core.Path.{_≡_, refl, sym, ap, _∙_}
+use mathlib.Core.Bool.{Bool, true, false, _&&_}
+use mathlib.Core.List.{List, [], _∷_}
+use Prim.Native.Nat.{ℕ, _≤_, _<_}
+use lib.Dec.{eqb}
+use lib.ListN.{replicate, take, drop}
+use borrow.Author.Tests.{eq-eqb, ne-eqb}
+use Rattle.paper.specs.Instance.{instanceOk}
+use Rattle.paper.specs.Message.{kindOf, votedIn, joinedIn, noMessage}
+use Rattle.paper.specs.Refusal.{numberOf}
+use Rattle.paper.specs.declared.Body.{Body}
+use Rattle.paper.specs.declared.Message.{Message}
+use Rattle.paper.specs.declared.Refusal.{Refusal}
+use Rattle.table.specs.Place.{placeOf}
+use Rattle.table.specs.Table.{fits}
+use Rattle.table.specs.Calls.{partOf}
+use Rattle.wire.specs.declared.Reading.{Reading}
+use Rattle.wire.specs.declared.Reading.the-variants as reading
+use Rattle.wire.specs.declared.Received.{Received}
+use Rattle.wire.specs.declared.Writing.{Writing}
+use Rattle.wire.specs.Calls.{readingNumber, wrote, writingNumber, writingCount}
+use Rattle.order.specs.declared.Settling.the-variants as settling
+use Rattle.paper.specs.Command.{opNumber}
+use Rattle.paper.specs.declared.Command.{Command}
+use Rattle.pumxaqert.specs.Flat.{partStart, partLength, settlingValues}
+use Rattle.pumxaqert.specs.Fields.{otherBallot, fieldsOf, readValues, messageFrom, sameFields, messageOf}
+
+pub other-8 : (b : Body) → kindOf b ≡ 8 → joinedIn b ≡ otherBallot b
+unfolding otherBallot
+other-8 b e = rw (eq-eqb (kindOf b) 8 e)
+
+pub other-not : (b : Body) → (kindOf b ≡ 8 → ⊥) → votedIn b ≡ otherBallot b
+unfolding otherBallot
+other-not b e = rw (ne-eqb (kindOf b) 8 e)
+
+module _ (n s c : ℕ) (t : List ℕ) (o j : ℕ) where
+  pub part-none : (fits n s c t && instanceOk n s o j) ≡ false → (0 ≡ partStart n s c t o j) × (0 ≡ partLength n s c t o j)
+  unfolding partStart partLength
+  part-none e = (rw e, rw e)
+
+  pub part-some : {at : ℕ} → (fits n s c t && instanceOk n s o j) ≡ true → at ≡ placeOf s o j → (at ≡ partStart n s c t o j) × (263 ≡ partLength n s c t o j)
+  unfolding partStart partLength
+  part-some e p = (p ∙ rw e, rw e)
+
+  -- start and length are the saved part's
+  pub part-is : take (partLength n s c t o j) (drop (partStart n s c t o j) t) ≡ partOf n s c t o j
+  unfolding partStart partLength partOf
+  part-is = go (fits n s c t && instanceOk n s o j) refl
+    where
+      go : (b : Bool) → (fits n s c t && instanceOk n s o j) ≡ b → take (partLength n s c t o j) (drop (partStart n s c t o j) t) ≡ partOf n s c t o j
+      go true e = rw e
+      go false e = rw e
+
+module _ {x y : Received} (e : x ≡ y) where
+  answers : x .answer ≡ y .answer
+  answers = ap (λ (z : Received). z .answer) e
+
+  pub read-valid : {f : List ℕ} → x .answer ≡ reading.Valid → f ≡ fieldsOf (x .message) → (0 ≡ readingNumber (y .answer)) × (f ≡ readValues (y .answer) (y .message))
+  read-valid v ef =
+      let q : reading.Valid ≡ y .answer = sym v ∙ answers in
+      (
+        ap readingNumber q,
+        ef ∙ ap (λ (z : Received). fieldsOf (z .message)) e ∙ ap (λ (a : Reading). readValues a (y .message)) q,
+      )
+
+  pub read-refused : (r : Refusal) {k : ℕ} {f : List ℕ} → x .answer ≡ reading.Refused r → k ≡ numberOf r → f ≡ replicate 18 0
+      → (k ≡ readingNumber (y .answer)) × (f ≡ readValues (y .answer) (y .message))
+  read-refused r v ek ef =
+      let q : reading.Refused r ≡ y .answer = sym v ∙ answers in
+      (ek ∙ ap readingNumber q, ef ∙ ap (λ (a : Reading). readValues a (y .message)) q)
+
+-- the message whose fields these are
+pub message-is : (fs g : List ℕ) {m : Message} → m ≡ messageFrom fs → g ≡ fieldsOf m → sameFields fs g ≡ true → m ≡ messageOf fs
+unfolding messageOf
+message-is fs g em eg e =
+    let q : sameFields fs (fieldsOf (messageFrom fs)) ≡ true = ap (sameFields fs) (sym (eg ∙ ap fieldsOf em)) ∙ e in
+    em ∙ rw q
+
+pub message-none : (fs g : List ℕ) {m : Message} → m ≡ messageFrom fs → g ≡ fieldsOf m → sameFields fs g ≡ false → noMessage ≡ messageOf fs
+unfolding messageOf
+message-none fs g em eg e =
+    let q : sameFields fs (fieldsOf (messageFrom fs)) ≡ false = ap (sameFields fs) (sym (eg ∙ ap fieldsOf em)) ∙ e in
+    rw q
+
+-- a written message, as numbers
+pub wrote-as : (n s c : ℕ) (out fs : List ℕ) {m : Message} {x : Writing} {o : List ℕ} → m ≡ messageOf fs → x ≡ wrote n s c out m .answer → o ≡ wrote n s c out m .out
+    → (y : Writing) → x ≡ y
+    → (writingNumber y ≡ writingNumber (wrote n s c out (messageOf fs) .answer)) × ((writingCount y ≡ writingCount (wrote n s c out (messageOf fs) .answer)) × (o ≡ wrote n s c out (messageOf fs) .out))
+wrote-as n s c out fs em ex eo y e =
+    let q = sym e ∙ ex ∙ ap (λ (k : Message). wrote n s c out k .answer) em in
+    (ap writingNumber q, (ap writingCount q, eo ∙ ap (λ (k : Message). wrote n s c out k .out) em))
+
+-- a settled instance's command, as numbers
+pub settled-values : (k : Command) {a b : ℕ} → a ≡ opNumber (k .op) → b ≡ k .key → (1 ∷ a ∷ b ∷ k .edit ∷ []) ≡ settlingValues (settling.Settled k)
+settled-values k p q = λ i. 1 ∷ p i ∷ q i ∷ k .edit ∷ []

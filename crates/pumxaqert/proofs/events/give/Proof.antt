@@ -1,0 +1,22 @@
+use borrow.Author.Needs.{needs}
+use Rattle.pumxaqert.proofs.events.give.Statement.{statement}
+use Rattle.pumxaqert.proofs.events.give.Tie as tie
+use mathlib.Core.Path.{_≡_, refl, sym, ap, ap₂, _∙_}
+
+enum-known-a : tie.Need-enum-known-a
+enum-known-a c = search needs
+
+enum-known-a-2 : tie.Need-enum-known-a-2
+enum-known-a-2 c = search needs
+
+number-of-requires : tie.Need-number-of-requires
+number-of-requires c κs = search needs
+
+returns : tie.Need-returns
+returns c = let e = c .before .before .a .given .1 in (rw e, rw e)
+
+returns-2 : tie.Need-returns-2
+returns-2 c = let e = c .before .before .before .a2 .given .1 in (c .number-of .ensures ∙ rw e, rw e)
+
+pub give-spec : {M : Type 1} → statement M
+give-spec = tie.close (tie.spec enum-known-a enum-known-a-2 number-of-requires returns returns-2)

@@ -1,0 +1,189 @@
+// A message as eighteen numbers, and back.
+use codec::op_of;
+use nouns::command::op_number;
+use nouns::logic::wide8;
+use nouns::message::command_in;
+use nouns::message::joined_in;
+use nouns::message::kind_of;
+use nouns::message::status_in;
+use nouns::message::voted_in;
+use paper::Body;
+use paper::Command;
+use paper::Message;
+ghost use mathlib.Core.Path.{_≡_};
+ghost use Prim.Native.Nat.{_%_, _<_};
+ghost use lib.ListN.{getD};
+ghost use Rattle.paper.specs.Message.{noMessage};
+ghost use Rattle.pumxaqert.specs.Fields.{otherBallot, fieldsOf, commandFrom, bodyFrom, depsFrom, messageFrom, sameFields, messageOf};
+
+fn from8(x: u8) -> u64
+    ensures { λ r. ⌜ r ≡ x ⌝ }
+{
+    x as u64
+}
+
+fn from16(x: u16) -> u64
+    ensures { λ r. ⌜ r ≡ x ⌝ }
+{
+    x as u64
+}
+
+pub fn from32(x: u32) -> u64
+    ensures { λ r. ⌜ r ≡ x ⌝ }
+{
+    x as u64
+}
+
+pub fn from_size(x: usize) -> u64
+    ensures { λ r. ⌜ r ≡ x ⌝ }
+{
+    x as u64
+}
+
+fn low8(x: u64) -> u8
+    ensures { λ r. ⌜ r ≡ x % 256 ⌝ }
+{
+    (x % 256) as u8
+}
+
+fn low16(x: u64) -> u16
+    ensures { λ r. ⌜ r ≡ x % 65_536 ⌝ }
+{
+    (x % 65_536) as u16
+}
+
+fn low32(x: u64) -> u32
+    ensures { λ r. ⌜ r ≡ x % 4_294_967_296 ⌝ }
+{
+    (x % 4_294_967_296) as u32
+}
+
+// Voted, or joined in a Nack.
+fn other_ballot(b: Body) -> u32
+    ensures { λ r. ⌜ r ≡ otherBallot b ⌝ }
+{
+    if wide8(kind_of(b)) == 8 {
+        return joined_in(b);
+    }
+    voted_in(b)
+}
+
+pub fn fields_of(m: Message) -> [u64; 18]
+    ensures { λ r. ⌜ r ≡ fieldsOf m ⌝ }
+{
+    let body = m.body;
+    let command = command_in(body);
+    let op = command.op;
+    let d = m.deps;
+    [
+        from8(kind_of(body)),
+        from8(m.from),
+        from8(m.to),
+        from8(m.owner),
+        from16(m.number),
+        from32(m.ballot),
+        from32(other_ballot(body)),
+        from8(status_in(body)),
+        from_size(op_number(op)),
+        from32(command.key),
+        command.edit,
+        from16(d[0]),
+        from16(d[1]),
+        from16(d[2]),
+        from16(d[3]),
+        from16(d[4]),
+        from16(d[5]),
+        from16(d[6]),
+    ]
+}
+
+fn command_from(f: &[u64; 18]) -> Command
+    ensures { λ r. ⌜ r ≡ commandFrom (now (f .entry)) ⌝ }
+{
+    let op = op_of(low8(f[8]));
+    let key = low32(f[9]);
+    let edit = f[10];
+    Command { op, key, edit }
+}
+
+fn body_from(k: u64, v: u32, t: u8, c: Command) -> Body
+    ensures { λ r. ⌜ r ≡ bodyFrom k v t c ⌝ }
+{
+    match k {
+        1 => Body::PreAccept(c),
+        2 => Body::PreAcceptOk,
+        3 => Body::Accept(c),
+        4 => Body::AcceptOk,
+        5 => Body::Commit(c),
+        7 => Body::PrepareOk {
+            voted: v,
+            status: t,
+            command: c,
+        },
+        8 => Body::Nack(v),
+        _ => Body::Prepare,
+    }
+}
+
+fn deps_from(f: &[u64; 18]) -> [u16; 7]
+    ensures { λ r. ⌜ r ≡ depsFrom (now (f .entry)) ⌝ }
+{
+    let d0 = low16(f[11]);
+    let d1 = low16(f[12]);
+    let d2 = low16(f[13]);
+    let d3 = low16(f[14]);
+    let d4 = low16(f[15]);
+    let d5 = low16(f[16]);
+    let d6 = low16(f[17]);
+    [d0, d1, d2, d3, d4, d5, d6]
+}
+
+// The message of these numbers, each cut to its place.
+fn message_from(f: &[u64; 18]) -> Message
+    ensures { λ r. ⌜ r ≡ messageFrom (now (f .entry)) ⌝ }
+{
+    let command = command_from(f);
+    let other = low32(f[6]);
+    let status = low8(f[7]);
+    let body = body_from(f[0], other, status, command);
+    let deps = deps_from(f);
+    let from = low8(f[1]);
+    let to = low8(f[2]);
+    let owner = low8(f[3]);
+    let number = low16(f[4]);
+    let ballot = low32(f[5]);
+    Message {
+        from,
+        to,
+        owner,
+        number,
+        ballot,
+        body,
+        deps,
+    }
+}
+
+fn same_fields(f: &[u64; 18], g: &[u64; 18]) -> bool
+    ensures { λ r. ⌜ r ≡ sameFields (now (f .entry)) (now (g .entry)) ⌝ }
+{
+    let mut left = 18;
+    while 0 < left {
+        left -= 1;
+        if f[left] != g[left] {
+            return false;
+        }
+    }
+    true
+}
+
+// The message whose fields these are; one that no copy takes where there is none.
+pub fn message_of(f: &[u64; 18]) -> Message
+    ensures { λ r. ⌜ r ≡ messageOf (now (f .entry)) ⌝ }
+{
+    let m = message_from(f);
+    let g = fields_of(m);
+    if same_fields(f, &g) {
+        return m;
+    }
+    step::made::no_message()
+}

@@ -1,0 +1,127 @@
+-- A record in no phase, with nothing collected, needs no look at its phase and its replies. Assumes nothing.
+use mathlib.Core.Path.{_≡_, refl, sym, ap, _∙_}
+use mathlib.Core.Bool.{Bool, true, false, _&&_}
+use mathlib.Core.List.{List, [], _∷_}
+use Prim.Native.Nat.{ℕ, zero, suc, _+_, _*_, _-_, _≤_, _<_}
+use native.Mathlib.Omega.{arith}
+use lib.Bits.{bitOr, bitAnd, or-add-and, and-le-l, and-le-r, or-zero-l}
+use lib.Dec.{leb, eqb}
+use lib.ListN.{length, getD, replicate}
+use borrow.Author.Tests.{eqb-true, eqb-false, eq-eqb, ne-eqb, le-leb}
+use Rattle.num.specs.Num.{numAt}
+use Rattle.num.specs.Fields.{sizeOf, fieldsAt}
+use Rattle.codec.specs.Parts.{voteWidths, voteOf, voteAt}
+use Rattle.paper.specs.Logic.{allBelow}
+use Rattle.paper.specs.Vote.{noVote, sameVote, member}
+use Rattle.paper.specs.Command.{sameCommand}
+use Rattle.paper.specs.Deps.{sameDeps}
+use Rattle.paper.proofs.Laws.{allBelow-at}
+use Rattle.paper.specs.declared.Vote.{Vote}
+use Rattle.paper.specs.Sound.{phasesOk, busyOk, preparingOk, proposingOk}
+use Rattle.record.specs.Layout.{recordAt}
+use Rattle.record.specs.Part.{opFits, replyPlace, replyPart, isIdle, plainOk, soundPart}
+use Rattle.record.proofs.Laws.{replyPart-out, sound-replies}
+
+-- bits of either number
+or-none : (a x : ℕ) → eqb (bitOr a x) 0 ≡ (eqb x 0 && eqb a 0)
+or-none a x = go (eqb x 0) refl (eqb a 0) refl
+  where
+    sum : bitOr a x + bitAnd a x ≡ a + x
+    sum = or-add-and a x
+
+    go : (p : Bool) → eqb x 0 ≡ p → (q : Bool) → eqb a 0 ≡ q → eqb (bitOr a x) 0 ≡ (eqb x 0 && eqb a 0)
+    go true e true f = rw (e, f) (eq-eqb (bitOr a x) 0 (omega (arith, sum, eqb-true x 0 e, eqb-true a 0 f)))
+    go true e false f =
+        rw (e, f) (ne-eqb (bitOr a x) 0 (λ z. eqb-false a 0 f (omega (arith, sum, and-le-r a x, eqb-true x 0 e, z))))
+    go false e q f =
+        rw e (ne-eqb (bitOr a x) 0 (λ z. eqb-false x 0 e (omega (arith, sum, and-le-l a x, z))))
+
+-- the bytes before i have no bit set that is not in `any`
+pub record Clear (b : List ℕ) (any i : ℕ) : Type 0 where
+  pub so : eqb any 0 ≡ allBelow (i - 37) (λ k. eqb (getD b (37 + k) 0) 0)
+  pub first : 37 ≤ i
+  pub last : i ≤ 263
+
+pub clear-start : (b : List ℕ) → Clear b 0 37
+unfolding allBelow
+clear-start b = record { so = refl; first = omega arith; last = omega arith }
+
+pub clear-next : (b : List ℕ) (any i : ℕ) → Clear b any i → i < 263 → {x : ℕ} → x ≡ getD b i 0 → Clear b (bitOr any x) (i + 1)
+unfolding allBelow
+clear-next b any i c h {x} e =
+    let f = c .first in
+    let k : i + 1 - 37 ≡ suc (i - 37) = omega arith in
+    let j : 37 + (i - 37) ≡ i = omega arith in
+    let so : eqb (bitOr any x) 0 ≡ (eqb (getD b (37 + (i - 37)) 0) 0 && allBelow (i - 37) (λ k. eqb (getD b (37 + k) 0) 0)) =
+        or-none any x ∙ rw (e, j, c .so) in
+    record { so = rw k so; first = omega arith; last = omega arith }
+
+pub clear-all : (b : List ℕ) (any i : ℕ) → Clear b any i → (i < 263 → ⊥) → eqb any 0 ≡ isIdle b
+unfolding isIdle
+clear-all b any i c h = let f = c .last in let k : i - 37 ≡ 226 = omega arith in c .so ∙ rw k
+
+-- zero bytes are the number 0
+numAt-zero : (w : ℕ) (b : List ℕ) (at : ℕ) → ((i : ℕ) → i < w → getD b (at + i) 0 ≡ 0) → numAt w b at ≡ 0
+numAt-zero zero b at h = refl
+numAt-zero (suc w) b at h =
+    let a : at + 0 ≡ at = omega arith in
+    let x : getD b at 0 ≡ 0 = ap (λ (k : ℕ). getD b k 0) (sym a) ∙ h 0 (omega arith) in
+    let y = numAt-zero w b (at + 1) (λ i l. let k : at + 1 + i ≡ at + suc i = omega arith in ap (λ (k : ℕ). getD b k 0) k ∙ h (suc i) (omega arith)) in
+    omega (arith, x, y)
+
+-- zero bytes are fields of 0
+fields-zero : (ws : List ℕ) (b : List ℕ) (at : ℕ) → ((i : ℕ) → i < sizeOf ws → getD b (at + i) 0 ≡ 0) → fieldsAt ws b at ≡ replicate (length ws) 0
+fields-zero [] b at h = refl
+fields-zero (w ∷ ws) b at h =
+    let x = numAt-zero w b at (λ i l. h i (omega arith)) in
+    let y = fields-zero ws b (at + w) (λ i l. let k : at + w + i ≡ at + (w + i) = omega arith in ap (λ (k : ℕ). getD b k 0) k ∙ h (w + i) (omega arith)) in
+    λ i. x i ∷ y i
+
+-- zero bytes are no vote
+vote-zero : (b : List ℕ) (at : ℕ) → ((i : ℕ) → i < 32 → getD b (at + i) 0 ≡ 0) → voteAt b at ≡ noVote
+unfolding voteAt
+vote-zero b at h = ap voteOf (fields-zero voteWidths b at h)
+
+no-member : (q : ℕ) → q < 7 → member q 0 ≡ false
+unfolding member
+no-member zero h = refl
+no-member (suc zero) h = refl
+no-member (suc (suc zero)) h = refl
+no-member (suc (suc (suc zero))) h = refl
+no-member (suc (suc (suc (suc zero)))) h = refl
+no-member (suc (suc (suc (suc (suc zero))))) h = refl
+no-member (suc (suc (suc (suc (suc (suc zero)))))) h = refl
+no-member (suc (suc (suc (suc (suc (suc (suc q))))))) h = absurd (omega arith)
+
+module _ (n s c : ℕ) (b : List ℕ) (h : isIdle b ≡ true) where
+  byte : (i : ℕ) → i < 226 → getD b (37 + i) 0 ≡ 0
+  unfolding isIdle
+  byte i l = eqb-true _ _ (allBelow-at 226 (λ i. eqb (getD b (37 + i) 0) 0) h i l)
+
+  zero-phase : numAt 1 b 37 ≡ 0
+  zero-phase = numAt-zero 1 b 37 (λ i m. byte i (omega arith))
+
+  zero-set : numAt 1 b 38 ≡ 0
+  zero-set = numAt-zero 1 b 38 (λ i m. let e : 38 + i ≡ 37 + (1 + i) = omega arith in ap (λ (k : ℕ). getD b k 0) e ∙ byte (1 + i) (omega arith))
+
+  reply : (q : ℕ) → q < 7 → replyPart n s c b q ≡ true
+  unfolding sameVote sameCommand sameDeps allBelow
+  reply q l =
+      let at : (k : ℕ) → k < 32 → getD b (replyPlace q + k) 0 ≡ 0 = λ k m.
+          let e : 39 + 32 * q + k ≡ 37 + (2 + 32 * q + k) = omega arith in
+          ap (λ (k : ℕ). getD b k 0) e ∙ byte (2 + 32 * q + k) (omega arith) in
+      let v = vote-zero b (replyPlace q) at in
+      let o : numAt 1 b (replyPlace q + 5) ≡ 0 = numAt-zero 1 b (replyPlace q + 5) (λ i m. let e : replyPlace q + 5 + i ≡ replyPlace q + (5 + i) = omega arith in ap (λ (k : ℕ). getD b k 0) e ∙ at (5 + i) (omega arith)) in
+      sym (replyPart-out n s c b q l (le-leb (numAt 1 b (replyPlace q + 5)) 2 (omega (arith, o))) (ap (member q) zero-set ∙ no-member q l)) ∙ ap (λ (x : Vote). sameVote x noVote) v
+
+  -- no phase, nothing collected: every clause about phases is met
+  idle-phase : (o : ℕ) → phasesOk n c o (recordAt b) ≡ true
+  unfolding phasesOk busyOk preparingOk proposingOk recordAt
+  idle-phase o = rw (zero-phase, zero-set)
+
+  pub quick : (o : ℕ) → plainOk n s b ≡ true → true ≡ soundPart n s c o b
+  unfolding allBelow
+  quick o f =
+      let at : (q : ℕ) → q < 7 → replyPart n s c b q ≡ true = reply in
+      let all : allBelow 7 (replyPart n s c b) ≡ true = rw (at 6 (omega arith), at 5 (omega arith), at 4 (omega arith), at 3 (omega arith), at 2 (omega arith), at 1 (omega arith), at 0 (omega arith)) in
+      sym all ∙ sound-replies n s c o b f (idle-phase o)

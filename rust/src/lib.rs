@@ -1,0 +1,325 @@
+//! One copy of a replicated edit log: a safe wrapper over the proved static library. It takes slices, which cannot
+//! overlap, and gives enums; it allocates nothing and keeps nothing.
+//!
+//! What a host must do with it is in docs/HOST.md.
+#![no_std]
+
+mod message;
+pub mod raw;
+
+pub use message::{Body, Command, Deps, Fields, Message, Op};
+
+/// Room that every event, and the writer, asks for.
+pub const ROOM: usize = 256;
+
+/// N copies, S numbers an owner, and which copy this is. Any numbers may stand here; the calls judge them.
+#[derive(Clone, Copy, Debug, PartialEq, Eq)]
+pub struct Setup {
+    pub n: usize,
+    pub s: usize,
+    pub copy: usize,
+}
+
+#[derive(Clone, Copy, Debug, PartialEq, Eq)]
+pub struct Instance {
+    pub owner: usize,
+    pub number: usize,
+}
+
+impl Instance {
+    /// The instance that a code of the hand-out list names.
+    pub fn of_code(code: u16) -> Instance {
+        Instance { owner: (code / 256) as usize, number: (code % 256) as usize }
+    }
+}
+
+/// Why a call did nothing, with the paper's numbers.
+#[derive(Clone, Copy, Debug, PartialEq, Eq)]
+#[repr(u32)]
+pub enum Refusal {
+    /// N, S, copy number or table length is wrong.
+    Setup = 1,
+    /// Room for outgoing bytes is under 256.
+    Room = 2,
+    /// A message is not valid.
+    Message = 3,
+    /// A request's op is not a read or a write.
+    Op = 4,
+    /// A request finds no blank own record.
+    NoBlank = 5,
+    /// An instance named by the host is out of range.
+    Instance = 6,
+    /// Recover with joined >= 4,294,967,288.
+    BallotsUsedUp = 7,
+    /// Recover of a committed instance.
+    RecoverCommitted = 8,
+    /// Nudge, not committed and phase 0.
+    NudgeIdle = 9,
+    /// A Commit differs from the stored one.
+    OtherCommit = 10,
+    /// The table is not sound.
+    Unsound = 11,
+}
+
+impl Refusal {
+    pub const ALL: [Refusal; 11] = [
+        Refusal::Setup,
+        Refusal::Room,
+        Refusal::Message,
+        Refusal::Op,
+        Refusal::NoBlank,
+        Refusal::Instance,
+        Refusal::BallotsUsedUp,
+        Refusal::RecoverCommitted,
+        Refusal::NudgeIdle,
+        Refusal::OtherCommit,
+        Refusal::Unsound,
+    ];
+
+    pub fn number(self) -> u32 {
+        self as u32
+    }
+
+    pub fn from_number(number: u32) -> Option<Refusal> {
+        Refusal::ALL.into_iter().find(|r| r.number() == number)
+    }
+}
+
+/// What an event did: its instance, and how many bytes at the front of the room leave once the record is saved.
+#[derive(Clone, Copy, Debug, PartialEq, Eq)]
+pub struct Event {
+    pub instance: Instance,
+    pub written: usize,
+}
+
+#[derive(Clone, Copy, Debug, PartialEq, Eq)]
+pub enum Settling {
+    /// The command that was agreed on: a no-op if the edit lost.
+    Settled(Command),
+    /// The uncommitted instance that comes first.
+    Waits(Instance),
+}
+
+/// A number that is not the paper's cannot come from the proved library: something else was linked.
+fn refused(number: u32) -> Result<(), Refusal> {
+    match number {
+        0 => Ok(()),
+        _ => Err(Refusal::from_number(number).expect("a refusal of the paper")),
+    }
+}
+
+fn event(number: u32, values: [usize; 3]) -> Result<Event, Refusal> {
+    let [owner, j, written] = values;
+    refused(number).map(|()| Event { instance: Instance { owner, number: j }, written })
+}
+
+impl Setup {
+    /// The length of a table of these sizes, docs/LAYOUT.md; none for sizes that no table has.
+    pub fn table_len(&self) -> Option<usize> {
+        let good = matches!(self.n, 3 | 5 | 7) && (1..=64).contains(&self.s);
+        good.then(|| 3 + 263 * self.n * self.s)
+    }
+
+    /// Writes a blank table.
+    pub fn blank(&self, table: &mut [u8]) -> Result<(), Refusal> {
+        // SAFETY: here and below, each pointer comes from a slice or array with its length, and no two overlap.
+        refused(unsafe {
+            raw::pumxaqert_blank(table.as_mut_ptr(), table.len(), self.n, self.s, self.copy)
+        })
+    }
+
+    /// Whether the table is sound.
+    pub fn judge(&self, table: &[u8]) -> Result<(), Refusal> {
+        refused(unsafe {
+            raw::pumxaqert_judge(table.as_ptr(), table.len(), self.n, self.s, self.copy)
+        })
+    }
+
+    /// Where in the table the instance's record stands: offset and length, both 0 where there is none.
+    pub fn part(&self, table: &[u8], at: Instance) -> (usize, usize) {
+        let mut length = 0;
+        let start = unsafe {
+            raw::pumxaqert_part(
+                table.as_ptr(),
+                table.len(),
+                self.n,
+                self.s,
+                self.copy,
+                at.owner,
+                at.number,
+                &mut length,
+            )
+        };
+        (start, length)
+    }
+
+    /// A read or write asked for at this copy.
+    pub fn request(
+        &self,
+        table: &mut [u8],
+        out: &mut [u8],
+        command: Command,
+    ) -> Result<Event, Refusal> {
+        let mut values = [0; 3];
+        let number = unsafe {
+            raw::pumxaqert_request(
+                table.as_mut_ptr(),
+                table.len(),
+                self.n,
+                self.s,
+                self.copy,
+                out.as_mut_ptr(),
+                out.len(),
+                command.op as usize,
+                command.key,
+                command.edit,
+                &mut values,
+            )
+        };
+        event(number, values)
+    }
+
+    /// A message that arrived at this copy.
+    pub fn message(
+        &self,
+        table: &mut [u8],
+        out: &mut [u8],
+        bytes: &[u8],
+    ) -> Result<Event, Refusal> {
+        let mut values = [0; 3];
+        let number = unsafe {
+            raw::pumxaqert_message(
+                table.as_mut_ptr(),
+                table.len(),
+                self.n,
+                self.s,
+                self.copy,
+                out.as_mut_ptr(),
+                out.len(),
+                bytes.as_ptr(),
+                bytes.len(),
+                &mut values,
+            )
+        };
+        event(number, values)
+    }
+
+    /// This copy takes over the instance.
+    pub fn recover(
+        &self,
+        table: &mut [u8],
+        out: &mut [u8],
+        at: Instance,
+    ) -> Result<Event, Refusal> {
+        let mut values = [0; 3];
+        let number = unsafe {
+            raw::pumxaqert_recover(
+                table.as_mut_ptr(),
+                table.len(),
+                self.n,
+                self.s,
+                self.copy,
+                out.as_mut_ptr(),
+                out.len(),
+                at.owner,
+                at.number,
+                &mut values,
+            )
+        };
+        event(number, values)
+    }
+
+    /// The instance's messages once more.
+    pub fn nudge(&self, table: &mut [u8], out: &mut [u8], at: Instance) -> Result<Event, Refusal> {
+        let mut values = [0; 3];
+        let number = unsafe {
+            raw::pumxaqert_nudge(
+                table.as_mut_ptr(),
+                table.len(),
+                self.n,
+                self.s,
+                self.copy,
+                out.as_mut_ptr(),
+                out.len(),
+                at.owner,
+                at.number,
+                &mut values,
+            )
+        };
+        event(number, values)
+    }
+
+    pub fn settled(&self, table: &[u8], at: Instance) -> Result<Settling, Refusal> {
+        let mut values = [0; 4];
+        refused(unsafe {
+            raw::pumxaqert_settled(
+                table.as_ptr(),
+                table.len(),
+                self.n,
+                self.s,
+                self.copy,
+                at.owner,
+                at.number,
+                &mut values,
+            )
+        })?;
+        let [settled, a, b, edit] = values;
+        Ok(if settled == 1 {
+            let op = Op::from_number(a).expect("an op of the paper");
+            Settling::Settled(Command { op, key: b as u32, edit })
+        } else {
+            Settling::Waits(Instance { owner: a as usize, number: b as usize })
+        })
+    }
+
+    /// Fills the list with codes and marks them; how many.
+    pub fn hand_out(&self, table: &mut [u8], list: &mut [u16]) -> Result<usize, Refusal> {
+        let mut codes = 0;
+        refused(unsafe {
+            raw::pumxaqert_hand_out(
+                table.as_mut_ptr(),
+                table.len(),
+                self.n,
+                self.s,
+                self.copy,
+                list.as_mut_ptr(),
+                list.len(),
+                &mut codes,
+            )
+        })?;
+        Ok(codes)
+    }
+
+    /// A message as received by this copy.
+    pub fn read_message(&self, bytes: &[u8]) -> Result<Message, Refusal> {
+        let mut fields = [0; 18];
+        refused(unsafe {
+            raw::pumxaqert_read_message(
+                self.n,
+                self.s,
+                self.copy,
+                bytes.as_ptr(),
+                bytes.len(),
+                &mut fields,
+            )
+        })?;
+        Ok(Message::from_fields(&fields).expect("numbers that fit their places"))
+    }
+
+    /// Writes a message at the front of the room; its length.
+    pub fn write_message(&self, out: &mut [u8], message: &Message) -> Result<usize, Refusal> {
+        let mut written = 0;
+        refused(unsafe {
+            raw::pumxaqert_write_message(
+                self.n,
+                self.s,
+                self.copy,
+                out.as_mut_ptr(),
+                out.len(),
+                &message.fields(),
+                &mut written,
+            )
+        })?;
+        Ok(written)
+    }
+}

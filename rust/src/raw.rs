@@ -1,0 +1,114 @@
+//! The C calls as `include/pumxaqert.h` declares them. The wrapper is in the crate's root; these are for who has to
+//! hand over what it cannot express.
+
+extern "C" {
+    pub fn pumxaqert_blank(table: *mut u8, table_len: usize, n: usize, s: usize, c: usize) -> u32;
+
+    pub fn pumxaqert_judge(table: *const u8, table_len: usize, n: usize, s: usize, c: usize)
+        -> u32;
+
+    pub fn pumxaqert_part(
+        table: *const u8,
+        table_len: usize,
+        n: usize,
+        s: usize,
+        c: usize,
+        owner: usize,
+        number: usize,
+        length: *mut usize,
+    ) -> usize;
+
+    pub fn pumxaqert_request(
+        table: *mut u8,
+        table_len: usize,
+        n: usize,
+        s: usize,
+        c: usize,
+        out: *mut u8,
+        out_len: usize,
+        op: usize,
+        key: u32,
+        edit: u64,
+        values: *mut [usize; 3],
+    ) -> u32;
+
+    pub fn pumxaqert_message(
+        table: *mut u8,
+        table_len: usize,
+        n: usize,
+        s: usize,
+        c: usize,
+        out: *mut u8,
+        out_len: usize,
+        bytes: *const u8,
+        bytes_len: usize,
+        values: *mut [usize; 3],
+    ) -> u32;
+
+    pub fn pumxaqert_recover(
+        table: *mut u8,
+        table_len: usize,
+        n: usize,
+        s: usize,
+        c: usize,
+        out: *mut u8,
+        out_len: usize,
+        owner: usize,
+        number: usize,
+        values: *mut [usize; 3],
+    ) -> u32;
+
+    pub fn pumxaqert_nudge(
+        table: *mut u8,
+        table_len: usize,
+        n: usize,
+        s: usize,
+        c: usize,
+        out: *mut u8,
+        out_len: usize,
+        owner: usize,
+        number: usize,
+        values: *mut [usize; 3],
+    ) -> u32;
+
+    pub fn pumxaqert_settled(
+        table: *const u8,
+        table_len: usize,
+        n: usize,
+        s: usize,
+        c: usize,
+        owner: usize,
+        number: usize,
+        values: *mut [u64; 4],
+    ) -> u32;
+
+    pub fn pumxaqert_hand_out(
+        table: *mut u8,
+        table_len: usize,
+        n: usize,
+        s: usize,
+        c: usize,
+        list: *mut u16,
+        list_len: usize,
+        codes: *mut usize,
+    ) -> u32;
+
+    pub fn pumxaqert_read_message(
+        n: usize,
+        s: usize,
+        c: usize,
+        bytes: *const u8,
+        bytes_len: usize,
+        fields: *mut [u64; 18],
+    ) -> u32;
+
+    pub fn pumxaqert_write_message(
+        n: usize,
+        s: usize,
+        c: usize,
+        out: *mut u8,
+        out_len: usize,
+        fields: *const [u64; 18],
+        written: *mut usize,
+    ) -> u32;
+}
