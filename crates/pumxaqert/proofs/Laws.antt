@@ -58,8 +58,7 @@ module _ {x y : Received} (e : x ≡ y) where
 
   pub read-valid : {f : List ℕ} → x .answer ≡ reading.Valid → f ≡ fieldsOf (x .message) → (0 ≡ readingNumber (y .answer)) × (f ≡ readValues (y .answer) (y .message))
   read-valid v ef =
-      let q : reading.Valid ≡ y .answer = sym v ∙ answers in
-      (
+      let q : reading.Valid ≡ y .answer = sym v ∙ answers in (
         ap readingNumber q,
         ef ∙ ap (λ (z : Received). fieldsOf (z .message)) e ∙ ap (λ (a : Reading). readValues a (y .message)) q,
       )

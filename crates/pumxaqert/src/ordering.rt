@@ -1,6 +1,6 @@
 // The settled question and the hand-out.
-use crate::fields::from32;
 use crate::fields::from_size;
+use crate::fields::from32;
 use nouns::command::op_number;
 use nouns::refusal::number_of;
 use order::Handing;

@@ -5,8 +5,8 @@ use decide::has_quorum;
 use log::act::byte;
 use nouns::logic::both;
 use nouns::logic::equal;
-use nouns::logic::wide16;
 use nouns::logic::wide8;
+use nouns::logic::wide16;
 use nouns::message::command_in;
 use nouns::message::kind_of;
 use nouns::message::status_in;
@@ -57,15 +57,7 @@ fn seen_for(t: &[u8], n: usize, s: usize, c: usize, m: Message, k: Command) -> [
     seen_of(t, n, s, c, wide8(m.owner), wide16(m.number), k)
 }
 
-fn on_proposal(
-    t: &[u8],
-    n: usize,
-    s: usize,
-    c: usize,
-    r: Record,
-    m: Message,
-    k: Command,
-) -> Step
+fn on_proposal(t: &[u8], n: usize, s: usize, c: usize, r: Record, m: Message, k: Command) -> Step
     requires { ⌜ Ready n s c (now t) m ⌝ }
     ensures { λ x. ⌜ x ≡ preAccept c (m .owner) (m .number) r m k (seen n s (recordsIn s (now (t .entry))) (m .owner) (m .number) k) ⌝ }
 {

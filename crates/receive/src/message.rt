@@ -5,8 +5,8 @@ use log::Answer;
 use log::Gate;
 use log::act::act;
 use log::entrance::gate_of;
-use nouns::logic::wide16;
 use nouns::logic::wide8;
+use nouns::logic::wide16;
 use paper::Message;
 use paper::Refusal;
 use table::load;
@@ -52,14 +52,7 @@ fn message_open(t: &mut [u8], out: &mut [u8], n: usize, s: usize, c: usize, b: &
     hear(t, out, n, s, c, m)
 }
 
-pub fn message(
-    t: &mut [u8],
-    n: usize,
-    s: usize,
-    c: usize,
-    out: &mut [u8],
-    b: &[u8],
-) -> Answer
+pub fn message(t: &mut [u8], n: usize, s: usize, c: usize, out: &mut [u8], b: &[u8]) -> Answer
     ensures answers { λ r. ⌜ r ≡ received n s c (now (t .entry)) (now (out .entry)) (now (b .entry)) .answer ⌝ }
     ensures table { λ _. ⌜ now (t .exit) ≡ received n s c (now (t .entry)) (now (out .entry)) (now (b .entry)) .table ⌝ }
     ensures room { λ _. ⌜ now (out .exit) ≡ received n s c (now (t .entry)) (now (out .entry)) (now (b .entry)) .out ⌝ }

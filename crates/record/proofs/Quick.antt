@@ -53,7 +53,7 @@ clear-next b any i c h {x} e =
     let k : i + 1 - 37 ≡ suc (i - 37) = omega arith in
     let j : 37 + (i - 37) ≡ i = omega arith in
     let so : eqb (bitOr any x) 0 ≡ (eqb (getD b (37 + (i - 37)) 0) 0 && allBelow (i - 37) (λ k. eqb (getD b (37 + k) 0) 0)) =
-        or-none any x ∙ rw (e, j, c .so) in
+    or-none any x ∙ rw (e, j, c .so) in
     record { so = rw k so; first = omega arith; last = omega arith }
 
 pub clear-all : (b : List ℕ) (any i : ℕ) → Clear b any i → (i < 263 → ⊥) → eqb any 0 ≡ isIdle b
@@ -108,8 +108,8 @@ module _ (n s c : ℕ) (b : List ℕ) (h : isIdle b ≡ true) where
   unfolding sameVote sameCommand sameDeps allBelow
   reply q l =
       let at : (k : ℕ) → k < 32 → getD b (replyPlace q + k) 0 ≡ 0 = λ k m.
-          let e : 39 + 32 * q + k ≡ 37 + (2 + 32 * q + k) = omega arith in
-          ap (λ (k : ℕ). getD b k 0) e ∙ byte (2 + 32 * q + k) (omega arith) in
+      let e : 39 + 32 * q + k ≡ 37 + (2 + 32 * q + k) = omega arith in
+      ap (λ (k : ℕ). getD b k 0) e ∙ byte (2 + 32 * q + k) (omega arith) in
       let v = vote-zero b (replyPlace q) at in
       let o : numAt 1 b (replyPlace q + 5) ≡ 0 = numAt-zero 1 b (replyPlace q + 5) (λ i m. let e : replyPlace q + 5 + i ≡ replyPlace q + (5 + i) = omega arith in ap (λ (k : ℕ). getD b k 0) e ∙ at (5 + i) (omega arith)) in
       sym (replyPart-out n s c b q l (le-leb (numAt 1 b (replyPlace q + 5)) 2 (omega (arith, o))) (ap (member q) zero-set ∙ no-member q l)) ∙ ap (λ (x : Vote). sameVote x noVote) v

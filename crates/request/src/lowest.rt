@@ -1,8 +1,8 @@
 // The lowest blank own number.
 use nouns::logic::both;
 use nouns::logic::equal;
-use nouns::logic::wide32;
 use nouns::logic::wide8;
+use nouns::logic::wide32;
 ghost use mathlib.Core.Path.{_≡_};
 ghost use Prim.Native.Nat.{_≤_};
 ghost use lib.ListN.{length};
