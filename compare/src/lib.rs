@@ -16,6 +16,7 @@ pub mod probe;
 pub mod random;
 pub mod shapes;
 pub mod stack;
+pub mod sweeps;
 pub mod threads;
 pub mod world;
 

@@ -5,7 +5,7 @@ use compare::both::{library_side, second_side, Call, Lent, LIST, OUT};
 use compare::cases::{self, Case};
 use compare::measure::Rounds;
 use compare::stack::Stack;
-use compare::{fields, linear, make, shapes, UNTOUCHED, UNTOUCHED_CODE};
+use compare::{fields, linear, make, shapes, sweeps, UNTOUCHED, UNTOUCHED_CODE};
 use pumxaqert::{raw, Setup};
 use second::table::RECORD_LEN;
 use std::hint::black_box;
@@ -20,6 +20,7 @@ fn main() {
         // Short turns and many of them: what another program takes of the processor then falls into few of them.
         false => Rounds { rounds: 101, each: Duration::from_micros(200) },
     };
+    if std::env::args().nth(1).is_some_and(|w| w == "orders") { return orders(&rounds); }
     limits(&rounds);
     largest(&rounds);
     sizes(&rounds, false);
@@ -216,20 +217,22 @@ fn message(rounds: &Rounds, m: &second::Message) -> [[f64; 4]; 2] {
 
 fn orders(rounds: &Rounds) {
     println!("\n## Settled and hand-out, 448 instances\n");
-    let hand_outs = "library | second | ratio (at most 1.5) | linear | ratio (under 5)";
+    let hand_outs = "library | second | ratio | same method in Rust | ratio (at most 1.5) | linear | ratio (under 5)";
     println!("| shape | settled: library | second | ratio | hand-out: {hand_outs} |");
-    println!("|---|---|---|---|---|---|---|---|---|");
+    println!("|---|---|---|---|---|---|---|---|---|---|---|");
     for (name, table) in shapes::orders(LARGEST) {
         let settled = settled(rounds, &table);
-        let [library, second, linear] = hand_out(rounds, &table);
+        let [library, second, same, linear] = hand_out(rounds, &table);
         println!(
-            "| {name} | {} | {} | {:.2} | {} | {} | {:.2} | {} | {:.2} |",
+            "| {name} | {} | {} | {:.2} | {} | {} | {:.2} | {} | {:.2} | {} | {:.2} |",
             time(settled[0]),
             time(settled[1]),
             settled[0] / settled[1],
             time(library),
             time(second),
             library / second,
+            time(same),
+            library / same,
             time(linear),
             library / linear
         );
@@ -247,11 +250,11 @@ fn settled(rounds: &Rounds, table: &[u8]) -> [f64; 2] {
     [times[0], times[1]]
 }
 
-/// Library, second, linear; taking the marks off again is measured too and taken off all three.
-fn hand_out(rounds: &Rounds, table: &[u8]) -> [f64; 3] {
-    let mut tables = vec![table.to_vec(); 4];
-    let [ours, theirs, line, bare] = &mut tables[..] else { unreachable!("four tables") };
-    let (mut a, mut b, mut list) = (lent(), lent(), [0; 448]);
+/// Library, second, the same method in Rust, linear; taking the marks off again is measured too and taken off all.
+fn hand_out(rounds: &Rounds, table: &[u8]) -> [f64; 4] {
+    let mut tables = vec![table.to_vec(); 5];
+    let [ours, theirs, same, line, bare] = &mut tables[..] else { unreachable!("five tables") };
+    let (mut a, mut b, mut other, mut list) = (lent(), lent(), [0; 448], [0; 448]);
     let call = Call::HandOut(448);
     let times = rounds.medians(&mut [
         &mut || {
@@ -263,12 +266,16 @@ fn hand_out(rounds: &Rounds, table: &[u8]) -> [f64; 3] {
             unmark(ours);
         },
         &mut || {
+            keep(sweeps::hand_out(same, 7, 64, 0, black_box(&mut other)));
+            unmark(same);
+        },
+        &mut || {
             keep(linear::hand_out(line, 7, 64, 0, black_box(&mut list)));
             unmark(line);
         },
         &mut || unmark(black_box(bare)),
     ]);
-    [times[0] - times[3], times[1] - times[3], times[2] - times[3]]
+    [0, 1, 2, 3].map(|at| times[at] - times[4])
 }
 
 fn unmark(t: &mut [u8]) {
