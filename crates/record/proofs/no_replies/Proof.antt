@@ -1,5 +1,5 @@
-use Rattle.record.proofs.is_idle.Statement.{statement}
-use Rattle.record.proofs.is_idle.Tie as tie
+use Rattle.record.proofs.no_replies.Statement.{statement}
+use Rattle.record.proofs.no_replies.Tie as tie
 use mathlib.Core.Path.{_≡_, refl, sym, ap, _∙_}
 use Prim.Native.Nat.{ℕ, _+_, _*_, _-_, _≤_, _<_}
 use native.Mathlib.Omega.{arith}
@@ -31,7 +31,7 @@ loop-again c = (clear-next _ _ _ (c .before .before .loop .inv .0) (c .before .l
 returns : tie.Need-returns Inv-loop μ-loop
 returns c = clear-all _ _ _ (c .before .loop .inv .0) (λ h. omega arith)
 
-pub is-idle-spec : {M : Type 1} → statement M
-is-idle-spec =
+pub no-replies-spec : {M : Type 1} → statement M
+no-replies-spec =
     tie.close
     (tie.spec Inv-loop μ-loop loop-holds shared-slice-read-any add-i loop-less loop-again returns)
