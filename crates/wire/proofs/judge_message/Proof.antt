@@ -1,0 +1,75 @@
+use mathlib.Core.Path.{_≡_, refl, sym, ap, ap₂, _∙_}
+use mathlib.Core.Bool.{_&&_}
+use Prim.Native.Nat.{ℕ}
+use lib.Dec.{leb}
+use borrow.Author.Tests.{not-true, not-false}
+use Rattle.paper.specs.Valid.{valid}
+use Rattle.wire.specs.declared.Received.{Received}
+use Rattle.wire.specs.Wire.{opAt}
+use Rattle.wire.proofs.Laws.{framed-is, received-1, received-3-frame, received-3, received-ok}
+use borrow.Author.Needs.{needs}
+use Rattle.wire.proofs.judge_message.Statement.{statement}
+use Rattle.wire.proofs.judge_message.Tie as tie
+
+setup-ok-requires : tie.Need-setup-ok-requires
+setup-ok-requires c κs = search needs
+
+returns : tie.Need-returns
+returns c = ap (λ (x : Received). x .answer) (received-1 _ _ _ _ (sym (c .before .setup-ok .ensures) ∙ not-true _ (c .if1 .taken)))
+
+is-framed-requires : tie.Need-is-framed-requires
+is-framed-requires c κs = search needs
+
+returns-2 : tie.Need-returns-2
+returns-2 c = ap (λ (x : Received). x .answer) (received-3-frame _ _ _ _ (sym (c .before .before .before .setup-ok .ensures) ∙ not-false _ (c .before .before .if1 .left)) (sym (c .before .is-framed .ensures) ∙ not-true _ (c .if2 .taken)))
+
+kind-at-requires : tie.Need-kind-at-requires
+kind-at-requires c κs = search needs
+
+op-at-requires : tie.Need-op-at-requires
+op-at-requires c κs = let f = framed-is _ (sym (c .before .before .is-framed .ensures) ∙ not-false _ (c .before .if2 .left)) in rw (c .kind-at .ensures) (f .exact)
+
+at-most-requires : tie.Need-at-most-requires
+at-most-requires c κs = search needs
+
+decode-requires : tie.Need-decode-requires
+decode-requires c κs = sym (c .before .before .before .before .is-framed .ensures) ∙ not-false _ (c .before .before .before .if2 .left)
+
+valid-message-requires : tie.Need-valid-message-requires
+valid-message-requires c κs = search needs
+
+both-requires : tie.Need-both-requires
+both-requires c κs = search needs
+
+returns-3 : tie.Need-returns-3
+returns-3 c =
+    let a = c .before .before .before .before .before .before .before .before .before .before .before .before .args in
+    let o = c .before .before .before .before .at-most .ensures ∙ ap (λ (x : ℕ). leb x 2) (c .before .before .before .before .before .op-at .ensures ∙ ap (λ (x : ℕ). opAt x (a .b .now)) (c .before .before .before .before .before .before .kind-at .ensures)) in
+    let v = c .before .before .valid-message .ensures ∙ ap (valid (a .n) (a .s) (a .c)) (c .before .before .before .decode .ensures) in
+    let e = c .before .both .ensures ∙ ap₂ _&&_ o v in
+    ap (λ (x : Received). x .answer) (received-3 _ _ _ _ (sym (c .before .before .before .before .before .before .before .before .before .before .setup-ok .ensures) ∙ not-false _ (c .before .before .before .before .before .before .before .before .before .if1 .left)) (sym (c .before .before .before .before .before .before .before .before .is-framed .ensures) ∙ not-false _ (c .before .before .before .before .before .before .before .if2 .left)) (sym e ∙ not-true _ (c .if3 .taken)))
+
+returns-4 : tie.Need-returns-4
+returns-4 c =
+    let a = c .before .before .before .before .before .before .before .before .before .before .before .before .args in
+    let o = c .before .before .before .before .at-most .ensures ∙ ap (λ (x : ℕ). leb x 2) (c .before .before .before .before .before .op-at .ensures ∙ ap (λ (x : ℕ). opAt x (a .b .now)) (c .before .before .before .before .before .before .kind-at .ensures)) in
+    let v = c .before .before .valid-message .ensures ∙ ap (valid (a .n) (a .s) (a .c)) (c .before .before .before .decode .ensures) in
+    let e = c .before .both .ensures ∙ ap₂ _&&_ o v in
+    ap (λ (x : Received). x .answer) (received-ok _ _ _ _ (sym (c .before .before .before .before .before .before .before .before .before .before .setup-ok .ensures) ∙ not-false _ (c .before .before .before .before .before .before .before .before .before .if1 .left)) (sym (c .before .before .before .before .before .before .before .before .is-framed .ensures) ∙ not-false _ (c .before .before .before .before .before .before .before .if2 .left)) (sym e ∙ not-false _ (c .if3 .left)))
+
+pub judge-message-spec : {M : Type 1} → statement M
+judge-message-spec =
+    tie.close
+    (tie.spec
+    setup-ok-requires
+    returns
+    is-framed-requires
+    returns-2
+    kind-at-requires
+    op-at-requires
+    at-most-requires
+    decode-requires
+    valid-message-requires
+    both-requires
+    returns-3
+    returns-4)
