@@ -1,6 +1,6 @@
 -- Lengths of messages, and the outcomes of the two calls, one law each. Assumes nothing.
 use mathlib.Core.Path.{_≡_, refl, sym, ap, _∙_}
-use mathlib.Core.Bool.{Bool, true, false, _&&_, not, cond, and-eq-true-iff}
+use mathlib.Core.Bool.{Bool, true, false, _&&_, not, and-eq-true-iff}
 use mathlib.Core.List.{List, [], _∷_, _++_}
 use Prim.Native.Nat.{ℕ, _+_, _≤_, _<_}
 use native.Mathlib.Omega.{arith}
@@ -11,16 +11,12 @@ use Rattle.num.specs.Num.{splice}
 use Rattle.paper.specs.Setup.{setupOk}
 use Rattle.paper.specs.Message.{kindOf}
 use Rattle.paper.specs.Valid.{valid}
-use Rattle.paper.proofs.Laws.{and-true}
-use Rattle.paper.specs.declared.Refusal.{Refusal}
 use Rattle.paper.specs.declared.Refusal.the-variants.{Setup, Room}
 use Rattle.paper.specs.declared.Refusal.the-variants as why
 use Rattle.paper.specs.declared.Body.{Body}
 use Rattle.paper.specs.declared.Body.the-variants.{PreAccept, PreAcceptOk, Accept, AcceptOk, Commit, Prepare, PrepareOk, Nack}
 use Rattle.paper.specs.declared.Message.{Message}
-use Rattle.wire.specs.declared.Reading.{Reading}
 use Rattle.wire.specs.declared.Reading.the-variants as reading
-use Rattle.wire.specs.declared.Received.{Received}
 use Rattle.wire.specs.declared.Writing.the-variants as writing
 use Rattle.wire.specs.Wire.{kindAt, lengthOf, restWidths, restNumbers, restBytes, headBytes, messageAt, messageBytes, framed, opFits, validBytes}
 use Rattle.wire.specs.Calls.{unread, received, unwritten, Wrote, wrote}
@@ -91,43 +87,6 @@ module _ (n s c : ℕ) (b : List ℕ) where
       → record { answer = reading.Valid; message = messageAt b } ≡ received n s c b
   unfolding received validBytes
   received-ok p q r = rw (p, q, r)
-
--- an answer tells which outcome it is
-tag : Reading → ℕ
-tag reading.Valid = 0
-tag (reading.Refused r) = 1
-
-reason : Reading → Refusal
-reason reading.Valid = Setup
-reason (reading.Refused r) = r
-
-module _ (n s c : ℕ) (b : List ℕ) where
-  abbrev outcome : Bool → Bool → Received
-  outcome x y = cond (not x) (unread Setup) (cond (not y) (unread why.Message) (record { answer = reading.Valid; message = messageAt b }))
-
-  taken : (x y : Bool) → outcome x y .answer ≡ reading.Valid → (y ≡ true) × (record { answer = reading.Valid; message = messageAt b } ≡ outcome x y)
-  unfolding tag
-  taken true true h = (refl, refl)
-  taken true false h = let e : tag (reading.Refused why.Message) ≡ tag reading.Valid = ap tag h in absurd (omega (arith, e))
-  taken false y h = let e : tag (reading.Refused Setup) ≡ tag reading.Valid = ap tag h in absurd (omega (arith, e))
-
-  refused : (x y : Bool) (r : Refusal) → outcome x y .answer ≡ reading.Refused r → unread r ≡ outcome x y
-  unfolding tag reason
-  refused true true r h = let e : tag reading.Valid ≡ tag (reading.Refused r) = ap tag h in absurd (omega (arith, e))
-  refused true false r h = ap unread (sym (ap reason h))
-  refused false y r h = ap unread (sym (ap reason h))
-
-  pub received-valid : {a : Reading} → a ≡ received n s c b .answer → a ≡ reading.Valid
-      → (framed b ≡ true) × (record { answer = reading.Valid; message = messageAt b } ≡ received n s c b)
-  unfolding received validBytes
-  received-valid e h =
-      let p = taken (setupOk n s c) (validBytes n s c b) (sym e ∙ h) in
-      let q = and-true (framed b && opFits b) (valid n s c (messageAt b)) (p .0) in
-      (and-true (framed b) (opFits b) (q .0) .0, p .1)
-
-  pub received-refused : {a : Reading} (r : Refusal) → a ≡ received n s c b .answer → a ≡ reading.Refused r → unread r ≡ received n s c b
-  unfolding received
-  received-refused r e h = refused (setupOk n s c) (validBytes n s c b) r (sym e ∙ h)
 
 -- the writer's outcomes
 module _ (n s c : ℕ) (out : List ℕ) (m : Message) where

@@ -183,37 +183,24 @@ fn unread_of(why: Refusal) -> Received
     }
 }
 
-// The reader's answer alone.
-pub fn judge_message(n: usize, s: usize, c: usize, b: &[u8]) -> Reading
-    ensures { λ r. ⌜ r ≡ received n s c (now (b .entry)) .answer ⌝ }
-{
-    if !setup_ok(n, s, c) {
-        return Reading::Refused(Refusal::Setup);
-    }
-    if !is_framed(b) {
-        return Reading::Refused(Refusal::Message);
-    }
-    let fits = at_most(op_at(kind_at(b), b), 2);
-    if !both(fits, valid_message(n, s, c, decode(b))) {
-        return Reading::Refused(Refusal::Message);
-    }
-    Reading::Valid
-}
-
 // Reads a message of any bytes, as received by copy c under the setup n, s.
 pub fn read_message(n: usize, s: usize, c: usize, b: &[u8]) -> Received
     ensures { λ r. ⌜ r ≡ received n s c (now (b .entry)) ⌝ }
 {
-    let answer = judge_message(n, s, c, b);
-    match answer {
-        Reading::Valid => {
-            let message = decode(b);
-            Received {
-                answer: Reading::Valid,
-                message,
-            }
-        }
-        Reading::Refused(why) => unread_of(why),
+    if !setup_ok(n, s, c) {
+        return unread_of(Refusal::Setup);
+    }
+    if !is_framed(b) {
+        return unread_of(Refusal::Message);
+    }
+    let m = decode(b);
+    let fits = at_most(op_at(kind_at(b), b), 2);
+    if !both(fits, valid_message(n, s, c, m)) {
+        return unread_of(Refusal::Message);
+    }
+    Received {
+        answer: Reading::Valid,
+        message: m,
     }
 }
 
