@@ -1,4 +1,4 @@
-// Little-endian numbers in lent bytes, at an offset.
+// Little-endian numbers in lent bytes, at an offset. A number is read as one sum over its bytes: the compiler makes one load of it.
 ghost use mathlib.Core.Path.{_≡_};
 ghost use Prim.Native.Nat.{ℕ, _+_, _≤_, _<_};
 ghost use lib.ListN.{length};
@@ -44,7 +44,7 @@ pub fn get_u32(s: &[u8], at: usize) -> u32
     let b = at + 1;
     let c = b + 1;
     let d = c + 1;
-    wide32(s[at]) + 256 * (wide32(s[b]) + 256 * (wide32(s[c]) + 256 * wide32(s[d])))
+    wide32(s[at]) + 256 * wide32(s[b]) + 65_536 * wide32(s[c]) + 16_777_216 * wide32(s[d])
 }
 
 pub fn put_u8(s: &mut [u8], at: usize, x: u8)
@@ -88,17 +88,13 @@ pub fn get_u64(s: &[u8], at: usize) -> u64
     let g = f + 1;
     let h = g + 1;
     wide64(s[at])
-        + 256
-            * (wide64(s[b])
-                + 256
-                    * (wide64(s[c])
-                        + 256
-                            * (wide64(s[d])
-                                + 256
-                                    * (wide64(s[e])
-                                        + 256
-                                            * (wide64(s[f])
-                                                + 256 * (wide64(s[g]) + 256 * wide64(s[h])))))))
+        + 256 * wide64(s[b])
+        + 65_536 * wide64(s[c])
+        + 16_777_216 * wide64(s[d])
+        + 4_294_967_296 * wide64(s[e])
+        + 1_099_511_627_776 * wide64(s[f])
+        + 281_474_976_710_656 * wide64(s[g])
+        + 72_057_594_037_927_936 * wide64(s[h])
 }
 
 pub fn put_u64(s: &mut [u8], at: usize, x: u64)

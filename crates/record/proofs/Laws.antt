@@ -2,22 +2,28 @@
 use mathlib.Core.Path.{_≡_, refl, sym, ap, _∙_}
 use mathlib.Core.Bool.{Bool, true, false, _&&_}
 use mathlib.Core.List.{List, [], _∷_, _++_, append-assoc, append-nil}
-use Prim.Native.Nat.{ℕ, zero, suc, _+_, _*_, _-_, _≤_, _<_}
+use Prim.Native.Nat.{ℕ, zero, suc, _+_, _*_, _-_, _^_, _≤_, _<_}
 use native.Mathlib.Omega.{arith}
 use native.Mathlib.Numerals.{add-one}
 use lib.ListN.{length, length-append, take, getD}
 use lib.Seq.{take-suc, length-take-le}
 use Rattle.num.specs.Num.{numAt, splice}
 use Rattle.num.proofs.Laws.{splice-step}
-use Rattle.codec.specs.Parts.{voteAt, voteBytes}
+use Rattle.codec.specs.Parts.{commandAt, depsAt, voteAt, voteBytes}
+use lib.Dec.{leb, ltb}
 use Rattle.paper.specs.Logic.{allBelow}
-use Rattle.paper.specs.Vote.{noVote, sameVote, member}
-use Rattle.paper.specs.Sound.{rangesOk, votesOk, phasesOk, preparingOk, proposingOk, busyOk, repliesOk, collectedOk, replyOk, soundRecord}
+use Rattle.paper.specs.Ballot.{ballotOk}
+use Rattle.paper.specs.Command.{commandOk}
+use Rattle.paper.specs.Deps.{depsOk}
+use Rattle.paper.specs.Vote.{noVote, sameVote, noneIsBlank, voteOk, member}
+use Rattle.paper.specs.Sound.{markCommitted, rangesOk, votesOk, phasesOk, preparingOk, proposingOk, busyOk, repliesOk, collectedOk, replyOk, soundRecord}
+use Rattle.paper.proofs.Laws.{and-true}
 use Rattle.sound.specs.Front.{front}
+use Rattle.sound.specs.Asked.{ballotsOk, markedOk, phasedOk}
 use Rattle.paper.specs.declared.Vote.{Vote}
 use Rattle.paper.specs.declared.Record.{Record}
 use Rattle.record.specs.Layout.{votesAt, votesBytes, frontBytes, recordAt}
-use Rattle.record.specs.Part.{opFits, replyPlace, opsFit, soundPart, plainOk, busyPart, replyPart}
+use Rattle.record.specs.Part.{opFits, replyPlace, opsFit, soundPart, commandFits, frontOk, plainOk, busyPart, replyPart}
 
 pub length-voteBytes : (v : Vote) → length (voteBytes v) ≡ 32
 unfolding voteBytes
@@ -73,22 +79,70 @@ allBelow-both (suc k) f g = go (f k) (g k) (allBelow k f) (allBelow k g) (allBel
     go true false false y e = refl
     go false b x y e = refl
 
+-- tests that are asked in another order and grouped otherwise
+same-tests : (x y : Bool) → (x ≡ true → y ≡ true) → (y ≡ true → x ≡ true) → x ≡ y
+same-tests true y f g = sym (f refl)
+same-tests false true f g = g refl
+same-tests false false f g = refl
+
+regroup : (o j v t c d m p e l u k : Bool)
+    → (j && v && l && (o && c && (t && m && k && (u && d))) && (p && e)) ≡ (o && (j && (v && t && c && d) && m && p && e && (l && u && k)))
+regroup o j v t c d m p e l u k = same-tests _ _ there back
+  where
+    there : (j && v && l && (o && c && (t && m && k && (u && d))) && (p && e)) ≡ true → (o && (j && (v && t && c && d) && m && p && e && (l && u && k))) ≡ true
+    there h =
+        let a = and-true _ (p && e) h in
+        let b = and-true (j && v && l) _ (a .0) in
+        let bj = and-true (j && v) l (b .0) in
+        let jv = and-true j v (bj .0) in
+        let r = and-true (o && c) _ (b .1) in
+        let oc = and-true o c (r .0) in
+        let s = and-true (t && m && k) (u && d) (r .1) in
+        let tk = and-true (t && m) k (s .0) in
+        let tm = and-true t m (tk .0) in
+        let ud = and-true u d (s .1) in
+        let pe = and-true p e (a .1) in
+        rw (oc .0, jv .0, jv .1, tm .0, oc .1, ud .1, tm .1, pe .0, pe .1, bj .1, ud .0, tk .1)
+
+    back : (o && (j && (v && t && c && d) && m && p && e && (l && u && k))) ≡ true → (j && v && l && (o && c && (t && m && k && (u && d))) && (p && e)) ≡ true
+    back h =
+        let a = and-true o _ h in
+        let b = and-true (j && (v && t && c && d) && m && p && e) (l && u && k) (a .1) in
+        let be = and-true (j && (v && t && c && d) && m && p) e (b .0) in
+        let bp = and-true (j && (v && t && c && d) && m) p (be .0) in
+        let bm = and-true (j && (v && t && c && d)) m (bp .0) in
+        let bv = and-true j (v && t && c && d) (bm .0) in
+        let vd = and-true (v && t && c) d (bv .1) in
+        let vc = and-true (v && t) c (vd .0) in
+        let vt = and-true v t (vc .0) in
+        let lk = and-true (l && u) k (b .1) in
+        let lu = and-true l u (lk .0) in
+        rw (a .0, bv .0, vt .0, vt .1, vc .1, vd .1, bm .1, bp .1, be .1, lu .0, lu .1, lk .1)
+
+-- what holds in any phase, as the paper has it
+plain-is : (n s : ℕ) (b : List ℕ) → plainOk n s b ≡ (opFits b 4 && (rangesOk n s (recordAt b) && votesOk (recordAt b)))
+unfolding plainOk frontOk commandFits ballotsOk markedOk phasedOk rangesOk votesOk voteOk recordAt voteAt commandAt depsAt
+plain-is n s b =
+    let r = recordAt b in
+    let v = r .vote in
+    regroup (opFits b 4) (ballotOk n (r .joined)) (ballotOk n (v .voted)) (leb (v .status) 4) (commandOk (v .command)) (depsOk n s (v .deps)) (leb (r .mark) 1) (leb (r .phase) 3) (ltb (r .set) (2 ^ n)) (leb (v .voted) (r .joined)) (noneIsBlank v) (markCommitted r)
+
 -- sound as the paper has it is sound as it is judged
 pub soundPart-is : (n s c o : ℕ) (b : List ℕ) → soundPart n s c o b ≡ (plainOk n s b && busyPart n s c o b)
-unfolding soundPart plainOk busyPart replyPart opsFit soundRecord repliesOk
+unfolding soundPart busyPart replyPart opsFit soundRecord repliesOk
 soundPart-is n s c o b =
     let f : ℕ → Bool = λ q. opFits b (replyPlace q) in
     let g : ℕ → Bool = replyOk n s c (recordAt b) in
-    go (opFits b 4) (allBelow 7 f) (rangesOk n s (recordAt b) && votesOk (recordAt b)) (phasesOk n c o (recordAt b)) (allBelow 7 g) (allBelow-both 7 f g)
+    go (opFits b 4) (allBelow 7 f) (rangesOk n s (recordAt b) && votesOk (recordAt b)) (phasesOk n c o (recordAt b)) (allBelow 7 g) (allBelow-both 7 f g) (plain-is n s b)
   where
-    go : (a x y p z : Bool) {w : Bool} → w ≡ (x && z) → (a && x && (y && p && z)) ≡ (a && y && (p && w))
-    go true true true true z e = sym e
-    go true true true false z e = refl
-    go true true false p z e = refl
-    go true false true true z e = sym e
-    go true false true false z e = refl
-    go true false false p z e = refl
-    go false x y p z e = refl
+    go : (a x y p z : Bool) {w u : Bool} → w ≡ (x && z) → u ≡ (a && y) → (a && x && (y && p && z)) ≡ (u && (p && w))
+    go true true true true z e h = rw h (sym e)
+    go true true true false z e h = rw h
+    go true true false p z e h = rw h
+    go true false true true z e h = rw h (sym e)
+    go true false true false z e h = rw h
+    go true false false p z e h = rw h
+    go false x y p z e h = rw h
 
 votesAt-at : (k : ℕ) (b : List ℕ) (at q : ℕ) (d : Vote) → q < k → getD (votesAt k b at) q d ≡ voteAt b (at + 32 * q)
 unfolding votesAt
@@ -119,35 +173,6 @@ module _ (n s c : ℕ) (b : List ℕ) (q : ℕ) (h : q < 7) where
 
 -- of the fields as they were read
 module _ (b : List ℕ) {j : ℕ} {v : Vote} {p t : ℕ} (ej : j ≡ numAt 4 b 0) (ev : v ≡ voteAt b 4) (ep : p ≡ numAt 1 b 37) (et : t ≡ numAt 1 b 38) where
-  pub plain-op : (n s : ℕ) → opFits b 4 ≡ false → false ≡ plainOk n s b
-  unfolding plainOk
-  plain-op n s e = rw e
-
-  votes-judged : {m : ℕ} {y : Bool} → m ≡ numAt 1 b 36 → y ≡ votesOk (front j v m 0 0) → y ≡ votesOk (recordAt b)
-  unfolding recordAt votesOk
-  votes-judged em ey = rw (ey, ej, ev, em)
-
-  ranges-judged : (n s : ℕ) {m : ℕ} {x : Bool} → m ≡ numAt 1 b 36 → x ≡ rangesOk n s (front j v m p t) → x ≡ rangesOk n s (recordAt b)
-  unfolding recordAt rangesOk
-  ranges-judged n s em ex = rw (ex, ej, ev, em, ep, et)
-
-  pub plain-votes : (n s : ℕ) {m : ℕ} {y : Bool} → m ≡ numAt 1 b 36 → opFits b 4 ≡ true → y ≡ votesOk (front j v m 0 0) → y ≡ false → false ≡ plainOk n s b
-  unfolding plainOk
-  plain-votes n s em eo ey e = let q = sym (votes-judged em ey) ∙ e in rw (eo, q) (no (rangesOk n s (recordAt b)))
-    where
-      no : (a : Bool) → false ≡ (a && false)
-      no true = refl
-      no false = refl
-
-  pub plain-ranges : (n s : ℕ) {m : ℕ} {x y : Bool} → m ≡ numAt 1 b 36 → opFits b 4 ≡ true → y ≡ votesOk (front j v m 0 0) → y ≡ true
-      → x ≡ rangesOk n s (front j v m p t) → x ≡ plainOk n s b
-  unfolding plainOk
-  plain-ranges n s em eo ey e ex = let q = sym (votes-judged em ey) ∙ e in rw (eo, q) (ranges-judged n s em ex ∙ yes (rangesOk n s (recordAt b)))
-    where
-      yes : (a : Bool) → a ≡ (a && true)
-      yes true = refl
-      yes false = refl
-
   pub phase-judged : (n c o : ℕ) {z : Bool} → z ≡ phasesOk n c o (front j v 0 p t) → z ≡ phasesOk n c o (recordAt b)
   unfolding recordAt phasesOk preparingOk proposingOk busyOk
   phase-judged n c o ez = rw (ez, ej, ev, ep, et)

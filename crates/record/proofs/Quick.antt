@@ -2,12 +2,13 @@
 use mathlib.Core.Path.{_≡_, refl, sym, ap, _∙_}
 use mathlib.Core.Bool.{Bool, true, false, _&&_}
 use mathlib.Core.List.{List, [], _∷_}
-use Prim.Native.Nat.{ℕ, zero, suc, _+_, _*_, _-_, _≤_, _<_}
+use Prim.Native.Nat.{ℕ, zero, suc, _+_, _*_, _-_, _^_, _≤_, _<_}
 use native.Mathlib.Omega.{arith}
 use lib.Bits.{bitOr, bitAnd, or-add-and, and-le-l, and-le-r, or-zero-l}
 use lib.Dec.{leb, eqb}
+use lib.Pow.{pow-pos}
 use lib.ListN.{length, getD, replicate}
-use borrow.Author.Tests.{eqb-true, eqb-false, eq-eqb, ne-eqb, le-leb}
+use borrow.Author.Tests.{eqb-true, eqb-false, eq-eqb, ne-eqb, lt-ltb, le-leb}
 use Rattle.num.specs.Num.{numAt}
 use Rattle.num.specs.Fields.{sizeOf, fieldsAt}
 use Rattle.codec.specs.Parts.{voteWidths, voteOf, voteAt}
@@ -15,11 +16,12 @@ use Rattle.paper.specs.Logic.{allBelow}
 use Rattle.paper.specs.Vote.{noVote, sameVote, member}
 use Rattle.paper.specs.Command.{sameCommand}
 use Rattle.paper.specs.Deps.{sameDeps}
-use Rattle.paper.proofs.Laws.{allBelow-at}
+use Rattle.paper.proofs.Laws.{and-true, allBelow-at}
 use Rattle.paper.specs.declared.Vote.{Vote}
 use Rattle.paper.specs.Sound.{phasesOk, busyOk, preparingOk, proposingOk}
 use Rattle.record.specs.Layout.{recordAt}
-use Rattle.record.specs.Part.{opFits, replyPlace, replyPart, isIdle, plainOk, soundPart}
+use Rattle.sound.specs.Asked.{phasedOk}
+use Rattle.record.specs.Part.{opFits, replyPlace, replyPart, noReplies, isIdle, idleOk, frontOk, plainOk, soundPart}
 use Rattle.record.proofs.Laws.{replyPart-out, sound-replies}
 
 -- bits of either number
@@ -38,11 +40,11 @@ or-none a x = go (eqb x 0) refl (eqb a 0) refl
 
 -- the bytes before i have no bit set that is not in `any`
 pub record Clear (b : List ℕ) (any i : ℕ) : Type 0 where
-  pub so : eqb any 0 ≡ allBelow (i - 37) (λ k. eqb (getD b (37 + k) 0) 0)
-  pub first : 37 ≤ i
+  pub so : eqb any 0 ≡ allBelow (i - 39) (λ k. eqb (getD b (39 + k) 0) 0)
+  pub first : 39 ≤ i
   pub last : i ≤ 263
 
-pub clear-start : (b : List ℕ) → Clear b 0 37
+pub clear-start : (b : List ℕ) → Clear b 0 39
 unfolding allBelow
 clear-start b = record { so = refl; first = omega arith; last = omega arith }
 
@@ -50,15 +52,15 @@ pub clear-next : (b : List ℕ) (any i : ℕ) → Clear b any i → i < 263 → 
 unfolding allBelow
 clear-next b any i c h {x} e =
     let f = c .first in
-    let k : i + 1 - 37 ≡ suc (i - 37) = omega arith in
-    let j : 37 + (i - 37) ≡ i = omega arith in
-    let so : eqb (bitOr any x) 0 ≡ (eqb (getD b (37 + (i - 37)) 0) 0 && allBelow (i - 37) (λ k. eqb (getD b (37 + k) 0) 0)) =
+    let k : i + 1 - 39 ≡ suc (i - 39) = omega arith in
+    let j : 39 + (i - 39) ≡ i = omega arith in
+    let so : eqb (bitOr any x) 0 ≡ (eqb (getD b (39 + (i - 39)) 0) 0 && allBelow (i - 39) (λ k. eqb (getD b (39 + k) 0) 0)) =
     or-none any x ∙ rw (e, j, c .so) in
     record { so = rw k so; first = omega arith; last = omega arith }
 
-pub clear-all : (b : List ℕ) (any i : ℕ) → Clear b any i → (i < 263 → ⊥) → eqb any 0 ≡ isIdle b
-unfolding isIdle
-clear-all b any i c h = let f = c .last in let k : i - 37 ≡ 226 = omega arith in c .so ∙ rw k
+pub clear-all : (b : List ℕ) (any i : ℕ) → Clear b any i → (i < 263 → ⊥) → eqb any 0 ≡ noReplies b
+unfolding noReplies
+clear-all b any i c h = let f = c .last in let k : i - 39 ≡ 224 = omega arith in c .so ∙ rw k
 
 -- zero bytes are the number 0
 numAt-zero : (w : ℕ) (b : List ℕ) (at : ℕ) → ((i : ℕ) → i < w → getD b (at + i) 0 ≡ 0) → numAt w b at ≡ 0
@@ -94,34 +96,44 @@ no-member (suc (suc (suc (suc (suc (suc zero)))))) h = refl
 no-member (suc (suc (suc (suc (suc (suc (suc q))))))) h = absurd (omega arith)
 
 module _ (n s c : ℕ) (b : List ℕ) (h : isIdle b ≡ true) where
-  byte : (i : ℕ) → i < 226 → getD b (37 + i) 0 ≡ 0
+  tests : (numAt 1 b 37 ≡ 0) × (numAt 1 b 38 ≡ 0) × (noReplies b ≡ true)
   unfolding isIdle
-  byte i l = eqb-true _ _ (allBelow-at 226 (λ i. eqb (getD b (37 + i) 0) 0) h i l)
+  tests =
+      let p = and-true (eqb (numAt 1 b 37) 0) _ h in
+      let q = and-true (eqb (numAt 1 b 38) 0) (noReplies b) (p .1) in
+      (eqb-true (numAt 1 b 37) 0 (p .0), eqb-true (numAt 1 b 38) 0 (q .0), q .1)
 
-  zero-phase : numAt 1 b 37 ≡ 0
-  zero-phase = numAt-zero 1 b 37 (λ i m. byte i (omega arith))
-
-  zero-set : numAt 1 b 38 ≡ 0
-  zero-set = numAt-zero 1 b 38 (λ i m. let e : 38 + i ≡ 37 + (1 + i) = omega arith in ap (λ (k : ℕ). getD b k 0) e ∙ byte (1 + i) (omega arith))
+  byte : (i : ℕ) → i < 224 → getD b (39 + i) 0 ≡ 0
+  unfolding noReplies
+  byte i l = eqb-true _ _ (allBelow-at 224 (λ i. eqb (getD b (39 + i) 0) 0) (tests .2) i l)
 
   reply : (q : ℕ) → q < 7 → replyPart n s c b q ≡ true
   unfolding sameVote sameCommand sameDeps allBelow
   reply q l =
       let at : (k : ℕ) → k < 32 → getD b (replyPlace q + k) 0 ≡ 0 = λ k m.
-      let e : 39 + 32 * q + k ≡ 37 + (2 + 32 * q + k) = omega arith in
-      ap (λ (k : ℕ). getD b k 0) e ∙ byte (2 + 32 * q + k) (omega arith) in
+      let e : 39 + 32 * q + k ≡ 39 + (32 * q + k) = omega arith in
+      ap (λ (k : ℕ). getD b k 0) e ∙ byte (32 * q + k) (omega arith) in
       let v = vote-zero b (replyPlace q) at in
       let o : numAt 1 b (replyPlace q + 5) ≡ 0 = numAt-zero 1 b (replyPlace q + 5) (λ i m. let e : replyPlace q + 5 + i ≡ replyPlace q + (5 + i) = omega arith in ap (λ (k : ℕ). getD b k 0) e ∙ at (5 + i) (omega arith)) in
-      sym (replyPart-out n s c b q l (le-leb (numAt 1 b (replyPlace q + 5)) 2 (omega (arith, o))) (ap (member q) zero-set ∙ no-member q l)) ∙ ap (λ (x : Vote). sameVote x noVote) v
+      sym (replyPart-out n s c b q l (le-leb (numAt 1 b (replyPlace q + 5)) 2 (omega (arith, o))) (ap (member q) (tests .1) ∙ no-member q l)) ∙ ap (λ (x : Vote). sameVote x noVote) v
 
   -- no phase, nothing collected: every clause about phases is met
   idle-phase : (o : ℕ) → phasesOk n c o (recordAt b) ≡ true
   unfolding phasesOk busyOk preparingOk proposingOk recordAt
-  idle-phase o = rw (zero-phase, zero-set)
+  idle-phase o = rw (tests .0, tests .1)
 
-  pub quick : (o : ℕ) → plainOk n s b ≡ true → true ≡ soundPart n s c o b
-  unfolding allBelow
+  idle-small : phasedOk n (numAt 1 b 37) (numAt 1 b 38) ≡ true
+  unfolding phasedOk
+  idle-small = rw (tests .0, tests .1, lt-ltb 0 (2 ^ n) (pow-pos n))
+
+  quick : (o : ℕ) → frontOk n s b ≡ true → soundPart n s c o b ≡ true
+  unfolding allBelow plainOk
   quick o f =
       let at : (q : ℕ) → q < 7 → replyPart n s c b q ≡ true = reply in
       let all : allBelow 7 (replyPart n s c b) ≡ true = rw (at 6 (omega arith), at 5 (omega arith), at 4 (omega arith), at 3 (omega arith), at 2 (omega arith), at 1 (omega arith), at 0 (omega arith)) in
-      sym all ∙ sound-replies n s c o b f (idle-phase o)
+      sym (sound-replies n s c o b (rw (f, idle-small)) (idle-phase o)) ∙ all
+
+-- a record that is idle and right is sound at every copy, whoever owns it
+pub idle-sound : (n s c o : ℕ) (b : List ℕ) → idleOk n s b ≡ true → soundPart n s c o b ≡ true
+unfolding idleOk
+idle-sound n s c o b h = let p = and-true (isIdle b) (frontOk n s b) h in quick n s c b (p .0) o (p .1)

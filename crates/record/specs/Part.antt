@@ -7,7 +7,12 @@ use lib.Dec.{leb, eqb}
 use lib.ListN.{getD}
 use Rattle.num.specs.Num.{numAt}
 use Rattle.paper.specs.Logic.{allBelow}
-use Rattle.paper.specs.Sound.{rangesOk, votesOk, phasesOk, replyOk, soundRecord}
+use Rattle.paper.specs.Command.{commandOk}
+use Rattle.paper.specs.Deps.{depsOk}
+use Rattle.paper.specs.Vote.{noneIsBlank}
+use Rattle.paper.specs.Sound.{phasesOk, replyOk, soundRecord}
+use Rattle.codec.specs.Parts.{commandAt, depsAt, voteAt}
+use Rattle.sound.specs.Asked.{ballotsOk, markedOk, phasedOk}
 use Rattle.record.specs.Layout.{recordAt}
 
 -- where the vote of copy q stands
@@ -25,8 +30,16 @@ unfoldable pub soundPart : ℕ → ℕ → ℕ → ℕ → List ℕ → Bool
 soundPart n s c o b = opsFit b && soundRecord n s c o (recordAt b)
 
 -- the same, as it is judged: what holds in any phase, what the phase asks, then each reply's place
+unfoldable pub commandFits : List ℕ → Bool
+commandFits b = opFits b 4 && commandOk (commandAt b 9)
+
+unfoldable pub frontOk : ℕ → ℕ → List ℕ → Bool
+frontOk n s b =
+    ballotsOk n (numAt 4 b 0) (numAt 4 b 4)
+    && (commandFits b && (markedOk (numAt 1 b 8) (numAt 1 b 36) && (noneIsBlank (voteAt b 4) && depsOk n s (depsAt b 22))))
+
 unfoldable pub plainOk : ℕ → ℕ → List ℕ → Bool
-plainOk n s b = opFits b 4 && (rangesOk n s (recordAt b) && votesOk (recordAt b))
+plainOk n s b = frontOk n s b && phasedOk n (numAt 1 b 37) (numAt 1 b 38)
 
 unfoldable pub replyPart : ℕ → ℕ → ℕ → List ℕ → ℕ → Bool
 replyPart n s c b q = opFits b (replyPlace q) && replyOk n s c (recordAt b) q
@@ -34,6 +47,13 @@ replyPart n s c b q = opFits b (replyPlace q) && replyOk n s c (recordAt b) q
 unfoldable pub busyPart : ℕ → ℕ → ℕ → ℕ → List ℕ → Bool
 busyPart n s c o b = phasesOk n c o (recordAt b) && allBelow 7 (replyPart n s c b)
 
--- the bytes of the phase, the set and all replies are zero: no phase asks anything, and nothing is collected
+-- the bytes of all replies are zero
+unfoldable pub noReplies : List ℕ → Bool
+noReplies b = allBelow 224 (λ i. eqb (getD b (39 + i) 0) 0)
+
+-- no phase, which asks nothing more, and nothing collected
 unfoldable pub isIdle : List ℕ → Bool
-isIdle b = allBelow 226 (λ i. eqb (getD b (37 + i) 0) 0)
+isIdle b = eqb (numAt 1 b 37) 0 && (eqb (numAt 1 b 38) 0 && noReplies b)
+
+unfoldable pub idleOk : ℕ → ℕ → List ℕ → Bool
+idleOk n s b = isIdle b && frontOk n s b

@@ -1,23 +1,28 @@
 // One record in its 263 bytes: read, written and judged.
+use nouns::deps::deps_ok;
 use nouns::logic::at_most;
 use nouns::logic::wide8;
 use nouns::vote::is_member;
 use nouns::vote::no_vote;
+use nouns::vote::none_is_blank;
 use nouns::vote::same_vote;
 use paper::Record;
 use paper::Vote;
+use sound::ballots_ok;
 use sound::collected_ok;
+use sound::marked_ok;
+use sound::phased_ok;
 use sound::phases_ok;
-use sound::ranges_ok;
-use sound::votes_ok;
 ghost use mathlib.Core.Path.{_≡_};
 ghost use Prim.Native.Nat.{_+_, _*_, _≤_, _<_};
 ghost use lib.ListN.{length};
 ghost use Rattle.num.specs.Num.{splice};
 ghost use Rattle.paper.specs.Logic.{allBelow};
 ghost use Rattle.paper.specs.Sound.{phasesOk};
+ghost use Rattle.paper.specs.Vote.{noneIsBlank};
+ghost use Rattle.codec.specs.Parts.{voteAt};
 ghost use Rattle.record.specs.Layout.{votesAt, votesBytes, recordAt, frontBytes, recordBytes};
-ghost use Rattle.record.specs.Part.{opFits, plainOk, replyPart, isIdle, soundPart};
+ghost use Rattle.record.specs.Part.{opFits, commandFits, frontOk, plainOk, replyPart, noReplies, isIdle, idleOk, soundPart};
 
 fn read_votes(b: &[u8], at: usize) -> [Vote; 7]
     requires { ⌜ at + 224 ≤ length (now b) ⌝ }
@@ -98,23 +103,63 @@ fn op_ok(b: &[u8], at: usize) -> bool
     at_most(wide8(num::get_u8(b, at + 5)), 2)
 }
 
+// The op byte, and the command: a no-op has zero key and edit.
+fn command_fits(b: &[u8]) -> bool
+    requires { ⌜ 263 ≤ length (now b) ⌝ }
+    ensures { λ r. ⌜ r ≡ commandFits (now (b .entry)) ⌝ }
+{
+    let op = num::get_u8(b, 9);
+    if op != 0 {
+        return op <= 2;
+    }
+    let key = num::get_u32(b, 10);
+    if key != 0 {
+        return false;
+    }
+    let edit = num::get_u64(b, 14);
+    edit == 0
+}
+
+fn none_ok(b: &[u8]) -> bool
+    requires { ⌜ 263 ≤ length (now b) ⌝ }
+    ensures { λ r. ⌜ r ≡ noneIsBlank (voteAt (now (b .entry)) 4) ⌝ }
+{
+    let status = num::get_u8(b, 8);
+    if status != 0 {
+        return true;
+    }
+    none_is_blank(codec::read_vote(b, 4))
+}
+
+// What holds in any phase of all that stands before the phase. Each field is read where it is asked.
+fn front_ok(b: &[u8], n: usize, s: usize) -> bool
+    requires { ⌜ 263 ≤ length (now b) ⌝ }
+    ensures { λ r. ⌜ r ≡ frontOk n s (now (b .entry)) ⌝ }
+{
+    if !ballots_ok(n, num::get_u32(b, 0), num::get_u32(b, 4)) {
+        return false;
+    }
+    if !command_fits(b) {
+        return false;
+    }
+    if !marked_ok(num::get_u8(b, 8), num::get_u8(b, 36)) {
+        return false;
+    }
+    if !none_ok(b) {
+        return false;
+    }
+    deps_ok(n, s, codec::read_deps(b, 22))
+}
+
 // What holds in any phase.
 fn plain_ok(b: &[u8], n: usize, s: usize) -> bool
     requires { ⌜ (263 ≤ length (now b)) × (n ≤ 7) ⌝ }
     ensures { λ r. ⌜ r ≡ plainOk n s (now (b .entry)) ⌝ }
 {
-    let joined = num::get_u32(b, 0);
-    let v = codec::read_vote(b, 4);
-    let mark = num::get_u8(b, 36);
-    let phase = num::get_u8(b, 37);
-    let set = num::get_u8(b, 38);
-    if !op_ok(b, 4) {
+    if !front_ok(b, n, s) {
         return false;
     }
-    if !votes_ok(joined, v, mark) {
-        return false;
-    }
-    ranges_ok(n, s, joined, v, mark, phase, set)
+    phased_ok(n, num::get_u8(b, 37), num::get_u8(b, 38))
 }
 
 // What the phase asks.
@@ -163,18 +208,43 @@ fn replies_ok(b: &[u8], n: usize, s: usize, c: usize) -> bool
     true
 }
 
-// Most records are in no phase and have nothing collected: then neither has to be looked at.
-fn is_idle(b: &[u8]) -> bool
+fn no_replies(b: &[u8]) -> bool
     requires { ⌜ 263 ≤ length (now b) ⌝ }
-    ensures { λ r. ⌜ r ≡ isIdle (now (b .entry)) ⌝ }
+    ensures { λ r. ⌜ r ≡ noReplies (now (b .entry)) ⌝ }
 {
     let mut any = 0;
-    let mut i = 37;
+    let mut i = 39;
     while i < 263 {
         any |= b[i];
         i += 1;
     }
     any == 0
+}
+
+fn is_idle(b: &[u8]) -> bool
+    requires { ⌜ 263 ≤ length (now b) ⌝ }
+    ensures { λ r. ⌜ r ≡ isIdle (now (b .entry)) ⌝ }
+{
+    let phase = num::get_u8(b, 37);
+    if phase != 0 {
+        return false;
+    }
+    let set = num::get_u8(b, 38);
+    if set != 0 {
+        return false;
+    }
+    no_replies(b)
+}
+
+// Most records are in no phase and have nothing collected: where the rest is right too, they are sound at any copy.
+pub fn idle_ok(b: &[u8], n: usize, s: usize) -> bool
+    requires { ⌜ 263 ≤ length (now b) ⌝ }
+    ensures { λ r. ⌜ r ≡ idleOk n s (now (b .entry)) ⌝ }
+{
+    if !is_idle(b) {
+        return false;
+    }
+    front_ok(b, n, s)
 }
 
 // The record in these bytes is sound at copy c for an instance of owner o.
@@ -184,9 +254,6 @@ pub fn sound_part(b: &[u8], n: usize, s: usize, c: usize, o: usize) -> bool
 {
     if !plain_ok(b, n, s) {
         return false;
-    }
-    if is_idle(b) {
-        return true;
     }
     if !phase_ok(b, n, c, o) {
         return false;

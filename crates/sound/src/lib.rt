@@ -15,16 +15,12 @@ use nouns::vote::added_ok;
 use nouns::vote::count_of;
 use nouns::vote::is_member;
 use nouns::vote::no_vote;
-use nouns::vote::none_is_blank;
 use nouns::vote::same_vote;
 use nouns::vote::told_ok;
-use nouns::vote::vote_ok;
 use paper::Vote;
 ghost use mathlib.Core.Path.{_≡_};
 ghost use Prim.Native.Nat.{_^_, _≤_, _<_};
 ghost use Rattle.paper.specs.Sound.{
-  rangesOk,
-  votesOk,
   preparingOk,
   preacceptingStatus,
   preacceptingOp,
@@ -34,6 +30,7 @@ ghost use Rattle.paper.specs.Sound.{
   collectedOk,
 };
 ghost use Rattle.sound.specs.Front.{front};
+ghost use Rattle.sound.specs.Asked.{ballotsOk, markedOk, phasedOk};
 
 fn power(n: usize) -> usize
     requires { ⌜ n ≤ 7 ⌝ }
@@ -42,26 +39,33 @@ fn power(n: usize) -> usize
     1 << n
 }
 
-pub fn ranges_ok(n: usize, s: usize, joined: u32, v: Vote, mark: u8, phase: u8, set: u8) -> bool
-    requires { ⌜ n ≤ 7 ⌝ }
-    ensures { λ r. ⌜ r ≡ rangesOk n s (front joined v mark phase set) ⌝ }
+// At ballot 0, which most records stay at, nothing else is asked.
+pub fn ballots_ok(n: usize, joined: u32, voted: u32) -> bool
+    ensures { λ r. ⌜ r ≡ ballotsOk n joined voted ⌝ }
 {
-    if !ballot_ok(n, joined) {
+    if joined == 0 {
+        return voted == 0;
+    }
+    if joined < voted {
         return false;
     }
-    if !vote_ok(n, s, 4, v) {
-        return false;
-    }
-    let small = both(at_most(wide8(mark), 1), at_most(wide8(phase), 3));
-    both(small, below(wide8(set), power(n)))
+    both(ballot_ok(n, joined), ballot_ok(n, voted))
 }
 
-pub fn votes_ok(joined: u32, v: Vote, mark: u8) -> bool
-    ensures { λ r. ⌜ r ≡ votesOk (front joined v mark 0 0) ⌝ }
+pub fn marked_ok(status: u8, mark: u8) -> bool
+    ensures { λ r. ⌜ r ≡ markedOk status mark ⌝ }
 {
-    let voted = at_most(wide32(v.voted), wide32(joined));
-    let marks = implied(equal(wide8(mark), 1), equal(wide8(v.status), 4));
-    both(both(voted, none_is_blank(v)), marks)
+    if mark == 0 {
+        return status <= 4;
+    }
+    both(equal(wide8(mark), 1), equal(wide8(status), 4))
+}
+
+pub fn phased_ok(n: usize, phase: u8, set: u8) -> bool
+    requires { ⌜ n ≤ 7 ⌝ }
+    ensures { λ r. ⌜ r ≡ phasedOk n phase set ⌝ }
+{
+    both(at_most(wide8(phase), 3), below(wide8(set), power(n)))
 }
 
 fn preparing_ok(n: usize, c: usize, joined: u32, v: Vote, phase: u8, set: u8) -> bool

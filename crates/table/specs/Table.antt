@@ -1,6 +1,6 @@
 -- "The record of one instance": the table, blank and sound. Assumes nothing.
-use Prim.Native.Nat.{ℕ, _+_, _*_, _-_}
-use mathlib.Core.Bool.{Bool, _&&_}
+use Prim.Native.Nat.{ℕ, zero, suc, _+_, _*_, _-_}
+use mathlib.Core.Bool.{Bool, _&&_, cond}
 use mathlib.Core.List.{List, [], _∷_, _++_}
 use lib.Dec.{eqb}
 use lib.ListN.{length, replicate}
@@ -9,7 +9,7 @@ use Rattle.paper.specs.Logic.{allBelow}
 use Rattle.paper.specs.Setup.{setupOk}
 use Rattle.paper.specs.declared.Record.{Record}
 use Rattle.record.specs.Layout.{recordAt, recordBytes}
-use Rattle.record.specs.Part.{soundPart}
+use Rattle.record.specs.Part.{idleOk, soundPart}
 use Rattle.table.specs.Place.{tableLength, placeAt, placeOf, partAt}
 
 -- what refusal 1 asks
@@ -19,6 +19,11 @@ fits n s c t = setupOk n s c && eqb (length t) (tableLength n s)
 -- setup and copy number are the caller's
 unfoldable pub headOk : ℕ → ℕ → ℕ → List ℕ → Bool
 headOk n s c t = eqb (numAt 1 t 0) n && eqb (numAt 1 t 1) s && eqb (numAt 1 t 2) c
+
+-- what is left of the first k records of a row when those at their end that are idle and right are passed over
+unfoldable pub pastIdle : ℕ → ℕ → List ℕ → ℕ → ℕ → ℕ
+pastIdle n s t o zero = 0
+pastIdle n s t o (suc i) = cond (idleOk n s (partAt t (placeAt s o i))) (pastIdle n s t o i) (suc i)
 
 -- every record of an owner's row is sound
 unfoldable pub soundRow : ℕ → ℕ → ℕ → List ℕ → ℕ → Bool

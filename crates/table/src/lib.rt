@@ -13,8 +13,9 @@ ghost use lib.ListN.{length, replicate};
 ghost use Rattle.num.specs.Num.{splice};
 ghost use Rattle.paper.specs.Logic.{allBelow};
 ghost use Rattle.record.specs.Layout.{recordAt, recordBytes};
+ghost use Rattle.record.specs.Part.{soundPart};
 ghost use Rattle.table.specs.Place.{tableLength, placeAt, placeOf, partAt};
-ghost use Rattle.table.specs.Table.{fits, headOk, soundRow, soundTable, blankTable};
+ghost use Rattle.table.specs.Table.{fits, headOk, pastIdle, soundRow, soundTable, blankTable};
 ghost use Rattle.table.specs.Calls.{blanked, blankedTable, judged, partOf};
 ghost use Rattle.table.specs.Sizes.{Sizes, Row, Names};
 
@@ -87,20 +88,49 @@ fn head_ok(t: &[u8], n: usize, s: usize, c: usize) -> bool
     both(both(copies, numbers), equal(wide8(num::get_u8(t, 2)), c))
 }
 
+// What is left of the first k records of owner o's row when those at their end that are idle and right are passed over:
+// most are, and what a phase asks is not looked at.
+fn past_idle(t: &[u8], n: usize, s: usize, o: usize, k: usize) -> usize
+    requires { ⌜ Names n s o k × (length (now t) ≡ tableLength n s) ⌝ }
+    ensures { λ r. ⌜ r ≡ pastIdle n s (now (t .entry)) o k ⌝ }
+{
+    let mut left = k;
+    let mut at = place_of(n, s, o, k) + 263;
+    while 0 < left {
+        let end = at;
+        at -= 263;
+        if !record::idle_ok(&t[at..end], n, s) {
+            return left;
+        }
+        left -= 1;
+    }
+    0
+}
+
+fn record_sound(t: &[u8], n: usize, s: usize, c: usize, o: usize, j: usize) -> bool
+    requires { ⌜ Sizes n s c (now t) × Names n s o j ⌝ }
+    ensures { λ r. ⌜ r ≡ soundPart n s c o (partAt (now (t .entry)) (placeOf s o j)) ⌝ }
+{
+    let at = place_of(n, s, o, j);
+    let end = at + 263;
+    record::sound_part(&t[at..end], n, s, c, o)
+}
+
 // Every record of owner o's row is sound; the row is walked from its end.
 fn row_sound(t: &[u8], n: usize, s: usize, c: usize, o: usize) -> bool
     requires { ⌜ Row n s c o (now t) ⌝ }
     ensures { λ r. ⌜ r ≡ soundRow n s c (now (t .entry)) o ⌝ }
 {
     let mut left = s;
-    let mut at = 3 + 263 * (times(o, s) + s);
     while 0 < left {
-        let end = at;
-        left -= 1;
-        at -= 263;
-        if !record::sound_part(&t[at..end], n, s, c, o) {
+        left = past_idle(t, n, s, o, left);
+        if left == 0 {
+            return true;
+        }
+        if !record_sound(t, n, s, c, o, left) {
             return false;
         }
+        left -= 1;
     }
     true
 }

@@ -160,8 +160,11 @@ fn joined_range(n: usize, m: Message) -> bool
 fn deps_carried(m: Message) -> bool
     ensures { λ r. ⌜ r ≡ depsCarried m ⌝ }
 {
+    if carries_deps(kind_in(m)) {
+        return true;
+    }
     let deps = m.deps;
-    either(carries_deps(kind_in(m)), same_deps(deps, no_deps()))
+    same_deps(deps, no_deps())
 }
 
 fn fresh_op(m: Message) -> bool
@@ -191,7 +194,11 @@ fn vote_in(m: Message) -> Vote
 fn told_right(n: usize, s: usize, m: Message) -> bool
     ensures { λ r. ⌜ r ≡ told n s m ⌝ }
 {
-    implied(equal(kind_in(m), 7), told_ok(n, s, m.ballot, vote_in(m)))
+    let k = kind_in(m);
+    if k != 7 {
+        return true;
+    }
+    told_ok(n, s, m.ballot, vote_in(m))
 }
 
 fn joined_above(m: Message) -> bool
@@ -239,5 +246,8 @@ fn body_ok(n: usize, s: usize, m: Message) -> bool
 pub fn valid_message(n: usize, s: usize, c: usize, m: Message) -> bool
     ensures { λ r. ⌜ r ≡ valid n s c m ⌝ }
 {
-    both(both(head_ok(n, s, m), way_ok(c, m)), body_ok(n, s, m))
+    if !both(head_ok(n, s, m), way_ok(c, m)) {
+        return false;
+    }
+    body_ok(n, s, m)
 }

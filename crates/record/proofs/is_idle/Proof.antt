@@ -1,37 +1,38 @@
+use borrow.Author.Needs.{needs}
 use Rattle.record.proofs.is_idle.Statement.{statement}
 use Rattle.record.proofs.is_idle.Tie as tie
-use mathlib.Core.Path.{_≡_, refl, sym, ap, _∙_}
-use Prim.Native.Nat.{ℕ, _+_, _*_, _-_, _≤_, _<_}
-use native.Mathlib.Omega.{arith}
-use lib.ListN.{length}
-use borrow.Author.Tests.{not-true, not-false}
-use Rattle.record.proofs.Quick.{Clear, clear-start, clear-next, clear-all}
+use Rattle.record.proofs.is_idle.Reads as reads
+use Rattle.record.proofs.is_idle.Lts as lts
+use Rattle.num.proofs.get_u8.Reads as get-u8-reads
+use Rattle.record.proofs.no_replies.Reads as no-replies-reads
+use mathlib.Core.Path.{_≡_, refl, sym, ap, ap₂, _∙_}
+use Rattle.record.proofs.Front.{in-phase, some-set, empty-set}
 
-abbrev Inv-loop : tie.InvT-loop
-Inv-loop b any₀ i₀ any i = Clear b any i × (263 ≤ length b)
+-- src/lib.rt:228:9
+get-u8-requires : tie.Need-get-u8-requires
+get-u8-requires c κs = search needs
 
-abbrev μ-loop : tie.MeasureT-loop
-μ-loop b any₀ i₀ any i = 263 - i
+-- src/lib.rt:230:9
+returns : tie.Need-returns
+returns c = in-phase _ (c .before .get-u8 .ensures) (c .if1 .taken)
 
-loop-holds : tie.Need-loop-holds Inv-loop μ-loop
-loop-holds c = (clear-start _, c .pre)
+-- src/lib.rt:232:9
+get-u8-requires-2 : tie.Need-get-u8-requires-2
+get-u8-requires-2 c κs = search needs
 
-shared-slice-read-any : tie.Need-shared-slice-read-any Inv-loop μ-loop
-shared-slice-read-any c = omega (arith, c .before .before .loop .inv .1)
+-- src/lib.rt:234:9
+returns-2 : tie.Need-returns-2
+returns-2 c = some-set _ (c .before .before .before .get-u8 .ensures) (c .before .before .if1 .left) (c .before .get-u82 .ensures) (c .if2 .taken)
 
-add-i : tie.Need-add-i Inv-loop μ-loop
-add-i c = omega arith
+-- src/lib.rt:236:5
+no-replies-requires : tie.Need-no-replies-requires
+no-replies-requires c κs = search needs
 
-loop-less : tie.Need-loop-less Inv-loop μ-loop
-loop-less c = omega arith
-
-loop-again : tie.Need-loop-again Inv-loop μ-loop
-loop-again c = (clear-next _ _ _ (c .before .before .loop .inv .0) (c .before .loop-test .taken) refl, c .before .before .loop .inv .1)
-
-returns : tie.Need-returns Inv-loop μ-loop
-returns c = clear-all _ _ _ (c .before .loop .inv .0) (λ h. omega arith)
+-- src/lib.rt:224:1
+returns-3 : tie.Need-returns-3
+returns-3 c = c .no-replies .ensures ∙ empty-set _ (c .before .before .before .before .get-u8 .ensures) (c .before .before .before .if1 .left) (c .before .before .get-u82 .ensures) (c .before .if2 .left)
 
 pub is-idle-spec : {M : Type 1} → statement M
 is-idle-spec =
     tie.close
-    (tie.spec Inv-loop μ-loop loop-holds shared-slice-read-any add-i loop-less loop-again returns)
+    (tie.spec get-u8-requires returns get-u8-requires-2 returns-2 no-replies-requires returns-3)

@@ -1,4 +1,7 @@
-use Rattle.paper.specs.Valid.{valid}
+use mathlib.Core.Path.{_≡_, refl, sym, ap, ap₂, _∙_}
+use mathlib.Core.Bool.{_&&_}
+use borrow.Author.Tests.{not-true, not-false}
+use Rattle.valid.proofs.Laws.{invalid, valid-body}
 use borrow.Author.Needs.{needs}
 use Rattle.valid.proofs.valid_message.Statement.{statement}
 use Rattle.valid.proofs.valid_message.Tie as tie
@@ -12,23 +15,16 @@ way-ok-requires c κs = search needs
 both-requires : tie.Need-both-requires
 both-requires c κs = search needs
 
+returns : tie.Need-returns
+returns c = invalid _ _ _ _ (sym (c .before .both .ensures ∙ ap₂ _&&_ (c .before .before .before .head-ok .ensures) (c .before .before .way-ok .ensures)) ∙ not-true _ (c .if1 .taken))
+
 body-ok-requires : tie.Need-body-ok-requires
 body-ok-requires c κs = search needs
 
-both-requires-2 : tie.Need-both-requires-2
-both-requires-2 c κs = search needs
-
-returns : tie.Need-returns
-unfolding valid
-returns c = cc
+returns-2 : tie.Need-returns-2
+returns-2 c = valid-body _ _ _ _ (sym (c .before .before .both .ensures ∙ ap₂ _&&_ (c .before .before .before .before .head-ok .ensures) (c .before .before .before .way-ok .ensures)) ∙ not-false _ (c .before .if1 .left)) (c .body-ok .ensures)
 
 pub valid-message-spec : {M : Type 1} → statement M
 valid-message-spec =
     tie.close
-    (tie.spec
-    head-ok-requires
-    way-ok-requires
-    both-requires
-    body-ok-requires
-    both-requires-2
-    returns)
+    (tie.spec head-ok-requires way-ok-requires both-requires returns body-ok-requires returns-2)
