@@ -138,10 +138,11 @@ module _ (n s : ℕ) (h st past : List ℕ) (p k : ℕ) (g : Seeking n s h st pa
             let z : Inst n s q i = record { owner = lq; first = omega arith; last = omega (arith, g .lists .few p k (g .inst) q lq) } in
             record {
               none = λ m. absurd (omega arith);
-              some = λ m.
-                  (record { owner = q; number = i; inst = z; place = e; reached = b; apart = not-passes h st p k y t },
-                  not-true (everywhere n s (lets h st p k))
-                  (λ v. tf (lets h st p k q i) (every-at n s (lets h st p k) v q i (z .owner) (z .first) (z .last)) (lets-in h st p k q i b ∙ rw (← e) t)));
+              some = λ m. (
+                record { owner = q; number = i; inst = z; place = e; reached = b; apart = not-passes h st p k y t },
+                not-true (everywhere n s (lets h st p k))
+                    (λ v. tf (lets h st p k q i) (every-at n s (lets h st p k) v q i (z .owner) (z .first) (z .last)) (lets-in h st p k q i b ∙ rw (← e) t)),
+              );
             }
 
   pub held-none : (q : ℕ) → Lets n s h st p k q → n ≤ q → Held n s h st p k 448
@@ -164,9 +165,10 @@ module _ (st : List ℕ) (q from top : ℕ) (know : List ℕ) where
         where
           go : Dec (x ≡ y) → (getD (set know₁ y 1) x 0 ≡ getD know x 0) ⊎ ((getD (set know₁ y 1) x 0 ≡ 1) × Waiting st q from top x)
           go (no z) = rw (getD-set-other know₁ y x 1 0 z) (f .each x)
-          go (yes z) = inr
-              (rw z (getD-set-same know₁ y 1 0 (omega (arith, f .long))),
-              record { number = i + 1; after = omega arith; last = omega arith; place = omega arith; not-out = λ v. d (rw z at v) })
+          go (yes z) = inr (
+            rw z (getD-set-same know₁ y 1 0 (omega (arith, f .long))),
+            record { number = i + 1; after = omega arith; last = omega arith; place = omega arith; not-out = λ v. d (rw z at v) },
+          )
 
 slot-same : (n s p k o j : ℕ) → s ≤ 64 → Inst n s p k → Inst n s o j → slotOf o j ≡ slotOf p k → (o ≡ p) × (j ≡ k)
 slot-same n s p k o j l i w e = (omega (arith, i .first, i .last, w .first, w .last), omega (arith, i .first, i .last, w .first, w .last))
@@ -174,6 +176,9 @@ slot-same n s p k o j l i w e = (omega (arith, i .first, i .last, w .first, w .l
 module _ (n s : ℕ) (h st know past : List ℕ) (g : Going n s h st know past) where
   pub slot-in : (p k : ℕ) → Inst n s p k → {x : ℕ} → x ≡ slotOf p k → x < length know
   slot-in p k i e = omega (arith, i .owner, i .first, i .last, g .long, g .lists .copies, g .lists .numbers)
+
+  pub known-at : (p k : ℕ) → Inst n s p k → {x z : ℕ} → x ≡ slotOf p k → z ≡ getD know x 0 → Known n s h st p k z
+  known-at p k i ex ez = rw (ez, ex) (g .known p k i)
 
   -- of one instance more is known
   pub known-more : (p k x z : ℕ) → Inst n s p k → x ≡ slotOf p k → Known n s h st p k z → Going n s h st (set know x z) past

@@ -165,10 +165,10 @@ fn ask(
     ensures says { λ r. ⌜ r ≡ everywhere n s (lets (now (h .entry)) (now (st .entry)) p k) ⌝ }
     ensures kept { λ _. ⌜ Going n s (now (h .entry)) (now (st .entry)) (now (know .exit)) (now (past .entry)) ⌝ }
 {
-    let y = holder(n, s, h, st, past, p, k);
-    if y < 448 {
+    let ahead = holder(n, s, h, st, past, p, k);
+    if ahead < 448 {
         let x = slot_of(p, k);
-        know[x] = (y + 2) as u16;
+        know[x] = (ahead + 2) as u16;
         return false;
     }
     free(n, s, h, st, know, past, p, k);
