@@ -2,7 +2,7 @@
 use paper::Command;
 use paper::Refusal;
 
-pub mod chart;
+pub mod states;
 pub mod hand_out;
 pub mod settled;
 
