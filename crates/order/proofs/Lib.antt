@@ -1,7 +1,6 @@
 pub mod Passed
 pub mod Asked
-pub mod States
+pub mod Stated
 pub mod Marked
 pub mod Listed
-pub mod Handed
 pub mod Unique
