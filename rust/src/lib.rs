@@ -211,29 +211,24 @@ impl Setup {
         out: &mut [u8],
         at: Instance,
     ) -> Result<Event, Refusal> {
-        let mut values = [0; 3];
-        let number = unsafe {
-            raw::pumxaqert_recover(
-                table.as_mut_ptr(),
-                table.len(),
-                self.n,
-                self.s,
-                self.copy,
-                out.as_mut_ptr(),
-                out.len(),
-                at.owner,
-                at.number,
-                &mut values,
-            )
-        };
-        event(number, values)
+        self.on_instance(raw::pumxaqert_recover, table, out, at)
     }
 
     /// The instance's messages once more.
     pub fn nudge(&self, table: &mut [u8], out: &mut [u8], at: Instance) -> Result<Event, Refusal> {
+        self.on_instance(raw::pumxaqert_nudge, table, out, at)
+    }
+
+    fn on_instance(
+        &self,
+        call: raw::OnInstance,
+        table: &mut [u8],
+        out: &mut [u8],
+        at: Instance,
+    ) -> Result<Event, Refusal> {
         let mut values = [0; 3];
         let number = unsafe {
-            raw::pumxaqert_nudge(
+            call(
                 table.as_mut_ptr(),
                 table.len(),
                 self.n,

@@ -1,6 +1,20 @@
 //! The C calls as `include/pumxaqert.h` declares them. The wrapper is in the crate's root; these are for who has to
 //! hand over what it cannot express.
 
+/// Recover and nudge.
+pub type OnInstance = unsafe extern "C" fn(
+    table: *mut u8,
+    table_len: usize,
+    n: usize,
+    s: usize,
+    c: usize,
+    out: *mut u8,
+    out_len: usize,
+    owner: usize,
+    number: usize,
+    values: *mut [usize; 3],
+) -> u32;
+
 extern "C" {
     pub fn pumxaqert_blank(table: *mut u8, table_len: usize, n: usize, s: usize, c: usize) -> u32;
 

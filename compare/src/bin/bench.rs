@@ -1,4 +1,4 @@
-//! bench [quick]: the library beside the second program, as Markdown for docs/BENCH.md. Every figure of a line was
+//! bench [quick | orders]: the library beside the second program, as Markdown for docs/BENCH.md. Every figure of a line was
 //! measured in the same rounds, turn and turn about; times are medians.
 
 use compare::both::{library_side, second_side, Call, Lent, LIST, OUT};
@@ -14,13 +14,15 @@ use std::time::Duration;
 const LARGEST: Setup = Setup { n: 7, s: 64, copy: 0 };
 
 fn main() {
-    let quick = std::env::args().nth(1).is_some_and(|word| word == "quick");
-    let rounds = match quick {
-        true => Rounds { rounds: 5, each: Duration::from_micros(100) },
+    let word = std::env::args().nth(1).unwrap_or_default();
+    let rounds = match &word[..] {
+        "quick" => Rounds { rounds: 5, each: Duration::from_micros(100) },
         // Short turns and many of them: what another program takes of the processor then falls into few of them.
-        false => Rounds { rounds: 101, each: Duration::from_micros(200) },
+        _ => Rounds { rounds: 101, each: Duration::from_micros(200) },
     };
-    if std::env::args().nth(1).is_some_and(|w| w == "orders") { return orders(&rounds); }
+    if word == "orders" {
+        return orders(&rounds);
+    }
     limits(&rounds);
     largest(&rounds);
     sizes(&rounds, false);

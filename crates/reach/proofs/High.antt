@@ -101,7 +101,7 @@ module _ (n s : ℕ) (t : Records) where
   range o j i = inrange (i .owner) (i .first) (i .last)
 
   -- what an entry names comes, and so does what comes from there
-  comes-on : (p k q x o j : ℕ) → Inst n s p k → Inst n s q x → x ≤ entryOf t p k q → Comes n s t q x o j → Comes n s t p k o j
+  pub comes-on : (p k q x o j : ℕ) → Inst n s p k → Inst n s q x → x ≤ entryOf t p k q → Comes n s t q x o j → Comes n s t p k o j
   comes-on p k q x o j ip iq l h = go (ℕ-discrete q p) (ℕ-discrete x k)
     where
       apart : ((q ≡ p) × (x ≡ k) → ⊥) → Comes n s t p k o j
@@ -178,22 +178,27 @@ module _ (n s : ℕ) (t : Records) where
         (λ (a, b, i, y, z). let w = covers-is q x a b y in stays f c g a b o j (c a b (w .0) (omega (arith, h a (w .0 .owner), w .1))) z)
         (hop-of n s t g q x o j e)
 
-    -- a search from no mark
-    pub explored-highs : (m r : List ℕ) → ((i : ℕ) → getD m i 0 ≡ 0) → Explored n s t p k n m r → Highs n s t p k (λ o. getD r o 0)
-    unfolding reaches
-    explored-highs m r z e o j i = go (itself p k o j) (reaches n s t p k o j) (leb j (getD r o 0)) refl refl refl
+    -- marks that hold what is reached, and nothing but what comes
+    pub highs-by : (f : ℕ → ℕ) → ((o j : ℕ) → Inst n s o j → reaches n s t p k o j ≡ true → j ≤ f o)
+        → ((o j : ℕ) → Inst n s o j → j ≤ f o → Comes n s t p k o j) → Highs n s t p k f
+    highs-by f u v o j i = go (itself p k o j) (reaches n s t p k o j) (leb j (f o)) refl refl refl
       where
-        zero-at : (o j : ℕ) → 1 ≤ j → getD m o 0 < j
-        zero-at o j l = omega (arith, z o)
-
-        go : (a b c : Bool) → itself p k o j ≡ a → reaches n s t p k o j ≡ b → leb j (getD r o 0) ≡ c → (a || b) ≡ (a || c)
+        go : (a b c : Bool) → itself p k o j ≡ a → reaches n s t p k o j ≡ b → leb j (f o) ≡ c → (a || b) ≡ (a || c)
         go true b c x y w = refl
         go false true true x y w = refl
         go false false false x y w = refl
-        go false true false x y w =
-            let l = stays (λ o. getD r o 0) (λ o j i l. e .closed o j (i .owner) (zero-at o j (i .first)) l) (n * s) p k o j (e .holds) y in
-            absurd (omega (arith, leb-gt j (getD r o 0) w))
+        go false true false x y w = absurd (omega (arith, leb-gt j (f o) w, u o j i y))
         go false false true x y w =
             ⊎-elim (λ (d : (o ≡ p) × (j ≡ k)). tf (itself p k o j) (and-in _ _ (eqb-same o p (d .0)) (eqb-same j k (d .1))) x)
             (λ (d : reaches n s t p k o j ≡ true). tf (reaches n s t p k o j) d y)
-            (e .from o j (i .owner) (zero-at o j (i .first)) (leb-le j (getD r o 0) w))
+            (v o j i (leb-le j (f o) w))
+
+    -- a search from no mark
+    pub explored-highs : (m r : List ℕ) → ((i : ℕ) → getD m i 0 ≡ 0) → Explored n s t p k n m r → Highs n s t p k (λ o. getD r o 0)
+    unfolding reaches
+    explored-highs m r z e = highs-by (λ o. getD r o 0)
+        (λ o j i y. stays (λ o. getD r o 0) (λ o j i l. e .closed o j (i .owner) (zero-at o j (i .first)) l) (n * s) p k o j (e .holds) y)
+        (λ o j i l. e .from o j (i .owner) (zero-at o j (i .first)) l)
+      where
+        zero-at : (o j : ℕ) → 1 ≤ j → getD m o 0 < j
+        zero-at o j l = omega (arith, z o)

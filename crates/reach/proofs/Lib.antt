@@ -5,3 +5,4 @@ pub mod Reach
 pub mod High
 pub mod First
 pub mod Same
+pub mod Beginnings

@@ -20,7 +20,7 @@ ghost use Rattle.reach.specs.High.{Explored};
 ghost use Rattle.search.specs.Searching.{Searching, Searched, Asked};
 
 // The dependencies of the record at a place.
-fn deps_at(t: &[u8], at: usize) -> [u16; 7]
+pub fn deps_at(t: &[u8], at: usize) -> [u16; 7]
     requires { ⌜ at + 263 ≤ length (now t) ⌝ }
     ensures { λ r. ⌜ r ≡ recordAt (partAt (now (t .entry)) at) .vote .deps ⌝ }
 {

@@ -20,7 +20,7 @@ wide16-requires : tie.Need-wide16-requires
 wide16-requires c κs = search needs
 
 returns : tie.Need-returns
-returns c = 
+returns c =
     let a = c .before .before .before .args in
     c .wide16 .ensures ∙ c .before .get-u16 .ensures ∙ sym (mark-is (a .h .now) (a .x) (a .o) (c .before .before .before .pre .1))
 

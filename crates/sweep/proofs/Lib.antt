@@ -1,0 +1,5 @@
+pub mod Joins
+pub mod Sums
+pub mod Named
+pub mod Swept
+pub mod Charts
