@@ -3,4 +3,5 @@ pub mod Asked
 pub mod Stated
 pub mod Marked
 pub mod Listed
+pub mod Handed
 pub mod Unique

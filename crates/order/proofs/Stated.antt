@@ -181,6 +181,9 @@ pub states-start : (n s : ℕ) (u : Records) (st : List ℕ) → length st ≡ 4
 states-start n s u st l = record { long = l; done = λ p k i e. absurd (omega arith) }
 
 module _ (n s : ℕ) (u : Records) (st : List ℕ) where
+  pub states-first : (o : ℕ) → States n s u (64 * o) st → States n s u (64 * o + (1 - 1)) st
+  states-first o c = record { long = c .long; done = λ p k i e. c .done p k i (omega arith) }
+
   -- what is past an owner's last number is the next owner's
   pub states-row : (o j : ℕ) → s ≤ 64 → States n s u (64 * o + (j - 1)) st → s < j → States n s u (64 * (o + 1)) st
   states-row o j l c m = record { long = c .long; done = λ p k i e. c .done p k i (omega (arith, i .first, i .last)) }

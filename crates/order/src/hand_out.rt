@@ -1,13 +1,19 @@
 // The hand-out, as a public call.
+use crate::Handing;
+use crate::states::settle_all;
 use next::next_out;
 use rows::slot_of;
 use rules::First;
+use sweep::reach_all;
+use table::Judging;
+use table::judge_table;
 use table::place_of;
 ghost use mathlib.Core.Path.{_≡_};
 ghost use Prim.Native.Nat.{_+_, _≤_, _<_};
 ghost use lib.ListN.{length};
 ghost use Rattle.num.specs.Num.{splice};
 ghost use Rattle.rules.specs.Order.{codeOf};
+ghost use Rattle.order.specs.Passed.{Passed};
 ghost use Rattle.order.specs.States.{Marking, Listing};
 ghost use Rattle.order.specs.Calls.{markIn, handedTable, handedCodes, handedOpen, handed};
 
@@ -57,4 +63,34 @@ fn list_all(
         count += 1;
     }
     count
+}
+
+// Past 1 and 11.
+fn hand_out_open(t: &mut [u8], n: usize, s: usize, c: usize, list: &mut [u16]) -> Handing
+    requires { ⌜ Passed n s c (now t) ⌝ }
+    ensures answers { λ r. ⌜ r ≡ handedOpen n s (now (t .entry)) (now (list .entry)) .answer ⌝ }
+    ensures table { λ _. ⌜ now (t .exit) ≡ handedOpen n s (now (t .entry)) (now (list .entry)) .table ⌝ }
+    ensures list { λ _. ⌜ now (list .exit) ≡ handedOpen n s (now (t .entry)) (now (list .entry)) .list ⌝ }
+{
+    let mut g = [0u8; 6272];
+    let mut h = [0u8; 6272];
+    reach_all(&*t, n, s, &mut g, &mut h);
+    let mut st = [0u8; 448];
+    settle_all(&*t, n, s, &h, &mut st);
+    let mut know = [0u16; 448];
+    let mut past = [0u8; 8];
+    let count = list_all(t, n, s, &h, &mut st, &mut know, &mut past, list);
+    Handing::Codes(count)
+}
+
+pub fn hand_out(t: &mut [u8], n: usize, s: usize, c: usize, list: &mut [u16]) -> Handing
+    ensures answers { λ r. ⌜ r ≡ handed n s c (now (t .entry)) (now (list .entry)) .answer ⌝ }
+    ensures table { λ _. ⌜ now (t .exit) ≡ handed n s c (now (t .entry)) (now (list .entry)) .table ⌝ }
+    ensures list { λ _. ⌜ now (list .exit) ≡ handed n s c (now (t .entry)) (now (list .entry)) .list ⌝ }
+{
+    let judging = judge_table(&*t, n, s, c);
+    if let Judging::Refused(why) = judging {
+        return Handing::Refused(why);
+    }
+    hand_out_open(t, n, s, c, list)
 }
