@@ -12,10 +12,10 @@ use lib.ListN.{length, getD, set, length-set}
 use lib.Seq.{getD-set-same, getD-set-other}
 use Rattle.rules.specs.Order.{everywhere}
 use Rattle.reach.specs.High.{Inst}
-use Rattle.reach.proofs.Tests.{tf, clash, bool, and-l, and-r, or-cases, not-true, not-not, eqb-eq, eqb-same, eqb-ne, eqb-false, leb-le, leb-in, leb-gt}
+use Rattle.reach.proofs.Tests.{tf, and-l, and-r, or-cases, not-true, not-not, eqb-eq, eqb-same, eqb-ne, eqb-false, leb-le, leb-in}
 use Rattle.reach.proofs.Instances.{every-at, every-in}
 use Rattle.rows.specs.Rows.{slotOf, markIn}
-use Rattle.next.specs.Slots.{lets, readyIn, passesAt, Lists, Past, Ahead, Known, Going, Seeking, Span, Sought, Held, Waiting, Freed}
+use Rattle.next.specs.Slots.{lets, readyIn, passesAt, Ahead, Known, Going, Seeking, Span, Sought, Held, Waiting, Freed}
 
 leb-not : (a b : ℕ) → b < a → leb a b ≡ false
 leb-not a b l = not-true (leb a b) (λ e. absurd (omega (arith, leb-le a b e)))

@@ -1,6 +1,6 @@
 -- What need not be looked at again, step by step. Assumes nothing.
 use Prim.Native.Nat.{ℕ, zero, suc, _+_, _*_, _≤_, _<_}
-use mathlib.Core.Path.{_≡_, refl, sym, ap, _∙_}
+use mathlib.Core.Path.{_≡_, refl, sym, _∙_}
 use mathlib.Core.Logic.{⊎-elim}
 use mathlib.Core.Bool.{Bool, true, false, not}
 use mathlib.Core.List.{List}
@@ -8,10 +8,10 @@ use native.Mathlib.Omega.{arith}
 use native.Mathlib.Nat.{eq-or-lt-of-le}
 use native.Mathlib.Decide.{ℕ-discrete}
 use lib.Dec.{eqb}
-use lib.ListN.{length, getD, set, length-set}
+use lib.ListN.{getD, set, length-set}
 use lib.Seq.{getD-set-same, getD-set-other}
 use Rattle.paper.proofs.Laws.{allBelow-at}
-use Rattle.reach.proofs.Tests.{tf, not-true, not-not, eqb-same, eqb-false, eqb-ne}
+use Rattle.reach.proofs.Tests.{tf, not-true, not-not, eqb-same, eqb-false}
 use Rattle.reach.proofs.Instances.{all-in}
 use Rattle.reach.proofs.First.{Walk, Row, walk-start, row-start, row-on, row-end}
 use Rattle.rows.specs.Rows.{slotOf}

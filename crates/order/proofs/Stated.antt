@@ -17,13 +17,13 @@ use Rattle.table.specs.Place.{placeOf, partAt}
 use Rattle.table.specs.Sizes.{Names}
 use Rattle.rules.specs.Seen.{Records}
 use Rattle.rules.specs.Step.{isCommitted}
-use Rattle.rules.specs.Order.{reaches, isMarked, waitsFor, isSettled}
+use Rattle.rules.specs.Order.{isMarked, waitsFor, isSettled}
 use Rattle.seen.specs.Records.{recordsIn}
 use Rattle.reach.specs.High.{Inst, itself}
-use Rattle.reach.proofs.Tests.{tf, bool, and-l, and-r, not-true, not-not, eqb-eq, eqb-same, leb-le, leb-in, leb-gt}
+use Rattle.reach.proofs.Tests.{tf, bool, and-l, and-r, not-true, not-not, eqb-eq, eqb-same, leb-le, leb-in}
 use Rattle.reach.proofs.Instances.{all-in, every-at, every-in}
 use Rattle.rows.specs.Rows.{slotOf, markIn, Within}
-use Rattle.sweep.specs.Sweeping.{Sized, Row, Charted}
+use Rattle.sweep.specs.Sweeping.{Sized, Row}
 use Rattle.order.specs.States.{Lead, Leads, behindNone, State, States, Stated, Asking}
 
 pub sized-names : (n s : ℕ) (t : List ℕ) → Sized n s t → (o j : ℕ) → Inst n s o j → Names n s o j

@@ -1,6 +1,5 @@
 use Rattle.next.proofs.low_past.Statement.{statement}
 use Rattle.next.proofs.low_past.Tie as tie
-use borrow.Author.Needs.{needs}
 use mathlib.Core.Path.{sym, _∙_}
 use Prim.Native.Nat.{_-_}
 use native.Mathlib.Omega.{arith}

@@ -1,6 +1,5 @@
 use Rattle.next.proofs.row_holder.Statement.{statement}
 use Rattle.next.proofs.row_holder.Tie as tie
-use borrow.Author.Needs.{needs}
 use mathlib.Core.Path.{_≡_, refl, sym, _∙_}
 use Prim.Native.Nat.{ℕ, _*_, _-_, _≤_, _<_}
 use native.Mathlib.Omega.{arith}

@@ -1,6 +1,5 @@
 use Rattle.next.proofs.row_past.Statement.{statement}
 use Rattle.next.proofs.row_past.Tie as tie
-use borrow.Author.Needs.{needs}
 use mathlib.Core.Path.{_≡_, refl}
 use Prim.Native.Nat.{_*_, _-_}
 use native.Mathlib.Omega.{arith}

@@ -1,6 +1,5 @@
 use Rattle.order.proofs.states.lead_all.Statement.{statement}
 use Rattle.order.proofs.states.lead_all.Tie as tie
-use borrow.Author.Needs.{needs}
 use mathlib.Core.Path.{_≡_, sym, _∙_}
 use Prim.Native.Nat.{ℕ, _-_, _<_}
 use native.Mathlib.Omega.{arith}

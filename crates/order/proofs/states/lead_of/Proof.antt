@@ -1,6 +1,5 @@
 use Rattle.order.proofs.states.lead_of.Statement.{statement}
 use Rattle.order.proofs.states.lead_of.Tie as tie
-use borrow.Author.Needs.{needs}
 use mathlib.Core.Path.{_≡_, sym, _∙_}
 use mathlib.Core.Bool.{true}
 use Prim.Native.Nat.{ℕ, _-_, _≤_}
