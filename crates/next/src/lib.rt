@@ -15,7 +15,8 @@ ghost use Prim.Native.Nat.{_-_, _≤_, _<_};
 ghost use lib.Dec.{leb, eqb};
 ghost use lib.ListN.{length, getD};
 ghost use Rattle.rules.specs.Order.{everywhere};
-ghost use Rattle.next.specs.Slots.{lets, readyIn, nextIn, noneAt, passesAt, Out, Low, Past, Going, Asking, Seeking, Span, Sought, Held, Freed, Freeing};
+ghost use Rattle.next.specs.Slots.{lets, readyIn, nextIn, noneAt, passesAt, Out, Low, Past, Going, Asking};
+ghost use Rattle.next.specs.Slots.{Seeking, Span, Sought, Held, Freed, Freeing};
 
 // How much of owner q's row was handed out, where so much was before.
 fn row_past(s: usize, st: &[u8], q: usize, from: usize) -> usize
