@@ -1,9 +1,9 @@
 -- Who holds an instance back, and what is known of it. Assumes nothing.
-use Prim.Native.Nat.{ℕ, _+_, _*_, _-_, _≤_, _<_}
+use Prim.Native.Nat.{ℕ, _+_, _*_, _-_, _/_, _≤_, _<_, max}
 use mathlib.Core.Path.{_≡_, refl, sym, ap, _∙_}
 use mathlib.Core.Logic.{_⊎_, inl, inr, ⊎-elim}
 use mathlib.Core.Bool.{Bool, true, false, _&&_, _||_, not}
-use mathlib.Core.List.{List}
+use mathlib.Core.List.{List, []}
 use native.Mathlib.Omega.{arith}
 use native.Mathlib.Nat.{eq-or-lt-of-le}
 use native.Mathlib.Decide.{decLt, ℕ-discrete}
@@ -15,7 +15,7 @@ use Rattle.reach.specs.High.{Inst}
 use Rattle.reach.proofs.Tests.{tf, and-l, and-r, or-cases, not-true, not-not, eqb-eq, eqb-same, eqb-ne, eqb-false, leb-le, leb-in}
 use Rattle.reach.proofs.Instances.{every-at, every-in}
 use Rattle.rows.specs.Rows.{slotOf, markIn}
-use Rattle.next.specs.Slots.{lets, readyIn, passesAt, Ahead, Known, Going, Seeking, Span, Sought, Held, Waiting, Freed}
+use Rattle.next.specs.Slots.{lets, readyIn, passesAt, Lists, Ahead, Below, Known, Going, Seeking, Span, Stops, Sought, Held, Waiting, Freed}
 
 leb-not : (a b : ℕ) → b < a → leb a b ≡ false
 leb-not a b l = not-true (leb a b) (λ e. absurd (omega (arith, leb-le a b e)))
@@ -83,67 +83,108 @@ module _ (h st : List ℕ) (p k q from : ℕ) where
       (λ (z : j < i + 1). c j a (omega arith))
       (eq-or-lt-of-le b)
 
-  pub sought-some : (top i y : ℕ) → Span h st p q top → from ≤ i → i < top → y ≡ 64 * q + i → passesAt h st p k y ≡ false → Sought h st p k q from top y
-  sought-some top i y v a b e t = record {
+  pub sought-some : (top i y : ℕ) → Span h st p q top → from ≤ i → i < top → Pass h st p k q from i → y ≡ 64 * q + i
+      → passesAt h st p k y ≡ false → Sought h st p k q from top y
+  sought-some top i y v a b c e t = record {
     none = λ l. absurd (omega (arith, v .other, v .last));
-    some = λ l. (i + 1, omega arith, omega arith, omega arith, t);
+    some = λ l. record {
+      number = i + 1;
+      after = omega arith;
+      last = omega arith;
+      place = omega arith;
+      here = t;
+      earlier = λ j x z. c j x (omega arith);
+    };
   }
 
   pub sought-none : (top i : ℕ) → Pass h st p k q from i → top ≤ i → Sought h st p k q from top 448
   sought-none top i c l = record { none = λ u j a b. c j a (omega arith); some = λ u. absurd (omega arith) }
 
--- the part of a row that is asked, as it is read
-module _ (h st past : List ℕ) (p k q : ℕ) {x from top : ℕ} (ex : x ≡ slotOf p k) (ef : from ≡ getD past q 0) (et : top ≡ markIn h x q) where
-  top-is : markIn h (slotOf p k) q ≡ top
+-- the mark that is asked, as it is read
+module _ (h st past : List ℕ) (p k q : ℕ) {x top : ℕ} (ex : x ≡ slotOf p k) (et : top ≡ markIn h x q) where
+  pub top-is : markIn h (slotOf p k) q ≡ top
   top-is = sym (et ∙ ap (λ (z : ℕ). markIn h z q) ex)
 
-  pub span-at : Span h st p q (markIn h (slotOf p k) q) → Span h st p q top
-  span-at v = rw top-is at v
+  pub freed-at : {from : ℕ} {know know₁ : List ℕ} → from ≡ getD past q 0 → Freed st q from top know know₁
+      → Freed st q (getD past q 0) (markIn h (slotOf p k) q) know know₁
+  freed-at ef w = rw (← ef, top-is) w
 
-  pub sought-at : {y : ℕ} → Sought h st p k q from top y → Sought h st p k q (getD past q 0) (markIn h (slotOf p k) q) y
-  sought-at w = rw (← ef, top-is) w
-
-  pub freed-at : {know know₁ : List ℕ} → Freed st q from top know know₁ → Freed st q (getD past q 0) (markIn h (slotOf p k) q) know know₁
-  freed-at w = rw (← ef, top-is) w
+pub row-span : (n s : ℕ) (h st : List ℕ) (p k : ℕ) → Lists n s h st → Inst n s p k → (q : ℕ) → q < n → {x top : ℕ} → x ≡ slotOf p k
+    → top ≡ markIn h x q → Span h st p q top
+row-span n s h st p k g i q l ex et = record {
+  marks = g .marks;
+  states = g .states;
+  owner = omega (arith, i .owner, g .copies);
+  other = omega (arith, g .copies);
+  last = omega (arith, g .few p k i q l, g .numbers, top-is h st [] p k q ex et);
+}
 
 -- all rows
 abbrev Lets : ℕ → ℕ → List ℕ → List ℕ → ℕ → ℕ → ℕ → Type 0
 Lets n s h st p k q = (o j : ℕ) → Inst n s o j → o < q → lets h st p k o j ≡ true
 
-module _ (n s : ℕ) (h st past : List ℕ) (p k : ℕ) (g : Seeking n s h st past p k) where
-  pub seek-span : (q : ℕ) → q < n → Span h st p q (markIn h (slotOf p k) q)
-  seek-span q l = record {
-    marks = g .lists .marks;
-    states = g .lists .states;
-    owner = omega (arith, g .inst .owner, g .lists .copies);
-    other = omega (arith, g .lists .copies);
-    last = omega (arith, g .lists .few p k (g .inst) q l, g .lists .numbers);
-  }
+module _ (n s : ℕ) (h st past : List ℕ) (p k from : ℕ) (g : Seeking n s h st past p k from) where
+  pub lets-start : Lets n s h st p k (from / 64)
+  lets-start o j i l = g .below o j i (omega (arith, i .first, i .last, g .lists .numbers))
 
-  module _ (q y : ℕ) (lq : q < n) (w : Sought h st p k q (getD past q 0) (markIn h (slotOf p k) q) y) where
+  module _ (q y x start top z : ℕ) (lq : q < n) (ex : x ≡ slotOf p k) (et : top ≡ markIn h x q) (ez : z ≡ getD past q 0)
+      (es : start ≡ max z (from - 64 * q)) (w : Sought h st p k q start top y) where
+    -- what is before the start lets out
+    early : (j : ℕ) → Inst n s q j → j ≤ start → lets h st p k q j ≡ true
+    early j i l = go (decLt z j) (decLt (markIn h (slotOf p k) q) j)
+      where
+        go : Dec (z < j) → Dec (markIn h (slotOf p k) q < j) → lets h st p k q j ≡ true
+        go (yes a) b = g .below q j i (omega (arith, i .first))
+        go (no a) (yes b) = lets-out h st p k q j b
+        go (no a) (no b) =
+            lets-in h st p k q j (omega arith)
+            ∙ passes-two h st p k (slotOf q j) (g .passed .rows q lq .each j (i .first) (omega (arith, ez)))
+
+    reached : (j : ℕ) → j ≤ top → passesAt h st p k (slotOf q j) ≡ true → lets h st p k q j ≡ true
+    reached j l t = lets-in h st p k q j (omega (arith, top-is h st past p k q ex et)) ∙ t
+
     pub lets-more : 448 ≤ y → Lets n s h st p k q → Lets n s h st p k (q + 1)
-    lets-more l c o j i m = ⊎-elim (λ (z : o ≡ q). go z (decLt (getD past q 0) j) (decLt (markIn h (slotOf p k) q) j)) (λ (z : o < q). c o j i z) (eq-or-lt-of-le {n = o} {m = q} (omega arith))
+    lets-more l c o j i m = ⊎-elim
+        (λ (e : o ≡ q). rw e (row (rw e at i) (decLt start j) (decLt top j)))
+        (λ (e : o < q). c o j i e)
+        (eq-or-lt-of-le {n = o} {m = q} (omega arith))
       where
-        go : o ≡ q → Dec (getD past q 0 < j) → Dec (markIn h (slotOf p k) q < j) → lets h st p k o j ≡ true
-        go z a (yes b) = rw z (lets-out h st p k q j b)
-        go z (yes a) (no b) = rw z (lets-in h st p k q j (omega arith) ∙ w .none l j a (omega arith))
-        go z (no a) (no b) =
-            rw z (lets-in h st p k q j (omega arith) ∙ passes-two h st p k (slotOf q j) (g .passed .rows q lq .each j (i .first) (omega arith)))
+        row : Inst n s q j → Dec (start < j) → Dec (top < j) → lets h st p k q j ≡ true
+        row i (no a) b = early j i (omega arith)
+        row i (yes a) (yes b) = lets-out h st p k q j (omega (arith, top-is h st past p k q ex et))
+        row i (yes a) (no b) = reached j (omega arith) (w .none l j a (omega arith))
 
-    pub held-some : y < 448 → Held n s h st p k y
-    held-some l = go (w .some l)
-      where
-        go : (i : ℕ) × (getD past q 0 < i) × (i ≤ markIn h (slotOf p k) q) × (y ≡ slotOf q i) × (passesAt h st p k y ≡ false) → Held n s h st p k y
-        go (i, a, b, e, t) =
-            let z : Inst n s q i = record { owner = lq; first = omega arith; last = omega (arith, g .lists .few p k (g .inst) q lq) } in
-            record {
-              none = λ m. absurd (omega arith);
-              some = λ m. (
-                record { owner = q; number = i; inst = z; place = e; reached = b; apart = not-passes h st p k y t },
-                not-true (everywhere n s (lets h st p k))
-                    (λ v. tf (lets h st p k q i) (every-at n s (lets h st p k) v q i (z .owner) (z .first) (z .last)) (lets-in h st p k q i b ∙ rw (← e) t)),
-              );
-            }
+    module _ (c : Lets n s h st p k q) (v : Stops h st p k q start top y) where
+      there : Inst n s q (v .number)
+      there = record {
+        owner = lq;
+        first = omega (arith, v .after);
+        last = omega (arith, v .last, g .lists .few p k (g .inst) q lq, top-is h st past p k q ex et);
+      }
+
+      mark : v .number ≤ markIn h (slotOf p k) q
+      mark = omega (arith, v .last, top-is h st past p k q ex et)
+
+      ahead : Ahead n s h p k y
+      ahead = record { owner = q; number = v .number; inst = there; place = v .place; reached = mark; apart = not-passes h st p k y (v .here) }
+
+      below : Below n s h st p k y
+      below o j i l = ⊎-elim
+          (λ (e : o ≡ q). rw e (row (rw e at i) (omega (arith, v .place, i .first, v .after)) (decLt start j)))
+          (λ (e : o < q). c o j i e)
+          (eq-or-lt-of-le {n = o} {m = q} (omega (arith, v .place, i .first, i .last, there .last, g .lists .numbers)))
+        where
+          row : Inst n s q j → j < v .number → Dec (start < j) → lets h st p k q j ≡ true
+          row i m (no a) = early j i (omega arith)
+          row i m (yes a) = reached j (omega (arith, v .last)) (v .earlier j a m)
+
+      not-all : everywhere n s (lets h st p k) ≡ false
+      not-all = not-true (everywhere n s (lets h st p k))
+          (λ a. tf (lets h st p k q (v .number)) (every-at n s (lets h st p k) a q (v .number) (there .owner) (there .first) (there .last))
+          (lets-in h st p k q (v .number) mark ∙ rw (← v .place) (v .here)))
+
+    pub held-some : Lets n s h st p k q → y < 448 → Held n s h st p k y
+    held-some c l = let v = w .some l in record { none = λ m. absurd (omega arith); some = λ m. (ahead c v, below c v, not-all c v) }
 
   pub held-none : (q : ℕ) → Lets n s h st p k q → n ≤ q → Held n s h st p k 448
   held-none q c l = record {
@@ -195,11 +236,13 @@ module _ (n s : ℕ) (h st know past : List ℕ) (g : Going n s h st know past) 
               rw (same, w .0, w .1) u
 
   module _ (p k : ℕ) (ip : Inst n s p k) where
-    pub known-ahead : (y : ℕ) → Ahead n s h p k y → Known n s h st p k (y + 2)
-    known-ahead y a = record { ready = λ e. absurd (omega arith); held = λ l. let e : y + 2 - 2 ≡ y = omega arith in rw e a }
+    pub known-ahead : (y : ℕ) → Ahead n s h p k y → Below n s h st p k y → Known n s h st p k (y + 2)
+    known-ahead y a b =
+        let e : y + 2 - 2 ≡ y = omega arith in
+        record { ready = λ e. absurd (omega arith); held = λ l. rw e a; below = λ o j i l. b o j i (omega arith) }
 
     pub known-ready : everywhere n s (lets h st p k) ≡ true → Known n s h st p k 1
-    known-ready r = record { ready = λ e. r; held = λ l. absurd (omega arith) }
+    known-ready r = record { ready = λ e. r; held = λ l. absurd (omega arith); below = λ o j i l. absurd (omega arith) }
 
     -- what names a place names one
     pub known-small : (x : ℕ) → Known n s h st p k x → x < 450
@@ -256,6 +299,7 @@ module _ (n s : ℕ) (h st know past : List ℕ) (g : Going n s h st know past) 
               rw (e .0) (record {
                 ready = λ v. ready-too o j i (rw (z .0, z .1) (w .last)) (w .not-out);
                 held = λ l. absurd (omega arith);
+                below = λ o j i l. absurd (omega arith);
               }))
               (f .each (slotOf o j))
 

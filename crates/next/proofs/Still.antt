@@ -57,6 +57,6 @@ module _ (st : List ℕ) (x : ℕ) (inside : x < length st) where
       record {
         lists = record { copies = l .copies; numbers = l .numbers; marks = l .marks; states = length-set st x 2 ∙ l .states; few = l .few; closed = l .closed };
         long = g .long;
-        known = λ p k i. record { ready = λ e. every-still n s h p k (g .known p k i .ready e); held = g .known p k i .held };
+        known = λ p k i. record { ready = λ e. every-still n s h p k (g .known p k i .ready e); held = g .known p k i .held; below = λ o j io l. lets-still h p k o j (g .known p k i .below o j io l) };
         passed = past-still n s past (g .passed);
       }

@@ -67,10 +67,15 @@ pub record Ahead (n s : ℕ) (h : List ℕ) (p k y : ℕ) : Type 0 where
   pub reached : number ≤ markIn h (slotOf p k) owner
   pub apart : markIn h y p < k
 
--- x: what is known of p.k. 0 nothing, 1 all let it out, from 2 on the place of one ahead
+-- all at the places below y let p.k out
+abbrev pub Below : ℕ → ℕ → List ℕ → List ℕ → ℕ → ℕ → ℕ → Type 0
+Below n s h st p k y = (o j : ℕ) → Inst n s o j → slotOf o j < y → lets h st p k o j ≡ true
+
+-- x: what is known of p.k. 0 nothing, 1 all let it out, from 2 on the place of one ahead, and all below let it out
 pub record Known (n s : ℕ) (h st : List ℕ) (p k x : ℕ) : Type 0 where
   pub ready : x ≡ 1 → everywhere n s (lets h st p k) ≡ true
   pub held : 2 ≤ x → Ahead n s h p k (x - 2)
+  pub below : Below n s h st p k (x - 2)
 
 pub record Going (n s : ℕ) (h st know past : List ℕ) : Type 0 where
   pub lists : Lists n s h st
@@ -82,11 +87,12 @@ pub record Asking (n s : ℕ) (h st know past : List ℕ) (p k : ℕ) : Type 0 w
   pub going : Going n s h st know past
   pub inst : Inst n s p k
 
--- p.k is asked for
-pub record Seeking (n s : ℕ) (h st past : List ℕ) (p k : ℕ) : Type 0 where
+-- p.k is asked for, from a place on
+pub record Seeking (n s : ℕ) (h st past : List ℕ) (p k from : ℕ) : Type 0 where
   pub lists : Lists n s h st
   pub passed : Past n s st past
   pub inst : Inst n s p k
+  pub below : Below n s h st p k from
 
 -- the one at y was handed out, or reaches p.k
 unfoldable pub passesAt : List ℕ → List ℕ → ℕ → ℕ → ℕ → Bool
@@ -100,15 +106,24 @@ pub record Span (h st : List ℕ) (p q top : ℕ) : Type 0 where
   pub other : q < 7
   pub last : top ≤ 64
 
--- y: the first in owner q's row past `from`, up to `top`, that does not pass; 448 where all pass
-pub record Sought (h st : List ℕ) (p k q from top y : ℕ) : Type 0 where
-  pub none : 448 ≤ y → (i : ℕ) → from < i → i ≤ top → passesAt h st p k (slotOf q i) ≡ true
-  pub some : y < 448 → (i : ℕ) × (from < i) × (i ≤ top) × (y ≡ slotOf q i) × (passesAt h st p k y ≡ false)
+-- y: the first in owner q's row past `from`, up to `top`, that does not pass
+pub record Stops (h st : List ℕ) (p k q from top y : ℕ) : Type 0 where
+  pub number : ℕ
+  pub after : from < number
+  pub last : number ≤ top
+  pub place : y ≡ slotOf q number
+  pub here : passesAt h st p k y ≡ false
+  pub earlier : (j : ℕ) → from < j → j < number → passesAt h st p k (slotOf q j) ≡ true
 
--- y: the place of one that holds p.k back; 448 where none does
+-- that, or 448 where all pass
+pub record Sought (h st : List ℕ) (p k q from top y : ℕ) : Type 0 where
+  pub none : 448 ≤ y → (j : ℕ) → from < j → j ≤ top → passesAt h st p k (slotOf q j) ≡ true
+  pub some : y < 448 → Stops h st p k q from top y
+
+-- y: the place of the first that holds p.k back; 448 where none does
 pub record Held (n s : ℕ) (h st : List ℕ) (p k y : ℕ) : Type 0 where
   pub none : 448 ≤ y → everywhere n s (lets h st p k) ≡ true
-  pub some : y < 448 → Ahead n s h p k y × (everywhere n s (lets h st p k) ≡ false)
+  pub some : y < 448 → Ahead n s h p k y × Below n s h st p k y × (everywhere n s (lets h st p k) ≡ false)
 
 -- x is in owner q's row past `from`, up to `top`, and was not handed out
 pub record Waiting (st : List ℕ) (q from top x : ℕ) : Type 0 where
@@ -122,6 +137,11 @@ pub record Waiting (st : List ℕ) (q from top x : ℕ) : Type 0 where
 pub record Freed (st : List ℕ) (q from top : ℕ) (know know′ : List ℕ) : Type 0 where
   pub long : length know′ ≡ length know
   pub each : (x : ℕ) → (getD know′ x 0 ≡ getD know x 0) ⊎ ((getD know′ x 0 ≡ 1) × Waiting st q from top x)
+
+-- all below a place let p.k out
+pub record Resuming (n s : ℕ) (h st know past : List ℕ) (p k from : ℕ) : Type 0 where
+  pub asking : Asking n s h st know past p k
+  pub below : Below n s h st p k from
 
 -- all let p.k out
 pub record Freeing (n s : ℕ) (h st know past : List ℕ) (p k : ℕ) : Type 0 where

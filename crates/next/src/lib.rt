@@ -11,12 +11,12 @@ use rows::slot_of;
 use rules::First;
 ghost use mathlib.Core.Path.{_≡_};
 ghost use mathlib.Core.Bool.{_&&_, not};
-ghost use Prim.Native.Nat.{_-_, _≤_, _<_};
+ghost use Prim.Native.Nat.{_*_, _-_, _≤_, _<_, max};
 ghost use lib.Dec.{leb, eqb};
 ghost use lib.ListN.{length, getD};
 ghost use Rattle.rules.specs.Order.{everywhere};
 ghost use Rattle.next.specs.Slots.{lets, readyIn, nextIn, noneAt, passesAt, Out, Low, Past, Going, Asking};
-ghost use Rattle.next.specs.Slots.{Seeking, Span, Sought, Held, Freed, Freeing};
+ghost use Rattle.next.specs.Slots.{Seeking, Span, Sought, Held, Freed, Resuming, Freeing};
 
 // How much of owner q's row was handed out, where so much was before.
 fn row_past(s: usize, st: &[u8], q: usize, from: usize) -> usize
@@ -111,14 +111,38 @@ fn row_holder(h: &[u8], st: &[u8], p: usize, k: usize, q: usize, from: usize, to
     448
 }
 
-// The place of one that holds p.k back; 448 where none does. What p.k does not reach lets it out, and so does what is past.
-fn holder(n: usize, s: usize, h: &[u8], st: &[u8], past: &[u8], p: usize, k: usize) -> usize
-    requires { ⌜ Seeking n s (now h) (now st) (now past) p k ⌝ }
+// Where to begin in owner q's row: beyond what is past, and beyond what lies below a place.
+fn start_of(past: usize, q: usize, from: usize) -> usize
+    requires { ⌜ (past ≤ 64) × (q < 7) ⌝ }
+    ensures { λ r. ⌜ r ≡ max past (from - 64 * q) ⌝ }
+{
+    let base = 64 * q;
+    if base + past < from {
+        return from - base;
+    }
+    past
+}
+
+// The place of the first that holds p.k back, from a place on; 448 where none does. What p.k does not reach lets it out, and
+// so does what is past.
+fn holder(
+    n: usize,
+    s: usize,
+    h: &[u8],
+    st: &[u8],
+    past: &[u8],
+    p: usize,
+    k: usize,
+    from: usize,
+) -> usize
+    requires { ⌜ Seeking n s (now h) (now st) (now past) p k from ⌝ }
     ensures { λ r. ⌜ Held n s (now (h .entry)) (now (st .entry)) p k r ⌝ }
 {
     let x = slot_of(p, k);
-    for q in 0..n {
-        let y = row_holder(h, st, p, k, q, wide8(past[q]), mark_of(h, x, q));
+    let first = from / 64;
+    for q in first..n {
+        let start = start_of(wide8(past[q]), q, from);
+        let y = row_holder(h, st, p, k, q, start, mark_of(h, x, q));
         if y < 448 {
             return y;
         }
@@ -151,7 +175,7 @@ fn free(n: usize, s: usize, h: &[u8], st: &[u8], know: &mut [u16], past: &[u8], 
     }
 }
 
-// Whether all let p.k out, which is then known.
+// Whether all let p.k out, which is then known; from a place on, below which all do.
 fn ask(
     n: usize,
     s: usize,
@@ -161,12 +185,13 @@ fn ask(
     past: &[u8],
     p: usize,
     k: usize,
+    from: usize,
 ) -> bool
-    requires { ⌜ Asking n s (now h) (now st) (now know) (now past) p k ⌝ }
+    requires { ⌜ Resuming n s (now h) (now st) (now know) (now past) p k from ⌝ }
     ensures says { λ r. ⌜ r ≡ everywhere n s (lets (now (h .entry)) (now (st .entry)) p k) ⌝ }
     ensures kept { λ _. ⌜ Going n s (now (h .entry)) (now (st .entry)) (now (know .exit)) (now (past .entry)) ⌝ }
 {
-    let ahead = holder(n, s, h, st, past, p, k);
+    let ahead = holder(n, s, h, st, past, p, k, from);
     if ahead < 448 {
         let x = slot_of(p, k);
         know[x] = (ahead + 2) as u16;
@@ -174,6 +199,13 @@ fn ask(
     }
     free(n, s, h, st, know, past, p, k);
     true
+}
+
+// The place that what is known names, else the first.
+fn place_in(seen: usize) -> usize
+    ensures { λ r. ⌜ r ≡ seen - 2 ⌝ }
+{
+    if seen < 2 { 0 } else { seen - 2 }
 }
 
 // What is known names a place, and the one there was not handed out.
@@ -188,7 +220,8 @@ fn is_held(st: &[u8], seen: usize) -> bool
     !equal(wide8(st[y]), 2)
 }
 
-// p.k is settled, was not handed out, and all let it out.
+// p.k is settled, was not handed out, and all let it out. One that was held back is asked again where it was, once that one was
+// handed out: what let it out still does.
 fn is_next(
     n: usize,
     s: usize,
@@ -214,7 +247,7 @@ fn is_next(
     if is_held(st, seen) {
         return false;
     }
-    ask(n, s, h, st, know, past, p, k)
+    ask(n, s, h, st, know, past, p, k, place_in(seen))
 }
 
 // The lowest that is.

@@ -49,7 +49,7 @@ no-past n s k st ln ls lt e = record {
 }
 
 none-known : (n s k : ℕ) (h st : List ℕ) (p j x : ℕ) → Known n s h st p j (getD (replicate k 0) x 0)
-none-known n s k h st p j x = rw (no-mark k x) (record { ready = λ e. absurd (omega arith); held = λ l. absurd (omega arith) })
+none-known n s k h st p j x = rw (no-mark k x) (record { ready = λ e. absurd (omega arith); held = λ l. absurd (omega arith); below = λ o i a l. absurd (omega arith) })
 
 module _ (n s c : ℕ) (t : List ℕ) (g : Passed n s c t) where
   sized : Sized n s t

@@ -29,18 +29,23 @@ same-length c = search needs
 returns : tie.Need-returns
 returns c =
     let f = c .before .before in
-    let g = f .before .before .before .before .before .pre in
+    let g = f .before .before .before .before .before .pre .asking in
     let w = f .holder .ensures .some (omega (arith, c .before .if1 .taken)) in
-    (sym (w .1), known-more _ _ _ _ _ _ (g .going) _ _ _ _ (g .inst) (c .slot-of .ensures .0) (known-ahead _ _ _ _ _ _ (g .going) _ _ (g .inst) _ (w .0)))
+    let u = known-ahead _ _ _ _ _ _ (g .going) _ _ (g .inst) _ (w .0) (w .1) in
+    (sym (w .2), known-more _ _ _ _ _ _ (g .going) _ _ _ _ (g .inst) (c .slot-of .ensures .0) u)
 
 free-requires : tie.Need-free-requires
-free-requires c κs = record { asking = c .before .before .before .before .before .before .before .pre; ready = c .before .before .holder .ensures .none (omega (arith, c .before .if1 .left)) }
+free-requires c κs =
+    let f = c .before .before in
+    record { asking = f .before .before .before .before .before .pre .asking; ready = f .holder .ensures .none (omega (arith, c .before .if1 .left)) }
 
 same-length-2 : tie.Need-same-length-2
 same-length-2 c = search needs
 
 returns-2 : tie.Need-returns-2
-returns-2 c = let f = c .before .before .before .before .before in (sym (f .holder .ensures .none (omega (arith, c .before .before .before .before .if1 .left))), c .before .before .free .ensures)
+returns-2 c =
+    let f = c .before .before .before .before .before in
+    (sym (f .holder .ensures .none (omega (arith, c .before .before .before .before .if1 .left))), c .before .before .free .ensures)
 
 pub ask-spec : {M : Type 1} → statement M
 ask-spec =

@@ -5,7 +5,7 @@ use mathlib.Core.Path.{sym, _∙_}
 use Prim.Native.Nat.{_-_}
 use native.Mathlib.Omega.{arith}
 use Rattle.next.specs.Slots.{Going}
-use Rattle.next.proofs.Held.{seek-span, span-at, freed-at, slot-in, known-more, known-ready, known-freed}
+use Rattle.next.proofs.Held.{row-span, freed-at, slot-in, known-more, known-ready, known-freed}
 
 abbrev Inv-loop : tie.InvT-loop
 Inv-loop n s h st know₀ past p k x q₀ know q = Going n s h st know past
@@ -40,8 +40,7 @@ free-row-requires c κs =
     let f = l .before in
     let a = f .before .before .before .before .before in
     let g = l .loop .inv in
-    let q = c .before .before .before .before .loop-test .taken in
-    let w = span-at (a .args .h .now) (a .args .st .now) (a .args .past .now) _ _ _ (f .slot-of .ensures .0) (c .before .wide8 .ensures) (c .mark-of .ensures) (seek-span _ _ _ _ _ _ _ (record { lists = g .lists; passed = g .passed; inst = a .pre .asking .inst }) _ q) in
+    let w = row-span _ _ _ _ _ _ (g .lists) (a .pre .asking .inst) _ (c .before .before .before .before .loop-test .taken) (f .slot-of .ensures .0) (c .mark-of .ensures) in
     (w .states, g .long, w .other, w .last)
 
 add-q : tie.Need-add-q Inv-loop μ-loop
@@ -56,7 +55,7 @@ loop-again c =
     let l = d .before .before .before .before .before .before in
     let f = l .before in
     let a = f .before .before .before .before .before in
-    let w = freed-at (a .args .h .now) (a .args .st .now) (a .args .past .now) _ _ _ (f .slot-of .ensures .0) (d .before .before .wide8 .ensures) (d .before .mark-of .ensures) (d .free-row .ensures) in
+    let w = freed-at (a .args .h .now) (a .args .st .now) (a .args .past .now) _ _ _ (f .slot-of .ensures .0) (d .before .mark-of .ensures) (d .before .before .wide8 .ensures) (d .free-row .ensures) in
     known-freed _ _ _ _ _ _ (l .loop .inv) _ _ (a .pre .asking .inst) (a .pre .ready) _ _ (d .before .before .before .before .before .loop-test .taken) w
 
 same-length : tie.Need-same-length Inv-loop μ-loop

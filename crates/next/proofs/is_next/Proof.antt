@@ -11,7 +11,9 @@ shared-slice-read-if1 : tie.Need-shared-slice-read-if1
 shared-slice-read-if1 c = search needs
 
 returns : tie.Need-returns
-returns c = let f = c .before .before in (ready-not _ _ _ _ _ _ _ (f .slot-of .ensures .0) (c .if1 .taken), f .before .before .before .before .before .pre .going)
+returns c =
+    let f = c .before .before in
+    (ready-not _ _ _ _ _ _ _ (f .slot-of .ensures .0) (c .if1 .taken), f .before .before .before .before .before .pre .going)
 
 mul-wide16 : tie.Need-mul-wide16
 mul-wide16 c = search needs
@@ -45,10 +47,19 @@ returns-3 c =
     let g = f .before .before .before .before .before .pre in
     let u = known-at _ _ _ _ _ _ (g .going) _ _ (g .inst) (f .slot-of .ensures .0) (w .wide16 .ensures) in
     let d = sym (c .before .is-held .ensures) ∙ c .if3 .taken in
-    (ready-is _ _ _ _ _ _ _ (f .slot-of .ensures .0) (w .before .before .if1 .left) (sym (known-held _ _ _ _ _ _ (g .going) _ _ (g .inst) _ u d)), g .going)
+    let e = sym (known-held _ _ _ _ _ _ (g .going) _ _ (g .inst) _ u d) in
+    (ready-is _ _ _ _ _ _ _ (f .slot-of .ensures .0) (w .before .before .if1 .left) e, g .going)
+
+place-in-requires : tie.Need-place-in-requires
+place-in-requires c κs = search needs
 
 ask-requires : tie.Need-ask-requires
-ask-requires c κs = search needs
+ask-requires c κs =
+    let w = c .before .before .before .before .before in
+    let f = w .before .before .before .before in
+    let g = f .before .before .before .before .before .pre in
+    let u = known-at _ _ _ _ _ _ (g .going) _ _ (g .inst) (f .slot-of .ensures .0) (w .wide16 .ensures) in
+    record { asking = g; below = rw (c .place-in .ensures) (u .below) }
 
 same-length : tie.Need-same-length
 same-length c = search needs
@@ -56,7 +67,7 @@ same-length c = search needs
 returns-4 : tie.Need-returns-4
 returns-4 c =
     let a = c .before .before in
-    let w = a .before .before .before .before .before in
+    let w = a .before .before .before .before .before .before in
     let f = w .before .before .before .before in
     (ready-is _ _ _ _ _ _ _ (f .slot-of .ensures .0) (w .before .before .if1 .left) (a .ask .ensures .0), a .ask .ensures .1)
 
@@ -73,6 +84,7 @@ is-next-spec =
     returns-2
     is-held-requires
     returns-3
+    place-in-requires
     ask-requires
     same-length
     returns-4)

@@ -30,7 +30,7 @@ passes-requires c κs = let g = c .before .before .before .before .pre in (g .ma
 returns : tie.Need-returns Inv-loop μ-loop
 returns c =
     let l = c .before .before .before in
-    sought-some _ _ _ _ _ _ _ (l .loop .i) _ (l .before .before .before .pre) (l .loop .inv .0) (c .before .before .loop-test .taken) (omega (arith, l .loop .inv .1)) (sym (c .before .passes .ensures) ∙ not-true _ (c .if1 .taken))
+    sought-some _ _ _ _ _ _ _ (l .loop .i) _ (l .before .before .before .pre) (l .loop .inv .0) (c .before .before .loop-test .taken) (l .loop .inv .2) (omega (arith, l .loop .inv .1)) (sym (c .before .passes .ensures) ∙ not-true _ (c .if1 .taken))
 
 add-i : tie.Need-add-i Inv-loop μ-loop
 add-i c = omega arith
