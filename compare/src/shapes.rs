@@ -68,6 +68,16 @@ pub fn orders(setup: Setup) -> Vec<(&'static str, Vec<u8>)> {
         }
         deps
     };
+    // 0.2, 1.1, 0.3, 1.2, ..: each way round is one number on, and all are one cycle but the first.
+    let saw = |o: usize, j: usize| {
+        let mut deps = [0; 7];
+        match o {
+            0 => deps[1] = j as u16 - 1,
+            1 => deps[0] = (j as u16 + 2).min(last),
+            _ => {}
+        }
+        deps
+    };
     vec![
         ("chain", table(setup, |o, j| on_the_one_before(n, o, j))),
         ("one cycle", table(setup, cycle)),
@@ -78,6 +88,7 @@ pub fn orders(setup: Setup) -> Vec<(&'static str, Vec<u8>)> {
             random_table(setup, |random, j| (j + random.below(3)).saturating_sub(2)),
         ),
         ("rows against the order", table(setup, against)),
+        ("a saw of two rows", table(setup, saw)),
     ]
 }
 

@@ -1,5 +1,5 @@
-//! Hand-out by the library's method, in Rust: what every instance reaches is found by sweeps over the table, up and down by
-//! turns, until nothing changes; then one place of the list at a time. The proved hand-out is measured against it.
+//! Hand-out by the library's method, in Rust: two sweeps over the table find most of what is reached, a row for each
+//! instance is closed over it, then one place of the list at a time. The proved hand-out is measured against it.
 
 use second::table::{COMMITTED, HEAD_LEN, RECORD_LEN};
 
@@ -21,7 +21,8 @@ pub fn hand_out(
 ) -> Result<usize, u8> {
     second::judge_table(t, n, s, copy)?;
     let mut beginnings = [[0; 7]; MOST];
-    reach_rows(t, n, s, &mut beginnings);
+    sweep(t, n, s, &mut beginnings, false);
+    sweep(t, n, s, &mut beginnings, true);
     let mut next = Next::new(t, n, s, &beginnings);
     let mut count = 0;
     while count < list.len() {
@@ -51,44 +52,48 @@ fn join(a: Marks, b: Marks) -> Marks {
     std::array::from_fn(|q| a[q].max(b[q]))
 }
 
-/// What o.j reaches as far as the beginnings' rows tell.
-fn beyond(t: &[u8], n: usize, s: usize, beginnings: &Rows, o: usize, j: usize) -> Marks {
-    let d = deps(t, s, o, j);
-    let mut row = d;
+/// The marks take in the rows of the beginnings that they name, owner by owner.
+fn beyond(n: usize, beginnings: &Rows, marks: Marks) -> Marks {
+    let mut row = marks;
     for q in 0..n {
-        if d[q] > 0 {
-            row = join(row, beginnings[slot(q, d[q] as usize)]);
+        if row[q] > 0 {
+            row = join(row, beginnings[slot(q, row[q] as usize)]);
         }
     }
     row
 }
 
-/// Each beginning of an owner's row: what its instances reach.
-fn reach_rows(t: &[u8], n: usize, s: usize, beginnings: &mut Rows) {
-    let (mut back, mut changed) = (false, true);
-    while changed {
-        changed = false;
-        for i in 0..s {
-            let j = if back { s - i } else { i + 1 };
-            for i in 0..n {
-                let o = if back { n - 1 - i } else { i };
-                changed |= raise(t, n, s, beginnings, o, j);
-            }
+/// Until nothing changes.
+fn close(n: usize, beginnings: &Rows, entries: Marks) -> Marks {
+    let mut row = entries;
+    loop {
+        let more = beyond(n, beginnings, row);
+        if more == row {
+            return row;
         }
-        back = !back;
+        row = more;
+    }
+}
+
+/// Each beginning of an owner's row: what its instances reach, as far as one way over all instances finds it.
+fn sweep(t: &[u8], n: usize, s: usize, beginnings: &mut Rows, back: bool) {
+    for i in 0..s {
+        let j = if back { s - i } else { i + 1 };
+        for i in 0..n {
+            let o = if back { n - 1 - i } else { i };
+            raise(t, n, s, beginnings, o, j);
+        }
     }
 }
 
 /// The beginning that ends at o.j takes in the one before, and what o.j reaches.
-fn raise(t: &[u8], n: usize, s: usize, beginnings: &mut Rows, o: usize, j: usize) -> bool {
+fn raise(t: &[u8], n: usize, s: usize, beginnings: &mut Rows, o: usize, j: usize) {
     let x = slot(o, j);
-    let old = beginnings[x];
-    let mut row = join(old, beyond(t, n, s, beginnings, o, j));
+    let mut row = join(beginnings[x], beyond(n, beginnings, deps(t, s, o, j)));
     if j > 1 {
         row = join(row, beginnings[x - 1]);
     }
     beginnings[x] = row;
-    row != old
 }
 
 /// How far each row is committed without a gap.
@@ -129,7 +134,7 @@ impl Next {
         for o in 0..n {
             for j in 1..=s {
                 let (x, at) = (slot(o, j), record(s, o, j));
-                let row = beyond(t, n, s, beginnings, o, j);
+                let row = close(n, beginnings, deps(t, s, o, j));
                 let settled = t[at + STATUS_AT] == COMMITTED && (0..n).all(|q| row[q] <= leads[q]);
                 next.reached[x] = row;
                 next.state[x] = if t[at + MARK_AT] == 1 { OUT } else { settled as u8 * SETTLED };

@@ -1,73 +1,51 @@
--- Marks of beginnings that hold what their instances reach, and nothing else. Assumes nothing.
-use Prim.Native.Nat.{ℕ, zero, suc, _+_, _-_, _*_, _≤_, _<_}
-use mathlib.Core.Path.{_≡_, refl, sym}
-use mathlib.Core.Logic.{_⊎_, inl, inr, ⊎-elim}
+-- Rows that take in the rows of beginnings. Assumes nothing.
+-- r: the marks of p.k; g: those of the beginnings.
+use Prim.Native.Nat.{ℕ, _*_, _≤_, _<_}
+use mathlib.Core.Path.{_≡_, refl}
+use mathlib.Core.Logic.{inl, ⊎-elim}
 use mathlib.Core.Bool.{true}
 use native.Mathlib.Omega.{arith}
+use native.Mathlib.Decide.{decLe}
 use Rattle.rules.specs.Seen.{Records}
-use Rattle.rules.specs.Order.{coversIn, reachesIn, reaches}
-use Rattle.reach.specs.High.{Inst, entryOf, Fit, Comes, Highs, Marks, From, Beyond, Fixed}
-use Rattle.reach.proofs.Reach.{hop-of}
-use Rattle.reach.proofs.High.{covers-is, comes-on, highs-by}
+use Rattle.rules.specs.Order.{reaches}
+use Rattle.reach.specs.High.{Inst, entryOf, Comes, Highs, Marks, From, Holds}
+use Rattle.reach.proofs.High.{comes-on, comes-trans, stays, highs-by}
 
-module _ (n s : ℕ) (t : Records) (fit : Fit n s t) (g h : Marks) where
-  -- what p.k marks comes from p.k
-  pub beyond-comes : From n s t g → (p k : ℕ) → Inst n s p k → Beyond n s t g h p k → (o x : ℕ) → Inst n s o x → x ≤ h p k o → Comes n s t p k o x
-  beyond-comes f p k ip b o x io l =
-      ⊎-elim (λ (e : x ≤ entryOf t p k o). comes-on n s t p k o x o x ip io e (inl (refl, refl)))
-      (λ (q, lq, le, lg).
-      let iq : Inst n s q (entryOf t p k q) = record { owner = lq; first = le; last = fit p k ip q lq } in
-      let (y, iy, ly, c) = f q (entryOf t p k q) iq o x io lg in
-      comes-on n s t p k q y o x ip iy ly c)
-      (b .only o x l)
+module _ (n s : ℕ) (t : Records) (p k : ℕ) (ip : Inst n s p k) where
+  -- all that is marked comes from p.k
+  abbrev pub Comers : (ℕ → ℕ) → Type 0
+  Comers r = (o x : ℕ) → Inst n s o x → x ≤ r o → Comes n s t p k o x
 
-  module _ (fixed : (q i : ℕ) → Inst n s q i → Fixed n s g h q i) (beyond : (p k : ℕ) → Inst n s p k → Beyond n s t g h p k) where
-    -- longer beginnings mark more
-    rising : (q i e o : ℕ) → Inst n s q (i + e) → 1 ≤ i → g q i o ≤ g q (i + e) o
-    rising q i zero o iq l = let e : i + 0 ≡ i = omega arith in rw e (omega arith)
-    rising q i (suc e) o iq l =
-        let z : i + suc e ≡ suc (i + e) = omega arith in
-        let iy : Inst n s q (i + e) = record { owner = iq .owner; first = omega arith; last = omega (arith, iq .last) } in
-        let m : suc (i + e) - 1 ≡ i + e = omega arith in
-        let b : g q (i + e) o ≤ g q (suc (i + e)) o = rw m at (fixed q (suc (i + e)) (record { owner = iq .owner; first = omega arith; last = omega (arith, iq .last) }) .before (omega arith) o) in
-        rw z (omega (arith, b, rising q i e o iy l))
+  pub comers-own : Comers (λ o. entryOf t p k o)
+  comers-own o x io l = comes-on n s t p k o x o x ip io l (inl (refl, refl))
 
-    rise : (q i j o : ℕ) → Inst n s q j → 1 ≤ i → i ≤ j → g q i o ≤ g q j o
-    rise q i j o iq a l = let e : i + (j - i) ≡ j = omega arith in rw e at (rising q i (j - i) o (rw e iq) a)
+  -- so does what a beginning that is marked marks
+  pub comers-named : (g : Marks) (r : ℕ → ℕ) → From n s t g → Comers r → (q : ℕ) → Inst n s q (r q) → (o x : ℕ) → Inst n s o x → x ≤ g q (r q) o → Comes n s t p k o x
+  comers-named g r f c q iq o x io l =
+      let (y, iy, ly, w) = f q (r q) iq o x io l in
+      comes-trans n s t p k q y o x ip iy (c q y iy ly) w
 
-    -- what is covered brings its marks
-    covered : (p k q i : ℕ) → Inst n s p k → coversIn n s t p k q i ≡ true → (o : ℕ) → h q i o ≤ h p k o
-    covered p k q i ip c o =
-        let w = covers-is n s t p k q i c in
-        let iq = w .0 in
-        let id : Inst n s q (entryOf t p k q) = record { owner = iq .owner; first = omega (arith, iq .first, w .1); last = fit p k ip q (iq .owner) } in
-        omega (arith, fixed q i iq .last o, rise q i (entryOf t p k q) o id (iq .first) (w .1), beyond p k ip .rows q (iq .owner) (id .first) o)
+  -- marks that hold the entries, and with a beginning what it marks, are those of p.k
+  module _ (g : Marks) (r : ℕ → ℕ) (few : (o : ℕ) → o < n → r o ≤ s) (comers : Comers r) (own : (o : ℕ) → entryOf t p k o ≤ r o)
+      (holds : (o j : ℕ) → Inst n s o j → Holds n s t g o j) (named : (q : ℕ) → q < n → 1 ≤ r q → (o : ℕ) → g q (r q) o ≤ r o) where
+    within : (o j : ℕ) → Inst n s o j → j ≤ r o → (i : ℕ) → i < n → entryOf t o j i ≤ r i
+    within o j io l i li =
+        let ir : Inst n s o (r o) = record { owner = io .owner; first = omega (arith, io .first); last = few o (io .owner) } in
+        omega (arith, holds o (r o) ir j io l i, named o (io .owner) (ir .first) i)
 
-    -- and so does what is reached
-    brings : (f p k q i : ℕ) → Inst n s p k → reachesIn f n s t p k q i ≡ true → (o : ℕ) → h q i o ≤ h p k o
-    unfolding reachesIn
-    brings zero p k q i ip e o = covered p k q i ip e o
-    brings (suc f) p k q i ip e o =
-        ⊎-elim (λ (y : coversIn n s t p k q i ≡ true). covered p k q i ip y o)
-        (λ (a, b, r, y, z). omega (arith, brings f a b q i (covers-is n s t p k a b y .0) z o, covered p k a b ip y o))
-        (hop-of n s t f p k q i e)
+    pub named-highs : Highs n s t p k r
+    unfolding reaches
+    named-highs = highs-by n s t p k r (λ o j io e. stays n s t p k r within (n * s) p k o j (λ i li. own i) e) comers
 
-    marks : (f p k o j : ℕ) → Inst n s p k → reachesIn f n s t p k o j ≡ true → j ≤ h p k o
-    unfolding reachesIn
-    marks zero p k o j ip e = omega (arith, covers-is n s t p k o j e .1, beyond p k ip .own o)
-    marks (suc f) p k o j ip e =
-        ⊎-elim (λ (y : coversIn n s t p k o j ≡ true). omega (arith, covers-is n s t p k o j y .1, beyond p k ip .own o))
-        (λ (a, b, r, y, z). omega (arith, marks f a b o j (covers-is n s t p k a b y .0) z, covered p k a b ip y o))
-        (hop-of n s t f p k o j e)
-
-    module _ (from : From n s t g) (p k : ℕ) (ip : Inst n s p k) where
-      pub beyond-highs : Highs n s t p k (h p k)
-      unfolding reaches
-      beyond-highs = highs-by n s t p k (h p k) (λ o j i e. marks (n * s) p k o j ip e) (λ o j i l. beyond-comes from p k ip (beyond p k ip) o j i l)
-
-      pub beyond-closed : (q i : ℕ) → Inst n s q i → i ≤ h p k q → (o : ℕ) → h q i o ≤ h p k o
-      unfolding reaches
-      beyond-closed q i iq l o =
-          ⊎-elim (λ (e : (q ≡ p) × (i ≡ k)). rw (e .0, e .1) (omega arith))
-          (λ (e : reaches n s t p k q i ≡ true). brings (n * s) p k q i ip e o)
-          (beyond-comes from p k ip (beyond p k ip) q i iq l)
+    -- what is marked brings its own marks
+    pub named-closed : (q i : ℕ) → Inst n s q i → i ≤ r q → (v : ℕ → ℕ) → ((o x : ℕ) → Inst n s o x → x ≤ v o → Comes n s t q i o x) → ((o : ℕ) → o < n → v o ≤ s)
+        → (o : ℕ) → o < n → v o ≤ r o
+    unfolding reaches
+    named-closed q i iq l v c w o lo = go (decLe 1 (v o))
+      where
+        go : Dec (1 ≤ v o) → v o ≤ r o
+        go (no a) = omega arith
+        go (yes a) =
+            ⊎-elim (λ (e : (o ≡ q) × (v o ≡ i)). rw (e .1, e .0) l)
+            (λ (e : reaches n s t q i o (v o) ≡ true). stays n s t p k r within (n * s) q i o (v o) (λ j lj. within q i iq l j lj) e)
+            (c o (v o) (record { owner = lo; first = a; last = w o lo }) (omega arith))

@@ -16,7 +16,7 @@ use Rattle.rules.specs.Seen.{Records}
 use Rattle.rules.specs.Order.{coversIn, reachesIn, reaches}
 use Rattle.reach.specs.High.{Inst, entryOf, Fit, Few, Comes, Explored, itself, Highs}
 use Rattle.reach.proofs.Tests.{tf, and-l, and-r, and-in, eqb-eq, eqb-same, leb-le, leb-in, leb-gt, ltb-lt, ltb-in, not-true}
-use Rattle.reach.proofs.Reach.{InRange, inrange, hop-of, reach-one, reach-on}
+use Rattle.reach.proofs.Reach.{InRange, inrange, hop-of, reach-one, reach-on, reach-trans}
 
 -- how many instances are unvisited
 unfoldable pub unvisited : ℕ → ℕ → List ℕ → ℕ
@@ -116,6 +116,14 @@ module _ (n s : ℕ) (t : Records) where
       go (yes a) (no b) = apart (λ e. b (e .1))
       go (no a) b = apart (λ e. a (e .0))
 
+  pub comes-trans : (p k q x o j : ℕ) → Inst n s p k → Inst n s q x → Comes n s t p k q x → Comes n s t q x o j → Comes n s t p k o j
+  comes-trans p k q x o j ip iq g h =
+      ⊎-elim (λ (e : (q ≡ p) × (x ≡ k)). rw (e .0, e .1) at h)
+      (λ (e : reaches n s t p k q x ≡ true).
+      ⊎-elim (λ (f : (o ≡ q) × (j ≡ x)). inr (rw (f .0, f .1) e))
+      (λ (f : reaches n s t q x o j ≡ true). inr (reach-trans n s t p k q x o j (range p k ip) (range q x iq) e f)) h)
+      g
+
   module _ (p k : ℕ) where
     pub explore-start : (m : List ℕ) → Few n s m → Explored n s t p k 0 m m
     explore-start m f = record {
@@ -169,7 +177,7 @@ module _ (n s : ℕ) (t : Records) where
             go (no y) (no z) = h (omega arith)
 
     -- marks that hold what they mark hold what is reached
-    stays : (f : ℕ → ℕ) → ((o j : ℕ) → Inst n s o j → j ≤ f o → (i : ℕ) → i < n → entryOf t o j i ≤ f i)
+    pub stays : (f : ℕ → ℕ) → ((o j : ℕ) → Inst n s o j → j ≤ f o → (i : ℕ) → i < n → entryOf t o j i ≤ f i)
         → (g q x o j : ℕ) → ((i : ℕ) → i < n → entryOf t q x i ≤ f i) → reachesIn g n s t q x o j ≡ true → j ≤ f o
     unfolding reachesIn
     stays f c zero q x o j h e = let w = covers-is q x o j e in omega (arith, h o (w .0 .owner), w .1)

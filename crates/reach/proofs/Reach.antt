@@ -108,3 +108,13 @@ module _ (n s : ℕ) (t : Records) where
   pub reach-on : (p k q i o j : ℕ) → InRange p k → InRange q i → coversIn n s t p k q i ≡ true → reaches n s t q i o j ≡ true → reaches n s t p k o j ≡ true
   unfolding reaches
   reach-on p k q i o j r a x y = stable o j p k r (of-hop (n * s) p k o j (q, i, a, x, y))
+
+  trans-in : (f p k q i o j : ℕ) → InRange p k → InRange q i → reachesIn f n s t p k q i ≡ true → reaches n s t q i o j ≡ true → reaches n s t p k o j ≡ true
+  unfolding reachesIn
+  trans-in zero p k q i o j r a x y = reach-on p k q i o j r a x y
+  trans-in (suc f) p k q i o j r a x y =
+      ⊎-elim (λ e. reach-on p k q i o j r a e y) (λ (b, c, d, e, g). reach-on p k b c o j r d e (trans-in f b c q i o j d a g y)) (hop-of f p k q i x)
+
+  pub reach-trans : (p k q i o j : ℕ) → InRange p k → InRange q i → reaches n s t p k q i ≡ true → reaches n s t q i o j ≡ true → reaches n s t p k o j ≡ true
+  unfolding reaches
+  reach-trans p k q i o j r a x y = trans-in (n * s) p k q i o j r a x y

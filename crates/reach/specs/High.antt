@@ -1,7 +1,7 @@
 -- High-water marks. What an instance covers is a prefix of each owner's row, so what it reaches is one too, but for the
 -- instance itself: a number for each owner says it. Assumes nothing.
 -- n, s: the setup; t: the records; p.k: where a search starts.
-use Prim.Native.Nat.{ℕ, _-_, _≤_, _<_}
+use Prim.Native.Nat.{ℕ, _≤_, _<_}
 use mathlib.Core.Path.{_≡_}
 use mathlib.Core.Logic.{_⊎_}
 use mathlib.Core.Bool.{Bool, true, _&&_, _||_}
@@ -50,8 +50,7 @@ itself p k o j = eqb o p && eqb j k
 abbrev pub Highs : ℕ → ℕ → Records → ℕ → ℕ → (ℕ → ℕ) → Type 0
 Highs n s t p k f = (o j : ℕ) → Inst n s o j → (itself p k o j || reaches n s t p k o j) ≡ (itself p k o j || leb j (f o))
 
--- marks for each beginning of an owner's row, and for each instance: at q i o the mark of o of the first i of owner q's row,
--- or of q.i alone
+-- marks for each beginning of an owner's row: at q i o the mark of o of what the first i of owner q's row reach
 abbrev pub Marks : Type 0
 Marks = ℕ → ℕ → ℕ → ℕ
 
@@ -59,13 +58,6 @@ Marks = ℕ → ℕ → ℕ → ℕ
 abbrev pub From : ℕ → ℕ → Records → Marks → Type 0
 From n s t g = (q i : ℕ) → Inst n s q i → (o x : ℕ) → Inst n s o x → x ≤ g q i o → (y : ℕ) × Inst n s q y × (y ≤ i) × Comes n s t q y o x
 
--- the marks h of p.k are its entries and the marks of the beginnings that these name
-pub record Beyond (n s : ℕ) (t : Records) (g h : Marks) (p k : ℕ) : Type 0 where
-  pub own : (o : ℕ) → entryOf t p k o ≤ h p k o
-  pub rows : (q : ℕ) → q < n → 1 ≤ entryOf t p k q → (o : ℕ) → g q (entryOf t p k q) o ≤ h p k o
-  pub only : (o x : ℕ) → x ≤ h p k o → (x ≤ entryOf t p k o) ⊎ ((q : ℕ) × (q < n) × (1 ≤ entryOf t p k q) × (x ≤ g q (entryOf t p k q) o))
-
--- the beginning that ends at q.i holds what q.i marks, and the beginning before it
-pub record Fixed (n s : ℕ) (g h : Marks) (q i : ℕ) : Type 0 where
-  pub last : (o : ℕ) → h q i o ≤ g q i o
-  pub before : 1 < i → (o : ℕ) → g q (i - 1) o ≤ g q i o
+-- a beginning holds the entries of its instances
+abbrev pub Holds : ℕ → ℕ → Records → Marks → ℕ → ℕ → Type 0
+Holds n s t g o k = (i : ℕ) → Inst n s o i → i ≤ k → (q : ℕ) → entryOf t o i q ≤ g o k q

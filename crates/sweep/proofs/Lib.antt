@@ -1,5 +1,6 @@
 pub mod Joins
-pub mod Sums
 pub mod Named
-pub mod Swept
+pub mod Rises
+pub mod Sweeps
+pub mod Closes
 pub mod Charts

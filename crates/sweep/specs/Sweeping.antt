@@ -1,9 +1,9 @@
 -- What every instance reaches, found by sweeps over the table. Assumes nothing.
 -- n, s: the setup; t: the table's bytes; u: the records; g: a row for each beginning of an owner's row, what its instances
--- reach; h: a row for each instance, what it reaches; d: dependencies.
+-- reach; h: a row for each instance, what it reaches.
 use Prim.Native.Nat.{ℕ, zero, suc, _+_, _-_, _≤_, _<_}
 use mathlib.Core.Path.{_≡_}
-use mathlib.Core.Bool.{Bool, true, false, _&&_, cond}
+use mathlib.Core.Bool.{Bool, false, _&&_, cond}
 use mathlib.Core.List.{List}
 use lib.Dec.{leb, ltb}
 use lib.ListN.{length, getD}
@@ -11,7 +11,7 @@ use Rattle.paper.specs.Deps.{noDeps, join}
 use Rattle.table.specs.Place.{tableLength}
 use Rattle.rules.specs.Seen.{Records}
 use Rattle.seen.specs.Records.{recordsIn}
-use Rattle.reach.specs.High.{Inst, Fit, Highs, Marks, From, Fixed}
+use Rattle.reach.specs.High.{Inst, entryOf, Fit, Comes, Highs, Marks, From, Holds}
 use Rattle.rows.specs.Rows.{slotOf, rowOf, markIn}
 
 -- a table of the setup, whose dependencies name instances
@@ -39,75 +39,101 @@ pub record Charting (n s : ℕ) (t g h : List ℕ) : Type 0 where
   pub long : length h ≡ 6272
   pub blank : (x i : ℕ) → markIn g x i ≡ 0
 
--- a row takes in the row of the beginning of owner q's row that an entry names
+-- a row takes in that of the beginning of owner q's row which an entry names
 unfoldable pub withNamed : ℕ → List ℕ → ℕ → ℕ → List ℕ → List ℕ
 withNamed n g q entry row = cond (ltb q n && leb 1 entry) (join row (rowOf g (slotOf q entry))) row
 
--- d, and the rows of the beginnings that its first k entries name
+-- a row takes in those that it names itself, for the first k owners
 unfoldable pub beyondIn : ℕ → ℕ → List ℕ → List ℕ → List ℕ
-beyondIn zero n g d = d
-beyondIn (suc k) n g d = withNamed n g k (getD d k 0) (beyondIn k n g d)
+beyondIn zero n g row = row
+beyondIn (suc k) n g row = withNamed n g k (getD (beyondIn k n g row) k 0) (beyondIn k n g row)
 
 -- the row of the beginning before the one that ends at o.j
 unfoldable pub beforeIn : List ℕ → ℕ → ℕ → List ℕ
 beforeIn g o j = cond (leb j 1) noDeps (rowOf g (slotOf o (j - 1)))
 
--- the marks of beginnings, and what instances mark by them
 abbrev pub marksOf : List ℕ → Marks
 marksOf g q i o = markIn g (slotOf q i) o
 
-abbrev pub beyondOf : ℕ → Records → List ℕ → Marks
-beyondOf n u g p k o = getD (beyondIn 7 n g (u p k .vote .deps)) o 0
-
--- at any time of a sweep
+-- the rows of beginnings at any time: they mark nothing but what is reached
 pub record Rows (n s : ℕ) (u : Records) (g : List ℕ) : Type 0 where
   pub long : length g ≡ 6272
   pub few : (q i : ℕ) → Inst n s q i → (o : ℕ) → o < n → marksOf g q i o ≤ s
   pub from : From n s u (marksOf g)
 
-unfoldable pub sum : ℕ → (ℕ → ℕ) → ℕ
-sum zero f = 0
-sum (suc k) f = f k + sum k f
+-- marks are only added
+abbrev pub Kept : ℕ → ℕ → List ℕ → List ℕ → Type 0
+Kept n s g g′ = (q i : ℕ) → Inst n s q i → (o : ℕ) → marksOf g q i o ≤ marksOf g′ q i o
 
--- all marks together: a sweep that changes a row raises it
-unfoldable pub total : List ℕ → ℕ
-total g = sum 448 (λ x. sum 7 (λ i. markIn g x i))
-
--- a sweep over the instances of P made g′ of g, and changed a row or not
-pub record Swept (n s : ℕ) (u : Records) (g g′ : List ℕ) (changed : Bool) (P : ℕ → ℕ → Type 0) : Type 0 where
+-- the beginning that ends at o.j was raised
+pub record Raised (n s : ℕ) (u : Records) (g g′ : List ℕ) (o j : ℕ) : Type 0 where
   pub rows : Rows n s u g′
-  pub grown : changed ≡ true → total g < total g′
-  pub still : changed ≡ false → g ≡ g′
-  pub fixed : changed ≡ false → (o j : ℕ) → P o j → Fixed n s (marksOf g) (beyondOf n u g) o j
+  pub kept : Kept n s g g′
+  pub holds : Holds n s u (marksOf g) o (j - 1) → Holds n s u (marksOf g′) o j
+
+-- those that end at number j were
+pub record Numbered (n s : ℕ) (u : Records) (g g′ : List ℕ) (j : ℕ) : Type 0 where
+  pub rows : Rows n s u g′
+  pub kept : Kept n s g g′
+  pub holds : ((o : ℕ) → o < n → Holds n s u (marksOf g) o (j - 1)) → (o : ℕ) → o < n → Holds n s u (marksOf g′) o j
+
+-- all were; upwards, each then holds its instances' entries
+pub record Swept (n s : ℕ) (u : Records) (g g′ : List ℕ) (back : Bool) : Type 0 where
+  pub rows : Rows n s u g′
+  pub kept : Kept n s g g′
+  pub holds : back ≡ false → (o j : ℕ) → Inst n s o j → Holds n s u (marksOf g′) o j
 
 -- the i-th of so many, from the first or from the last
 abbrev pub turned : ℕ → ℕ → Bool → ℕ
 turned many i back = cond back (many - 1 - i) i
 
--- o.j alone; number j of all owners
-abbrev pub One : ℕ → ℕ → ℕ → ℕ → Type 0
-One p k o j = (o ≡ p) × (j ≡ k)
-
-abbrev pub Numbered : ℕ → ℕ → ℕ → ℕ → Type 0
-Numbered n k o j = (o < n) × (j ≡ k)
-
 pub record Sweeping (n s : ℕ) (t g : List ℕ) : Type 0 where
   pub sized : Sized n s t
   pub rows : Rows n s (recordsIn s t) g
 
--- and what o.j reaches is asked for
-pub record Asking (n s : ℕ) (t g : List ℕ) (o j : ℕ) : Type 0 where
-  pub sized : Sized n s t
-  pub long : length g ≡ 6272
-  pub inst : Inst n s o j
-
--- and an entry of owner q's
+-- an entry of owner q's
 pub record Naming (n : ℕ) (g : List ℕ) (q entry : ℕ) : Type 0 where
   pub copies : n ≤ 7
   pub long : length g ≡ 6272
   pub last : q < n → entry ≤ 64
 
--- nothing more is to be found
+-- a row of entries or marks
+pub record Taking (n s : ℕ) (g row : List ℕ) : Type 0 where
+  pub copies : n ≤ 7
+  pub numbers : s ≤ 64
+  pub long : length g ≡ 6272
+  pub rows : (q i : ℕ) → Inst n s q i → (o : ℕ) → o < n → marksOf g q i o ≤ s
+  pub seven : length row ≡ 7
+  pub few : (o : ℕ) → o < n → getD row o 0 ≤ s
+
+-- the beginnings' rows after the sweeps
 pub record Found (n s : ℕ) (u : Records) (g : List ℕ) : Type 0 where
   pub rows : Rows n s u g
-  pub fixed : (o j : ℕ) → Inst n s o j → Fixed n s (marksOf g) (beyondOf n u g) o j
+  pub holds : (o j : ℕ) → Inst n s o j → Holds n s u (marksOf g) o j
+
+-- row is on its way to the marks of p.k
+pub record Opened (n s : ℕ) (u : Records) (p k : ℕ) (row : List ℕ) : Type 0 where
+  pub few : (o : ℕ) → o < n → getD row o 0 ≤ s
+  pub own : (o : ℕ) → entryOf u p k o ≤ getD row o 0
+  pub comers : (o x : ℕ) → Inst n s o x → x ≤ getD row o 0 → Comes n s u p k o x
+
+-- and there
+pub record Closed (n s : ℕ) (u : Records) (g : List ℕ) (p k : ℕ) (row : List ℕ) : Type 0 where
+  pub opened : Opened n s u p k row
+  pub named : (q : ℕ) → q < n → 1 ≤ getD row q 0 → (o : ℕ) → marksOf g q (getD row q 0) o ≤ getD row o 0
+
+-- a row of h and nothing else was written
+pub record Wrote (h h′ : List ℕ) (x : ℕ) : Type 0 where
+  pub long : length h′ ≡ 6272
+  pub others : (y : ℕ) → y < 448 → (y ≡ x → ⊥) → rowOf h′ y ≡ rowOf h y
+
+pub record Closing (n s : ℕ) (t g h : List ℕ) (p k : ℕ) : Type 0 where
+  pub sized : Sized n s t
+  pub found : Found n s (recordsIn s t) g
+  pub long : length h ≡ 6272
+  pub inst : Inst n s p k
+
+pub record Reaching (n s : ℕ) (t g h : List ℕ) : Type 0 where
+  pub sized : Sized n s t
+  pub found : Found n s (recordsIn s t) g
+  pub long : length h ≡ 6272

@@ -1,20 +1,19 @@
 use Rattle.sweep.proofs.sweep.Statement.{statement}
 use Rattle.sweep.proofs.sweep.Tie as tie
-use Prim.Native.Nat.{ℕ, _+_, _-_, _≤_, _<_}
-use mathlib.Core.Path.{_≡_, refl, sym, _∙_}
+use Prim.Native.Nat.{_+_, _-_}
+use mathlib.Core.Path.{sym, _∙_}
 use native.Mathlib.Omega.{arith}
 use Rattle.seen.specs.Records.{recordsIn}
-use Rattle.sweep.specs.Sweeping.{Swept}
-use Rattle.sweep.proofs.Swept.{swept-none, swept-on, swept-as, turned-below, Numbers, numbers-more, numbers-all}
+use Rattle.sweep.proofs.Sweeps.{turned-below, Numbers, numbers-none, numbers-more, numbers-all}
 
 abbrev Inv-loop : tie.InvT-loop
-Inv-loop t n s g₀ back changed₀ i₀ g changed i = Swept n s (recordsIn s t) g₀ g changed (Numbers n s back i) × (i ≤ s)
+Inv-loop t n s g₀ back i₀ g i = Numbers n s (recordsIn s t) g₀ g back i
 
 abbrev μ-loop : tie.MeasureT-loop
-μ-loop t n s g₀ back changed₀ i₀ g changed i = s - i
+μ-loop t n s g₀ back i₀ g i = s - i
 
 loop-holds : tie.Need-loop-holds Inv-loop μ-loop
-loop-holds c = (swept-none _ _ _ _ _ (c .before .before .pre .rows) (λ o j (m, l, a, b). absurd (omega arith)), omega arith)
+loop-holds c = numbers-none _ _ _ _ _ (c .before .before .pre .rows)
 
 turn-requires : tie.Need-turn-requires Inv-loop μ-loop
 turn-requires c κs = c .before .loop-test .taken
@@ -29,38 +28,27 @@ raise-number-requires : tie.Need-raise-number-requires Inv-loop μ-loop
 raise-number-requires c κs =
     let l = c .before .before .before in
     let e = l .before .before .before in (
-      record { sized = e .pre .sized; rows = l .loop .inv .0 .rows },
+      record { sized = e .pre .sized; rows = l .loop .inv .rows },
       omega arith,
       omega (arith, c .turn .ensures, turned-below (e .args .s) (l .loop .i) (e .args .back) (c .before .before .loop-test .taken)),
     )
 
-either-requires : tie.Need-either-requires Inv-loop μ-loop
-either-requires c κs = tt
-
 add-i : tie.Need-add-i Inv-loop μ-loop
-add-i c = omega (arith, c .before .before .before .before .before .before .loop-test .taken)
+add-i c = omega (arith, c .before .before .before .before .before .loop-test .taken)
 
 loop-less : tie.Need-loop-less Inv-loop μ-loop
-loop-less c = omega (arith, c .before .before .before .before .before .before .loop-test .taken)
+loop-less c = omega (arith, c .before .before .before .before .before .loop-test .taken)
 
 loop-again : tie.Need-loop-again Inv-loop μ-loop
 loop-again c =
-    let l = c .before .before .before .before .before .before .before in
-    let e = l .before .before .before in (
-      rw (c .either .ensures)
-          (swept-on _ _ _ _ _ _ _ _ _ _ (Numbers (e .args .n) (e .args .s) (e .args .back) (l .loop .i + 1)) (l .loop .inv .0) (c .before .before .before .raise-number .ensures)
-          (numbers-more (e .args .n) (e .args .s) (e .args .back) (l .loop .i) _ (c .before .before .before .before .turn .ensures))),
-      omega (arith, c .before .before .before .before .before .before .loop-test .taken),
-    )
+    let l = c .before .before .before .before .before .before in
+    numbers-more _ _ _ _ _ _ _ _ _ (c .before .before .before .before .before .loop-test .taken) (c .before .before .before .turn .ensures) (l .loop .inv) (c .before .before .raise-number .ensures)
 
 same-length : tie.Need-same-length Inv-loop μ-loop
-same-length c = c .before .loop .inv .0 .rows .long ∙ sym (c .before .before .before .before .pre .rows .long)
+same-length c = c .before .loop .inv .rows .long ∙ sym (c .before .before .before .before .pre .rows .long)
 
 returns : tie.Need-returns Inv-loop μ-loop
-returns c =
-    let l = c .before in
-    let e = l .before .before .before in
-    swept-as _ _ _ _ _ _ (Numbers (e .args .n) (e .args .s) (e .args .back) (l .loop .i)) _ (l .loop .inv .0) (numbers-all (e .args .n) (e .args .s) (e .args .back) (l .loop .i) (c .loop-test .left))
+returns c = numbers-all _ _ _ _ _ _ _ (c .loop-test .left) (c .before .loop .inv)
 
 pub sweep-spec : {M : Type 1} → statement M
 sweep-spec =
@@ -72,7 +60,6 @@ sweep-spec =
     turn-requires
     add-raise-number
     raise-number-requires
-    either-requires
     add-i
     loop-less
     loop-again
