@@ -1,6 +1,6 @@
 pub mod Passed
 pub mod Asked
-pub mod Charts
+pub mod Stated
 pub mod Marked
 pub mod Listed
 pub mod Handed

@@ -19,9 +19,11 @@ use Rattle.reach.specs.High.{Inst, itself}
 use Rattle.reach.proofs.Tests.{tf, bool, and-l, and-r, and-in, eqb-eq, eqb-same, not-true}
 use Rattle.reach.proofs.First.{first-same, every-same, first-passes}
 use Rattle.reach.proofs.Same.{handOut-same}
-use Rattle.next.specs.Slots.{slotOf, markIn as markAt, lets, readyIn, nextIn, Going}
+use Rattle.rows.specs.Rows.{slotOf, markIn as markAt}
+use Rattle.sweep.specs.Sweeping.{Charted}
+use Rattle.next.specs.Slots.{lets, readyIn, nextIn, Going}
 use Rattle.order.specs.Calls.{markIn, handedTable, handedCodes}
-use Rattle.order.specs.Chart.{Charted, Stated, Listing}
+use Rattle.order.specs.States.{Stated, Listing}
 use Rattle.order.proofs.Marked.{alike, listing-on}
 
 -- the lists' next one out is the rules'
@@ -88,15 +90,15 @@ table-one : (room room′ n s : ℕ) (t : List ℕ) (o j : ℕ) → room ≡ suc
 unfolding handedTable
 table-one room room′ n s t o j e f = rw (e, f)
 
-codes-one : (room room′ n s : ℕ) (t h st up : List ℕ) (o j : ℕ) → Listing n s t h st up → Inst n s o j → room ≡ suc room′ → nextOut n s (recordsIn s t) ≡ At o j
+codes-one : (room room′ n s : ℕ) (t h st know past : List ℕ) (o j : ℕ) → Listing n s t h st know past → Inst n s o j → room ≡ suc room′ → nextOut n s (recordsIn s t) ≡ At o j
     → handedCodes room n s t ≡ codeOf o j ∷ handedCodes room′ n s (markIn s t o j)
 unfolding handedCodes handOut
-codes-one room room′ n s t h st up o j g i e f =
-    rw (e, f, handOut-same room′ n s (mark (recordsIn s t) o j) (recordsIn s (markIn s t o j)) (alike n s t h st up g o j i))
+codes-one room room′ n s t h st know past o j g i e f =
+    rw (e, f, handOut-same room′ n s (mark (recordsIn s t) o j) (recordsIn s (markIn s t o j)) (alike n s t h st know past g o j i))
 
 -- `count` codes are listed, and their instances are marked in t
-pub record Listed (n s : ℕ) (t₀ list₀ h t st up list : List ℕ) (count : ℕ) : Type 0 where
-  pub listing : Listing n s t h st up
+pub record Listed (n s : ℕ) (t₀ list₀ h t st know past list : List ℕ) (count : ℕ) : Type 0 where
+  pub listing : Listing n s t h st know past
   pub long : length list ≡ length list₀
   pub within : count ≤ length list₀
   pub codes : handedCodes (length list₀) n s t₀ ≡ take count list ++ handedCodes (length list₀ - count) n s t
@@ -109,12 +111,12 @@ Left n s t₀ list₀ count t list =
     (count ≡ length (handedCodes (length list₀) n s t₀))
     × ((t ≡ handedTable (length list₀) n s t₀) × (list ≡ splice list₀ 0 (handedCodes (length list₀) n s t₀)))
 
-pub listed-start : (n s : ℕ) (t h st up list : List ℕ) → Listing n s t h st up → Listed n s t list h t st up list 0
-listed-start n s t h st up list g =
+pub listed-start : (n s : ℕ) (t h st know past list : List ℕ) → Listing n s t h st know past → Listed n s t list h t st know past list 0
+listed-start n s t h st know past list g =
     let e : length list - 0 ≡ length list = omega arith in
     record { listing = g; long = refl; within = omega arith; codes = rw e; table = rw e; rest = refl }
 
-module _ (n s : ℕ) (t₀ list₀ h t st up list : List ℕ) (count : ℕ) (l : Listed n s t₀ list₀ h t st up list count) where
+module _ (n s : ℕ) (t₀ list₀ h t st know past list : List ℕ) (count : ℕ) (l : Listed n s t₀ list₀ h t st know past list count) where
   found-is : nextIn n s h st ≡ nextOut n s (recordsIn s t)
   found-is = next-is n s (recordsIn s t) h st (l .listing .charted) (l .listing .stated)
 
@@ -123,9 +125,9 @@ module _ (n s : ℕ) (t₀ list₀ h t st up list : List ℕ) (count : ℕ) (l :
   unfolding nextOut
   found-inst o j e = first-passes n s (candidate n s (recordsIn s t)) o j (sym (e ∙ found-is)) .0
 
-  pub listed-on : (o j x code : ℕ) (t₁ up₁ : List ℕ) → At o j ≡ nextIn n s h st → count < length list → x ≡ slotOf o j → Going n s h st up₁ → t₁ ≡ markIn s t o j
-      → code ≡ codeOf o j → Listed n s t₀ list₀ h t₁ (set st x 2) up₁ (set list count code) (count + 1)
-  listed-on o j x code t₁ up₁ e r ex f et ec =
+  pub listed-on : (o j x code : ℕ) (t₁ know₁ past₁ : List ℕ) → At o j ≡ nextIn n s h st → count < length list → x ≡ slotOf o j → Going n s h st know₁ past₁ → t₁ ≡ markIn s t o j
+      → code ≡ codeOf o j → Listed n s t₀ list₀ h t₁ (set st x 2) know₁ past₁ (set list count code) (count + 1)
+  listed-on o j x code t₁ know₁ past₁ e r ex f et ec =
       let i = found-inst o j e in
       let z : nextOut n s (recordsIn s t) ≡ At o j = sym (e ∙ found-is) in
       let r₀ : count < length list₀ = omega (arith, l .long) in
@@ -133,12 +135,12 @@ module _ (n s : ℕ) (t₀ list₀ h t st up list : List ℕ) (count : ℕ) (l :
       let dr : drop (count + 1) (set list count code) ≡ drop (count + 1) list = drop-set-lt (count + 1) list count code (omega arith) in
       let dd : drop (count + 1) list ≡ drop (count + 1) list₀ = rw (← drop-drop 1 count list, l .rest, drop-drop 1 count list₀) in
       record {
-        listing = rw et (listing-on n s t h st up (l .listing) o j i x ex up₁ f);
+        listing = rw et (listing-on n s t h st know past (l .listing) o j i x ex know₁ past₁ f);
         long = length-set list count code ∙ l .long;
         within = omega arith;
         codes = l .codes
             ∙ rw (
-              codes-one (length list₀ - count) (length list₀ - (count + 1)) n s t h st up o j (l .listing) i (omega arith) z,
+              codes-one (length list₀ - count) (length list₀ - (count + 1)) n s t h st know past o j (l .listing) i (omega arith) z,
               tk,
               et,
               ec,

@@ -1,49 +1,29 @@
 // The hand-out, as a public call.
 use crate::Handing;
-use crate::chart::reach_all;
-use crate::chart::settle_all;
+use crate::states::settle_all;
 use next::next_out;
-use next::slot_of;
-use paper::Record;
+use rows::slot_of;
 use rules::First;
+use sweep::reach_all;
 use table::Judging;
 use table::judge_table;
-use table::load;
 use table::place_of;
-use table::store;
 ghost use mathlib.Core.Path.{_≡_};
 ghost use Prim.Native.Nat.{_+_, _≤_, _<_};
 ghost use lib.ListN.{length};
 ghost use Rattle.num.specs.Num.{splice};
 ghost use Rattle.rules.specs.Order.{codeOf};
 ghost use Rattle.order.specs.Passed.{Passed};
-ghost use Rattle.order.specs.Chart.{Marking, Listing};
+ghost use Rattle.order.specs.States.{Marking, Listing};
 ghost use Rattle.order.specs.Calls.{markIn, handedTable, handedCodes, handedOpen, handed};
 
-// The record is read, marked and written back.
+// The mark is one byte of the record: the rest of the table stays.
 fn set_mark(t: &mut [u8], n: usize, s: usize, o: usize, j: usize)
     requires { ⌜ Marking n s (now t) o j ⌝ }
     ensures { λ _. ⌜ now (t .exit) ≡ markIn s (now (t .entry)) o j ⌝ }
 {
-    let at = place_of(n, s, o, j);
-    let r = load(&*t, at);
-    let vote = r.vote;
-    let replies = r.replies;
-    let joined = r.joined;
-    let phase = r.phase;
-    let set = r.set;
-    store(
-        t,
-        at,
-        Record {
-            joined,
-            vote,
-            mark: 1,
-            phase,
-            set,
-            replies,
-        },
-    );
+    let at = place_of(n, s, o, j) + 36;
+    t[at] = 1;
 }
 
 // 256 x owner + number.
@@ -61,17 +41,18 @@ fn list_all(
     s: usize,
     h: &[u8],
     st: &mut [u8],
-    upto: &mut [u16],
+    know: &mut [u16],
+    past: &mut [u8],
     list: &mut [u16],
 ) -> usize
-    requires { ⌜ Listing n s (now t) (now h) (now st) (now upto) ⌝ }
+    requires { ⌜ Listing n s (now t) (now h) (now st) (now know) (now past) ⌝ }
     ensures count { λ r. ⌜ r ≡ length (handedCodes (length (now (list .entry))) n s (now (t .entry))) ⌝ }
     ensures table { λ _. ⌜ now (t .exit) ≡ handedTable (length (now (list .entry))) n s (now (t .entry)) ⌝ }
     ensures list { λ _. ⌜ now (list .exit) ≡ splice (now (list .entry)) 0 (handedCodes (length (now (list .entry))) n s (now (t .entry))) ⌝ }
 {
     let mut count = 0;
     while count < list.len() {
-        let found = next_out(n, s, h, &*st, &mut *upto);
+        let found = next_out(n, s, h, &*st, &mut *know, &mut *past);
         let First::At { owner, number } = found else {
             return count;
         };
@@ -91,12 +72,14 @@ fn hand_out_open(t: &mut [u8], n: usize, s: usize, c: usize, list: &mut [u16]) -
     ensures table { λ _. ⌜ now (t .exit) ≡ handedOpen n s (now (t .entry)) (now (list .entry)) .table ⌝ }
     ensures list { λ _. ⌜ now (list .exit) ≡ handedOpen n s (now (t .entry)) (now (list .entry)) .list ⌝ }
 {
-    let mut h = [0u8; 3136];
-    reach_all(&*t, n, s, &mut h);
+    let mut g = [0u8; 6272];
+    let mut h = [0u8; 6272];
+    reach_all(&*t, n, s, &mut g, &mut h);
     let mut st = [0u8; 448];
     settle_all(&*t, n, s, &h, &mut st);
-    let mut upto = [0u16; 448];
-    let count = list_all(t, n, s, &h, &mut st, &mut upto, list);
+    let mut know = [0u16; 448];
+    let mut past = [0u8; 8];
+    let count = list_all(t, n, s, &h, &mut st, &mut know, &mut past, list);
     Handing::Codes(count)
 }
 

@@ -2,9 +2,9 @@
 use paper::Command;
 use paper::Refusal;
 
-pub mod chart;
 pub mod hand_out;
 pub mod settled;
+pub mod states;
 
 // What the settled question answers: the command, or the uncommitted instance that comes first.
 pub enum Settling {

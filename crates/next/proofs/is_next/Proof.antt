@@ -1,7 +1,8 @@
 use borrow.Author.Needs.{needs}
 use Rattle.next.proofs.is_next.Statement.{statement}
 use Rattle.next.proofs.is_next.Tie as tie
-use Rattle.next.proofs.Laws.{ready-not, come, ready-is, moved}
+use mathlib.Core.Path.{sym, _∙_}
+use Rattle.next.proofs.Held.{known-at, known-small, known-held, ready-not, ready-is}
 
 slot-of-requires : tie.Need-slot-of-requires
 slot-of-requires c κs = search needs
@@ -10,7 +11,9 @@ shared-slice-read-if1 : tie.Need-shared-slice-read-if1
 shared-slice-read-if1 c = search needs
 
 returns : tie.Need-returns
-returns c = (ready-not _ _ _ _ _ _ _ (c .before .before .slot-of .ensures .0) (c .if1 .taken), c .before .before .before .before .before .before .pre .going)
+returns c =
+    let f = c .before .before in
+    (ready-not _ _ _ _ _ _ _ (f .slot-of .ensures .0) (c .if1 .taken), f .before .before .before .before .before .pre .going)
 
 mul-wide16 : tie.Need-mul-wide16
 mul-wide16 c = search needs
@@ -21,33 +24,52 @@ slice-read-wide16 c = search needs
 wide16-requires : tie.Need-wide16-requires
 wide16-requires c κs = search needs
 
-advance-requires : tie.Need-advance-requires
-advance-requires c κs = come _ _ _ _ _ _ _ _ (c .before .before .before .before .before .before .before .before .pre) (c .before .before .before .before .slot-of .ensures .0) (c .wide16 .ensures)
+returns-2 : tie.Need-returns-2
+returns-2 c =
+    let w = c .before in
+    let f = w .before .before .before .before in
+    let g = f .before .before .before .before .before .pre in
+    let u = known-at _ _ _ _ _ _ (g .going) _ _ (g .inst) (f .slot-of .ensures .0) (w .wide16 .ensures) in
+    (ready-is _ _ _ _ _ _ _ (f .slot-of .ensures .0) (w .before .before .if1 .left) (sym (u .ready (c .if2 .taken))), g .going)
 
-cast-upto : tie.Need-cast-upto
-cast-upto c = search needs
+is-held-requires : tie.Need-is-held-requires
+is-held-requires c κs =
+    let w = c .before in
+    let f = w .before .before .before .before in
+    let g = f .before .before .before .before .before .pre in
+    let u = known-at _ _ _ _ _ _ (g .going) _ _ (g .inst) (f .slot-of .ensures .0) (w .wide16 .ensures) in
+    (g .going .lists .states, known-small _ _ _ _ _ _ (g .going) _ _ (g .inst) _ u)
 
-mul-upto : tie.Need-mul-upto
-mul-upto c = search needs
+returns-3 : tie.Need-returns-3
+returns-3 c =
+    let w = c .before .before .before in
+    let f = w .before .before .before .before in
+    let g = f .before .before .before .before .before .pre in
+    let u = known-at _ _ _ _ _ _ (g .going) _ _ (g .inst) (f .slot-of .ensures .0) (w .wide16 .ensures) in
+    let d = sym (c .before .is-held .ensures) ∙ c .if3 .taken in
+    let e = sym (known-held _ _ _ _ _ _ (g .going) _ _ (g .inst) _ u d) in
+    (ready-is _ _ _ _ _ _ _ (f .slot-of .ensures .0) (w .before .before .if1 .left) e, g .going)
 
-slice-write-upto : tie.Need-slice-write-upto
-slice-write-upto c = search needs
+place-in-requires : tie.Need-place-in-requires
+place-in-requires c κs = search needs
 
-mul-equal : tie.Need-mul-equal
-mul-equal c = search needs
-
-equal-requires : tie.Need-equal-requires
-equal-requires c κs = search needs
+ask-requires : tie.Need-ask-requires
+ask-requires c κs =
+    let w = c .before .before .before .before .before in
+    let f = w .before .before .before .before in
+    let g = f .before .before .before .before .before .pre in
+    let u = known-at _ _ _ _ _ _ (g .going) _ _ (g .inst) (f .slot-of .ensures .0) (w .wide16 .ensures) in
+    record { asking = g; below = rw (c .place-in .ensures) (u .below) }
 
 same-length : tie.Need-same-length
 same-length c = search needs
 
-returns-2 : tie.Need-returns-2
-returns-2 c =
-    let e = c .before .before .before .before .before .before .before .before .before .before in
-    let x = c .before .before .before .before .before .before .slot-of .ensures .0 in
-    let a = c .before .advance .ensures in
-    (ready-is _ _ _ _ _ _ _ _ x (c .before .before .before .before .if1 .left) a (c .equal .ensures), moved _ _ _ _ _ _ _ _ _ (e .pre .going) (e .pre .inst) x (a .upto))
+returns-4 : tie.Need-returns-4
+returns-4 c =
+    let a = c .before .before in
+    let w = a .before .before .before .before .before .before in
+    let f = w .before .before .before .before in
+    (ready-is _ _ _ _ _ _ _ (f .slot-of .ensures .0) (w .before .before .if1 .left) (a .ask .ensures .0), a .ask .ensures .1)
 
 pub is-next-spec : {M : Type 1} → statement M
 is-next-spec =
@@ -59,11 +81,10 @@ is-next-spec =
     mul-wide16
     slice-read-wide16
     wide16-requires
-    advance-requires
-    cast-upto
-    mul-upto
-    slice-write-upto
-    mul-equal
-    equal-requires
+    returns-2
+    is-held-requires
+    returns-3
+    place-in-requires
+    ask-requires
     same-length
-    returns-2)
+    returns-4)

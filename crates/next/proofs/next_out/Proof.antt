@@ -4,29 +4,39 @@ use mathlib.Core.Path.{_≡_, refl, sym, _∙_}
 use Prim.Native.Nat.{_+_, _-_}
 use native.Mathlib.Omega.{arith}
 use Rattle.rules.specs.declared.First.the-variants.{Nowhere}
-use Rattle.reach.proofs.First.{Walk, Row, walk-start, row-start, row-inst, row-on, row-end, row-hit, walk-none, row-none}
+use Rattle.reach.proofs.First.{Walk, Row, row-start, row-inst, row-on, row-end, row-hit, walk-none, row-none}
 use Rattle.next.specs.Slots.{readyIn, nextIn, Going}
+use Rattle.next.proofs.Passed.{walk-low}
 
 abbrev Inv-loop : tie.InvT-loop
-Inv-loop n s h st upto₀ found₀ j o₀ upto found o = (found ≡ Nowhere) × Row n s (readyIn n s h st) j o × Going n s h st upto
+Inv-loop n s h st know₀ past found₀ first j o₀ know found o = (found ≡ Nowhere) × Row n s (readyIn n s h st) j o × Going n s h st know past
 
 abbrev μ-loop : tie.MeasureT-loop
-μ-loop n s h st upto₀ found₀ j o₀ upto found o = n - o
+μ-loop n s h st know₀ past found₀ first j o₀ know found o = n - o
 
 abbrev Inv-walk : tie.InvT-walk
-Inv-walk n s h st upto₀ found₀ j₀ upto found j = (found ≡ Nowhere) × Walk n s (readyIn n s h st) j × Going n s h st upto
+Inv-walk n s h st know₀ past found₀ first j₀ know found j = (found ≡ Nowhere) × Walk n s (readyIn n s h st) j × Going n s h st know past
 
 abbrev μ-walk : tie.MeasureT-walk
-μ-walk n s h st upto₀ found₀ j₀ upto found j = s + 1 - j
+μ-walk n s h st know₀ past found₀ first j₀ know found j = s + 1 - j
+
+pass-all-requires : tie.Need-pass-all-requires Inv-loop μ-loop Inv-walk μ-walk
+pass-all-requires c κs = c .before .before .before .before .before .pre .passed
+
+add-first : tie.Need-add-first Inv-loop μ-loop Inv-walk μ-walk
+add-first c = let f = c .before .before in omega (arith, f .pass-all .ensures .1 .few, f .pass-all .ensures .0 .numbers)
 
 walk-holds : tie.Need-walk-holds Inv-loop μ-loop Inv-walk μ-walk
-walk-holds c = (refl, walk-start _ _ _ (omega arith), c .before .before .before .pre)
+walk-holds c =
+    let f = c .before .before in
+    let g = f .before .before .before .before .before .before .pre in
+    (refl, walk-low _ _ _ _ _ (f .pass-all .ensures .1), record { lists = g .lists; long = g .long; known = g .known; passed = f .pass-all .ensures .0 })
 
 loop-holds : tie.Need-loop-holds Inv-loop μ-loop Inv-walk μ-walk
-loop-holds c = (c .before .walk .inv .0, row-start _ _ _ _ (c .before .walk .inv .1) (c .walk-test .taken), c .before .walk .inv .2)
+loop-holds c = let w = c .before .walk .inv in (w .0, row-start _ _ _ _ (w .1) (c .walk-test .taken), w .2)
 
 is-next-requires : tie.Need-is-next-requires Inv-loop μ-loop Inv-walk μ-walk
-is-next-requires c κs = record { going = c .before .before .loop .inv .2; inst = row-inst _ _ _ _ _ (c .before .before .loop .inv .1) (c .before .loop-test .taken) }
+is-next-requires c κs = let l = c .before .before .before in record { going = l .loop .inv .2; inst = row-inst _ _ _ _ _ (l .loop .inv .1) (c .before .before .loop-test .taken) }
 
 add-o : tie.Need-add-o Inv-loop μ-loop Inv-walk μ-walk
 add-o c = omega arith
@@ -35,7 +45,10 @@ loop-less : tie.Need-loop-less Inv-loop μ-loop Inv-walk μ-walk
 loop-less c = omega arith
 
 loop-again : tie.Need-loop-again Inv-loop μ-loop Inv-walk μ-walk
-loop-again c = (c .before .before .before .before .before .before .loop .inv .0, row-on _ _ _ _ _ _ (c .before .before .before .before .before .before .loop .inv .1) (c .before .before .before .before .before .loop-test .taken) refl (sym (c .before .before .before .is-next .ensures .0) ∙ c .if1 .left), c .before .before .before .is-next .ensures .1)
+loop-again c =
+    let a = c .before .before .before in
+    let l = a .before .before .before .before in
+    (l .loop .inv .0, row-on _ _ _ _ _ _ (l .loop .inv .1) (a .before .before .before .loop-test .taken) refl (sym (a .is-next .ensures .0) ∙ c .if1 .left), a .is-next .ensures .1)
 
 add-j : tie.Need-add-j Inv-loop μ-loop Inv-walk μ-walk
 add-j c = omega arith
@@ -44,28 +57,52 @@ walk-less : tie.Need-walk-less Inv-loop μ-loop Inv-walk μ-walk
 walk-less c = omega arith
 
 walk-again : tie.Need-walk-again Inv-loop μ-loop Inv-walk μ-walk
-walk-again c = (c .before .before .loop .inv .0, row-end _ _ _ _ _ _ (c .before .before .loop .inv .1) (c .before .loop-test .left) refl, c .before .before .loop .inv .2)
+walk-again c = let l = c .before .before in (l .loop .inv .0, row-end _ _ _ _ _ _ (l .loop .inv .1) (c .before .loop-test .left) refl, l .loop .inv .2)
 
 same-length : tie.Need-same-length Inv-loop μ-loop Inv-walk μ-walk
-same-length c = c .before .walk .inv .2 .long ∙ sym (c .before .before .before .before .before .pre .long)
+same-length c = let w = c .before in w .walk .inv .2 .long ∙ sym (w .before .before .before .before .before .before .before .before .before .pre .long)
+
+same-length-2 : tie.Need-same-length-2 Inv-loop μ-loop Inv-walk μ-walk
+same-length-2 c = let w = c .before in w .walk .inv .2 .passed .long ∙ sym (w .before .before .before .before .before .before .before .before .before .pre .passed .long)
 
 returns : tie.Need-returns Inv-loop μ-loop Inv-walk μ-walk
 unfolding nextIn
-returns c = (c .before .walk .inv .0 ∙ walk-none _ _ _ _ (c .before .walk .inv .1) (c .walk-test .left), c .before .walk .inv .2)
+returns c = let w = c .before .walk .inv in (w .0 ∙ walk-none _ _ _ _ (w .1) (c .walk-test .left), w .2)
 
-same-length-2 : tie.Need-same-length-2 Inv-loop μ-loop Inv-walk μ-walk
-same-length-2 c = c .before .before .before .is-next .ensures .1 .long ∙ sym (c .before .before .before .before .before .before .before .before .before .before .before .before .pre .long)
+same-length-3 : tie.Need-same-length-3 Inv-loop μ-loop Inv-walk μ-walk
+same-length-3 c =
+    let a = c .before .before .before in
+    let w = a .before .before .before .before .before .before in
+    a .is-next .ensures .1 .long ∙ sym (w .before .before .before .before .before .before .before .before .before .pre .long)
+
+same-length-4 : tie.Need-same-length-4 Inv-loop μ-loop Inv-walk μ-walk
+same-length-4 c =
+    let a = c .before .before .before in
+    let w = a .before .before .before .before .before .before in
+    a .is-next .ensures .1 .passed .long ∙ sym (w .before .before .before .before .before .before .before .before .before .pre .passed .long)
 
 returns-2 : tie.Need-returns-2 Inv-loop μ-loop Inv-walk μ-walk
 unfolding nextIn
-returns-2 c = (row-hit _ _ _ _ _ (c .before .before .before .before .before .before .loop .inv .1) (c .before .before .before .before .before .loop-test .taken) (sym (c .before .before .before .is-next .ensures .0) ∙ c .if1 .taken), c .before .before .before .is-next .ensures .1)
+returns-2 c =
+    let a = c .before .before .before in
+    let l = a .before .before .before .before in
+    (row-hit _ _ _ _ _ (l .loop .inv .1) (a .before .before .before .loop-test .taken) (sym (a .is-next .ensures .0) ∙ c .if1 .taken), a .is-next .ensures .1)
 
-same-length-3 : tie.Need-same-length-3 Inv-loop μ-loop Inv-walk μ-walk
-same-length-3 c = c .before .before .loop .inv .2 .long ∙ sym (c .before .before .before .before .before .before .before .before .pre .long)
+same-length-5 : tie.Need-same-length-5 Inv-loop μ-loop Inv-walk μ-walk
+same-length-5 c =
+    let l = c .before .before in
+    let w = l .before .before in
+    l .loop .inv .2 .long ∙ sym (w .before .before .before .before .before .before .before .before .before .pre .long)
+
+same-length-6 : tie.Need-same-length-6 Inv-loop μ-loop Inv-walk μ-walk
+same-length-6 c =
+    let l = c .before .before in
+    let w = l .before .before in
+    l .loop .inv .2 .passed .long ∙ sym (w .before .before .before .before .before .before .before .before .before .pre .passed .long)
 
 returns-3 : tie.Need-returns-3 Inv-loop μ-loop Inv-walk μ-walk
 unfolding nextIn
-returns-3 c = (c .before .before .loop .inv .0 ∙ row-none _ _ _ _ _ (c .before .before .loop .inv .1) (c .before .loop-test .left) (omega arith), c .before .before .loop .inv .2)
+returns-3 c = let l = c .before .before in (l .loop .inv .0 ∙ row-none _ _ _ _ _ (l .loop .inv .1) (c .before .loop-test .left) (omega arith), l .loop .inv .2)
 
 pub next-out-spec : {M : Type 1} → statement M
 next-out-spec =
@@ -75,6 +112,8 @@ next-out-spec =
     μ-loop
     Inv-walk
     μ-walk
+    pass-all-requires
+    add-first
     walk-holds
     loop-holds
     is-next-requires
@@ -85,8 +124,11 @@ next-out-spec =
     walk-less
     walk-again
     same-length
-    returns
     same-length-2
-    returns-2
+    returns
     same-length-3
+    same-length-4
+    returns-2
+    same-length-5
+    same-length-6
     returns-3)

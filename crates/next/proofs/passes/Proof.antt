@@ -1,10 +1,7 @@
 use borrow.Author.Needs.{needs}
 use Rattle.next.proofs.passes.Statement.{statement}
 use Rattle.next.proofs.passes.Tie as tie
-use Rattle.next.proofs.Laws.{passes-is}
-
-slot-of-requires : tie.Need-slot-of-requires
-slot-of-requires c κs = search needs
+use Rattle.next.proofs.Held.{passes-is}
 
 shared-slice-read-wide8 : tie.Need-shared-slice-read-wide8
 shared-slice-read-wide8 c = search needs
@@ -26,14 +23,13 @@ either-requires c κs = search needs
 
 returns : tie.Need-returns
 returns c =
-    let a = c .before .before .before .before .before .before .before .before .before .args in
-    passes-is (a .h .now) (a .st .now) (a .p) (a .k) (a .q) (a .i) (c .before .before .before .before .before .before .slot-of .ensures .0) (c .before .before .before .before .wide8 .ensures) (c .before .before .before .equal .ensures) (c .before .before .mark-of .ensures) (c .before .at-most .ensures) (c .either .ensures)
+    let a = c .before .before .before .before .before .before .before .before .args in
+    passes-is (a .h .now) (a .st .now) (a .p) (a .k) (a .y) (c .before .before .before .before .wide8 .ensures) (c .before .before .before .equal .ensures) (c .before .before .mark-of .ensures) (c .before .at-most .ensures) (c .either .ensures)
 
 pub passes-spec : {M : Type 1} → statement M
 passes-spec =
     tie.close
     (tie.spec
-    slot-of-requires
     shared-slice-read-wide8
     wide8-requires
     equal-requires

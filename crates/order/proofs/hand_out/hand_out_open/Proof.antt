@@ -8,8 +8,11 @@ use Rattle.order.proofs.Handed.{charting, stating, listing, handed-give
 slice-aggregate-reach-all : tie.Need-slice-aggregate-reach-all
 slice-aggregate-reach-all c = search needs
 
+slice-aggregate-reach-all-2 : tie.Need-slice-aggregate-reach-all-2
+slice-aggregate-reach-all-2 c = search needs
+
 reach-all-requires : tie.Need-reach-all-requires
-reach-all-requires c κs = charting _ _ _ _ (c .before .before .before .before .pre) 3136 refl
+reach-all-requires c κs = charting _ _ _ _ (c .before .before .before .before .before .pre) 6272 6272 refl refl
 
 slice-aggregate-settle-all : tie.Need-slice-aggregate-settle-all
 slice-aggregate-settle-all c = search needs
@@ -18,7 +21,7 @@ slice-aggregate-settle-all-2 : tie.Need-slice-aggregate-settle-all-2
 slice-aggregate-settle-all-2 c = search needs
 
 settle-all-requires : tie.Need-settle-all-requires
-settle-all-requires c κs = stating _ _ _ _ (c .before .before .before .before .before .before .before .before .before .pre) 448 refl _ (c .before .before .before .before .reach-all .ensures)
+settle-all-requires c κs = stating _ _ _ _ (c .before .before .before .before .before .before .before .before .before .before .before .pre) 448 refl _ (c .before .before .before .before .before .reach-all .ensures)
 
 slice-aggregate-list-all : tie.Need-slice-aggregate-list-all
 slice-aggregate-list-all c = search needs
@@ -29,8 +32,13 @@ slice-aggregate-list-all-2 c = search needs
 slice-aggregate-list-all-3 : tie.Need-slice-aggregate-list-all-3
 slice-aggregate-list-all-3 c = search needs
 
+slice-aggregate-list-all-4 : tie.Need-slice-aggregate-list-all-4
+slice-aggregate-list-all-4 c = search needs
+
 list-all-requires : tie.Need-list-all-requires
-list-all-requires c κs = listing _ _ _ _ (c .before .before .before .before .before .before .before .before .before .before .before .before .before .before .before .before .pre) (λ i. omega (arith, c .before .before .before .before .before .before .before .before .before .before .before .before .before .before .before .slice-known .given i)) 448 refl _ _ (c .before .before .before .before .before .before .before .before .before .before .before .reach-all .ensures) (c .before .before .before .before .before .before .settle-all .ensures)
+list-all-requires c κs =
+    let a = c .before .before .before .before .before .before .before .before .before .before .before .before .before .before .before .before .before .before in
+    listing _ _ _ _ (a .before .pre) (λ i. omega (arith, a .slice-known .given i)) 448 8 refl refl _ _ (c .before .before .before .before .before .before .before .before .before .before .before .before .before .reach-all .ensures) (c .before .before .before .before .before .before .before .settle-all .ensures)
 
 same-length : tie.Need-same-length
 same-length c = search needs
@@ -39,13 +47,14 @@ same-length-2 : tie.Need-same-length-2
 same-length-2 c = search needs
 
 returns : tie.Need-returns
-returns c = handed-gives _ _ _ _ (c .before .before .before .before .before .before .list-all .ensures)
+returns c = handed-gives _ _ _ _ (c .before .before .before .before .before .before .before .list-all .ensures)
 
 pub hand-out-open-spec : {M : Type 1} → statement M
 hand-out-open-spec =
     tie.close
     (tie.spec
     slice-aggregate-reach-all
+    slice-aggregate-reach-all-2
     reach-all-requires
     slice-aggregate-settle-all
     slice-aggregate-settle-all-2
@@ -53,6 +62,7 @@ hand-out-open-spec =
     slice-aggregate-list-all
     slice-aggregate-list-all-2
     slice-aggregate-list-all-3
+    slice-aggregate-list-all-4
     list-all-requires
     same-length
     same-length-2

@@ -6,18 +6,17 @@ use Rattle.order.proofs.Marked.{mark-written}
 place-of-requires : tie.Need-place-of-requires
 place-of-requires c κs = search needs
 
-load-requires : tie.Need-load-requires
-load-requires c κs = search needs
+add-at : tie.Need-add-at
+add-at c = search needs
 
-store-requires : tie.Need-store-requires
-store-requires c κs = search needs
+slice-write-t : tie.Need-slice-write-t
+slice-write-t c = search needs
 
 same-length : tie.Need-same-length
 same-length c = search needs
 
 returns : tie.Need-returns
-returns c = let a = c .before .before .before .before .before .before .before .before .before .before .args in mark-written (a .s) (a .t .now) (a .o) (a .j) (c .before .before .before .before .before .before .before .before .place-of .ensures .0) (c .before .before .before .before .before .before .load .ensures) (c .before .before .store .ensures)
+returns c = let a = c .before .before in mark-written _ _ _ _ _ (a .pre) (c .place-of .ensures .0)
 
 pub set-mark-spec : {M : Type 1} → statement M
-set-mark-spec =
-    tie.close (tie.spec place-of-requires load-requires store-requires same-length returns)
+set-mark-spec = tie.close (tie.spec place-of-requires add-at slice-write-t same-length returns)

@@ -1,10 +1,10 @@
 use borrow.Author.Needs.{needs}
-use Rattle.order.proofs.chart.marked_at.Statement.{statement}
-use Rattle.order.proofs.chart.marked_at.Tie as tie
+use Rattle.order.proofs.states.marked_at.Statement.{statement}
+use Rattle.order.proofs.states.marked_at.Tie as tie
 use mathlib.Core.Path.{_∙_, ap}
 use Prim.Native.Nat.{ℕ}
 use lib.Dec.{eqb}
-use Rattle.order.proofs.Charts.{mark-read}
+use Rattle.order.proofs.Stated.{mark-read}
 
 add-end : tie.Need-add-end
 add-end c = search needs
