@@ -1,3 +1,4 @@
+use mathlib.Core.Path.{_∙_}
 use Rattle.rules.specs.Commit.{differs}
 use borrow.Author.Needs.{needs}
 use Rattle.step.proofs.commit.commit_differs.Statement.{statement}
@@ -20,7 +21,7 @@ both-requires-2 c κs = search needs
 
 returns : tie.Need-returns
 unfolding differs
-returns c = cc
+returns c = c .both2 .ensures ∙ rw (c .before .both .ensures, c .before .before .same-deps .ensures, c .before .before .before .same-command .ensures, c .before .before .before .before .is-committed .ensures)
 
 pub commit-differs-spec : {M : Type 1} → statement M
 commit-differs-spec =

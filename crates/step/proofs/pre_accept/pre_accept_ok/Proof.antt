@@ -1,3 +1,5 @@
+use mathlib.Core.Path.{refl}
+use Rattle.step.proofs.Laws.{step-is}
 use borrow.Author.Needs.{needs}
 use Rattle.step.proofs.pre_accept.pre_accept_ok.Statement.{statement}
 use Rattle.step.proofs.pre_accept.pre_accept_ok.Tie as tie
@@ -9,7 +11,7 @@ only-of-requires : tie.Need-only-of-requires
 only-of-requires c κs = search needs
 
 returns : tie.Need-returns
-returns c = cc
+returns c = step-is refl (c .only-of .ensures .0) (c .before .said .ensures)
 
 pub pre-accept-ok-spec : {M : Type 1} → statement M
 pre-accept-ok-spec = tie.close (tie.spec said-requires only-of-requires returns)

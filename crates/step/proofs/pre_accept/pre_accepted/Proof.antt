@@ -1,3 +1,4 @@
+use mathlib.Core.Path.{_∙_}
 use borrow.Author.Needs.{needs}
 use Rattle.step.proofs.pre_accept.pre_accepted.Statement.{statement}
 use Rattle.step.proofs.pre_accept.pre_accepted.Tie as tie
@@ -12,7 +13,7 @@ begun-at-requires : tie.Need-begun-at-requires
 begun-at-requires c κs = search needs
 
 returns : tie.Need-returns
-returns c = cc
+returns c = c .begun-at .ensures ∙ rw (c .before .two-or-one .ensures, c .before .before .same-deps .ensures)
 
 pub pre-accepted-spec : {M : Type 1} → statement M
 pre-accepted-spec =

@@ -1,3 +1,4 @@
+use mathlib.Core.Path.{_∙_}
 use borrow.Author.Needs.{needs}
 use Rattle.step.proofs.pre_accept.voted_at.Statement.{statement}
 use Rattle.step.proofs.pre_accept.voted_at.Tie as tie
@@ -21,7 +22,7 @@ both-requires : tie.Need-both-requires
 both-requires c κs = search needs
 
 returns : tie.Need-returns
-returns c = cc
+returns c = c .both .ensures ∙ rw (c .before .equal .ensures, c .before .before .wide322 .ensures, c .before .before .before .wide32 .ensures, c .before .before .before .before .at-most .ensures, c .before .before .before .before .before .wide8 .ensures)
 
 pub voted-at-spec : {M : Type 1} → statement M
 voted-at-spec =

@@ -1,3 +1,4 @@
+use mathlib.Core.Path.{_∙_}
 use borrow.Author.Needs.{needs}
 use Rattle.step.proofs.pre_accept_ok.agree.Statement.{statement}
 use Rattle.step.proofs.pre_accept_ok.agree.Tie as tie
@@ -18,7 +19,7 @@ either-requires : tie.Need-either-requires
 either-requires c κs = search needs
 
 returns : tie.Need-returns
-returns c = cc
+returns c = c .either .ensures ∙ rw (c .before .same-added .ensures, c .before .before .both .ensures, c .before .before .before .is-member2 .ensures, c .before .before .before .before .is-member .ensures)
 
 pub agree-spec : {M : Type 1} → statement M
 agree-spec =

@@ -1,3 +1,4 @@
+use mathlib.Core.Path.{_∙_}
 use Rattle.rules.specs.PreAcceptOk.{fastEnough}
 use borrow.Author.Needs.{needs}
 use Rattle.step.proofs.pre_accept_ok.fast_enough.Statement.{statement}
@@ -23,7 +24,7 @@ at-most-requires c κs = search needs
 
 returns : tie.Need-returns
 unfolding fastEnough
-returns c = cc
+returns c = c .at-most .ensures ∙ rw (c .before .count-of .ensures, c .before .before .matching-of .ensures, c .before .before .before .faults-of .ensures)
 
 pub fast-enough-spec : {M : Type 1} → statement M
 fast-enough-spec =

@@ -1,3 +1,4 @@
+use mathlib.Core.Path.{_∙_}
 use borrow.Author.Needs.{needs}
 use Rattle.step.proofs.pre_accept_ok.matches_sent.Statement.{statement}
 use Rattle.step.proofs.pre_accept_ok.matches_sent.Tie as tie
@@ -12,7 +13,7 @@ both-requires : tie.Need-both-requires
 both-requires c κs = search needs
 
 returns : tie.Need-returns
-returns c = cc
+returns c = c .both .ensures ∙ rw (c .before .same-added .ensures, c .before .before .is-member .ensures)
 
 pub matches-sent-spec : {M : Type 1} → statement M
 matches-sent-spec =

@@ -1,3 +1,4 @@
+use mathlib.Core.Path.{_∙_}
 use Rattle.rules.specs.PreAcceptOk.{slowEnough}
 use borrow.Author.Needs.{needs}
 use Rattle.step.proofs.pre_accept_ok.slow_enough.Statement.{statement}
@@ -29,7 +30,7 @@ either-requires c κs = search needs
 
 returns : tie.Need-returns
 unfolding slowEnough
-returns c = cc
+returns c = c .either .ensures ∙ rw (c .before .at-most2 .ensures, c .before .before .both .ensures, c .before .before .before .are-different .ensures, c .before .before .before .before .at-most .ensures, c .before .before .before .before .before .count-of .ensures, c .before .before .before .before .before .before .faults-of .ensures)
 
 pub slow-enough-spec : {M : Type 1} → statement M
 slow-enough-spec =

@@ -1,3 +1,4 @@
+use mathlib.Core.Path.{_∙_}
 use Rattle.rules.specs.PreAcceptOk.{someEnough}
 use borrow.Author.Needs.{needs}
 use Rattle.step.proofs.pre_accept_ok.some_enough.Statement.{statement}
@@ -14,7 +15,7 @@ at-most-requires c κs = search needs
 
 returns : tie.Need-returns
 unfolding someEnough
-returns c = cc
+returns c = c .at-most .ensures ∙ rw (c .before .count-of .ensures, c .before .before .faults-of .ensures)
 
 pub some-enough-spec : {M : Type 1} → statement M
 some-enough-spec =
