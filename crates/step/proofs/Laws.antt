@@ -2,9 +2,9 @@
 use mathlib.Core.Path.{_≡_, refl, sym, ap, _∙_}
 use mathlib.Core.Bool.{Bool, true, false, _&&_, _||_, not, cond}
 use mathlib.Core.List.{List, [], _∷_}
-use Prim.Native.Nat.{ℕ, zero, suc, _+_, _^_, _<_, _≤_}
+use Prim.Native.Nat.{ℕ, zero, suc, _+_, _<_}
 use native.Mathlib.Omega.{arith}
-use lib.ListN.{length, getD, replicate}
+use lib.ListN.{length, getD}
 use Rattle.nouns.proofs.Laws.{seven as all-seven}
 use Rattle.sets.proofs.Laws.{bits-are, lowest-is}
 use Rattle.paper.specs.Logic.{allBelow}
@@ -16,7 +16,6 @@ use Rattle.paper.specs.declared.Message.{Message}
 use Rattle.rules.specs.declared.Step.{Step}
 use Rattle.rules.specs.Sets.{those, lowest}
 use Rattle.rules.specs.Accepting.{joinAll}
-use Rattle.rules.specs.Recover.{nextBallot, preparing}
 
 -- a list of seven, written out
 seven : (vs : List Vote) (d : Vote) → length vs ≡ 7
@@ -42,12 +41,6 @@ joins d vs z l p0 p1 p2 p3 p4 p5 p6 = rw (p6, p5, p4, p3, p2, p1, p0) (sym (ap (
 pub step-is : {e f : Record} {to to' : ℕ} {m m' : Message} → e ≡ f → to ≡ to' → m ≡ m'
     → _≡_ {A = Step} (record { entry = e; to = to; message = m }) (record { entry = f; to = to'; message = m' })
 step-is p q r = λ i. record { entry = p i; to = q i; message = r i }
-
--- the record of a copy that prepares, of its parts
-pub preparing-is : (c : ℕ) (r : Record) {b q at : ℕ} {v : Vote} → b ≡ nextBallot c (r .joined) → q ≡ 2 ^ c → v ≡ noVote → at ≡ c
-    → _≡_ {A = Record} (record { joined = b; vote = r .vote; mark = r .mark; phase = 1; set = q; replies = lib.ListN.set (replicate 7 v) at (r .vote) }) (preparing c r)
-preparing-is c r p q v a = λ i. record
-    { joined = p i; vote = r .vote; mark = r .mark; phase = 1; set = q i; replies = lib.ListN.set (replicate 7 (v i)) (a i) (r .vote) }
 
 -- a place below seven holds the same whatever stands for a missing one
 pub at-same : (vs : List Vote) (i : ℕ) (z : Vote) → i < length vs → getD vs i z ≡ getD vs i noVote
