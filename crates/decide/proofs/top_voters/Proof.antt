@@ -6,11 +6,11 @@ use lib.Dec.{leb, eqb}
 use lib.ListN.{getD}
 use Rattle.paper.specs.Vote.{noVote, member}
 use Rattle.paper.specs.declared.Vote.{Vote}
-use Rattle.rules.specs.Sets.{lowest}
-use Rattle.step.proofs.Laws.{lowest-vote}
+use Rattle.rules.specs.Sets.{those}
+use Rattle.step.proofs.Laws.{bits-votes}
 use borrow.Author.Needs.{needs}
-use Rattle.decide.proofs.lowest_top_voter.Statement.{statement}
-use Rattle.decide.proofs.lowest_top_voter.Tie as tie
+use Rattle.decide.proofs.top_voters.Statement.{statement}
+use Rattle.decide.proofs.top_voters.Tie as tie
 
 top-voted-requires : tie.Need-top-voted-requires
 top-voted-requires c κs = search needs
@@ -60,8 +60,8 @@ array-copy-out-votes-at-7 c = search needs
 votes-at-requires-7 : tie.Need-votes-at-requires-7
 votes-at-requires-7 c κs = search needs
 
-lowest-of-requires : tie.Need-lowest-of-requires
-lowest-of-requires c κs = search needs
+bits-of-requires : tie.Need-bits-of-requires
+bits-of-requires c κs = search needs
 
 returns : tie.Need-returns
 returns c =
@@ -69,12 +69,12 @@ returns c =
     let m = r .set in
     let vs = c .before .before .before .before .before .before .before .before .before .before .before .before .before .before .before .replies-of in
     let t : ℕ → ℕ → Vote → Bool = λ b q v. member q m && leb 1 (v .status) && eqb (v .voted) b in
-    lowest-vote (t (c .before .before .before .before .before .before .before .before .before .before .before .before .before .before .before .before .top-voted .result)) (vs .result) _ (vs .ensures .1) (c .before .before .before .before .before .before .before .before .before .before .before .before .before .votes-at .ensures) (c .before .before .before .before .before .before .before .before .before .before .before .votes-at2 .ensures) (c .before .before .before .before .before .before .before .before .before .votes-at3 .ensures) (c .before .before .before .before .before .before .before .votes-at4 .ensures) (c .before .before .before .before .before .votes-at5 .ensures) (c .before .before .before .votes-at6 .ensures) (c .before .votes-at7 .ensures) (c .lowest-of .ensures)
-    ∙ ap (λ (l : List Vote). lowest (λ q. t (c .before .before .before .before .before .before .before .before .before .before .before .before .before .before .before .before .top-voted .result) q (getD l q noVote))) (vs .ensures .0)
-    ∙ ap (λ (b : ℕ). lowest (λ q. t b q (getD (r .replies) q noVote))) (c .before .before .before .before .before .before .before .before .before .before .before .before .before .before .before .before .top-voted .ensures)
+    bits-votes (t (c .before .before .before .before .before .before .before .before .before .before .before .before .before .before .before .before .top-voted .result)) (vs .result) _ (vs .ensures .1) (c .before .before .before .before .before .before .before .before .before .before .before .before .before .votes-at .ensures) (c .before .before .before .before .before .before .before .before .before .before .before .votes-at2 .ensures) (c .before .before .before .before .before .before .before .before .before .votes-at3 .ensures) (c .before .before .before .before .before .before .before .votes-at4 .ensures) (c .before .before .before .before .before .votes-at5 .ensures) (c .before .before .before .votes-at6 .ensures) (c .before .votes-at7 .ensures) (c .bits-of .ensures)
+    ∙ ap (λ (l : List Vote). those (λ q. t (c .before .before .before .before .before .before .before .before .before .before .before .before .before .before .before .before .top-voted .result) q (getD l q noVote))) (vs .ensures .0)
+    ∙ ap (λ (b : ℕ). those (λ q. t b q (getD (r .replies) q noVote))) (c .before .before .before .before .before .before .before .before .before .before .before .before .before .before .before .before .top-voted .ensures)
 
-pub lowest-top-voter-spec : {M : Type 1} → statement M
-lowest-top-voter-spec =
+pub top-voters-spec : {M : Type 1} → statement M
+top-voters-spec =
     tie.close
     (tie.spec
     top-voted-requires
@@ -93,5 +93,5 @@ lowest-top-voter-spec =
     votes-at-requires-6
     array-copy-out-votes-at-7
     votes-at-requires-7
-    lowest-of-requires
+    bits-of-requires
     returns)
