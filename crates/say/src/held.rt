@@ -5,27 +5,27 @@ use nouns::logic::wide8;
 use nouns::vote::is_member;
 use paper::Record;
 use paper::Vote;
+use text::parts::put_text;
 use text::put::from32;
 use text::put::put_bytes;
 use text::put::put_size;
 
 pub fn put_status(out: &mut [u8], at: usize, status: u8) -> usize {
-    match wide8(status) {
-        0 => put_bytes(out, at, b"no vote"),
-        1 => put_bytes(out, at, b"pre-accepted with dependencies added here"),
-        2 => put_bytes(out, at, b"pre-accepted as received"),
-        3 => put_bytes(out, at, b"accepted"),
-        _ => put_bytes(out, at, b"committed"),
-    }
+    put_text(
+        out,
+        at,
+        b"no vote|pre-accepted with dependencies added here|pre-accepted as received|accepted|committed",
+        wide8(status),
+    )
 }
 
 fn put_phase(out: &mut [u8], at: usize, phase: u8) -> usize {
-    match wide8(phase) {
-        0 => at,
-        1 => put_bytes(out, at, b", preparing"),
-        2 => put_bytes(out, at, b", pre-accepting"),
-        _ => put_bytes(out, at, b", accepting"),
-    }
+    put_text(
+        out,
+        at,
+        b"|, preparing|, pre-accepting|, accepting",
+        wide8(phase),
+    )
 }
 
 fn put_member(out: &mut [u8], at: usize, q: usize, set: u8) -> usize {

@@ -8,23 +8,21 @@ use nouns::message::kind_of;
 use paper::Body;
 use paper::Command;
 use paper::Message;
+use text::parts::put_text;
 use text::put::from16;
 use text::put::from32;
 use text::put::put_bytes;
 use text::put::wide;
 use wire::Reading;
 
+// A kind's name, by its number.
 fn put_name(out: &mut [u8], at: usize, kind: usize) -> usize {
-    match kind {
-        1 => put_bytes(out, at, b"PreAccept"),
-        2 => put_bytes(out, at, b"PreAcceptOK"),
-        3 => put_bytes(out, at, b"Accept"),
-        4 => put_bytes(out, at, b"AcceptOK"),
-        5 => put_bytes(out, at, b"Commit"),
-        6 => put_bytes(out, at, b"Prepare"),
-        7 => put_bytes(out, at, b"PrepareOK"),
-        _ => put_bytes(out, at, b"Nack"),
-    }
+    put_text(
+        out,
+        at,
+        b"|PreAccept|PreAcceptOK|Accept|AcceptOK|Commit|Prepare|PrepareOK|Nack",
+        kind,
+    )
 }
 
 fn put_vote(

@@ -45,7 +45,7 @@ fn part_start(texts: &[u8], k: usize) -> usize
 }
 
 // Puts text k.
-pub fn put_part(out: &mut [u8], at: usize, texts: &[u8], k: usize) -> usize {
+pub fn put_text(out: &mut [u8], at: usize, texts: &[u8], k: usize) -> usize {
     let from = part_start(texts, k);
     let end = part_end(texts, from);
     put_bytes(out, at, &texts[from..end])
