@@ -1,4 +1,5 @@
 // The settled question and the hand-out at a copy.
+use crate::event::hand_out_at;
 use crate::turn::Turn;
 use crate::turn::went;
 use order::Handing;
@@ -12,7 +13,6 @@ use say::value::say;
 use scene::Scene;
 use scene::copies::marks_saved;
 use scene::copies::stopped;
-use scene::event::hand_out_at;
 use scene::saved::save;
 use scene::tables::table_in;
 use text::put::finish;

@@ -1,5 +1,6 @@
 // An event's course at a copy: the library's answer, the save, the sending. A cut takes the rest.
 use crate::ask::say_refused;
+use crate::event::event_at;
 use crate::turn::Turn;
 use crate::turn::halted;
 use crate::turn::went;
@@ -12,7 +13,6 @@ use scene::Scene;
 use scene::copies::cut_before_saving;
 use scene::copies::cut_before_sending;
 use scene::copies::stopped;
-use scene::event::event_at;
 use scene::saved::is_changed;
 use scene::saved::save;
 use scene::tables::table_in;

@@ -1,6 +1,4 @@
 // One line of the script.
-use crate::show::show_all;
-use crate::show::show_copy;
 use course::ask::ask;
 use course::ask::hand_out;
 use course::deliver::between;
@@ -25,6 +23,8 @@ use script::Moment;
 use script::Reason;
 use script::Step;
 use script::line::step_of;
+use show::show_all;
+use show::show_copy;
 use text::put::finish;
 use text::put::put_bytes;
 

@@ -10,7 +10,7 @@ use text::put::from32;
 use text::put::put_bytes;
 use text::put::put_size;
 
-pub fn put_status(out: &mut [u8], at: usize, status: u8) -> usize {
+fn put_status(out: &mut [u8], at: usize, status: u8) -> usize {
     put_text(
         out,
         at,
@@ -62,21 +62,22 @@ fn put_mark(out: &mut [u8], at: usize, mark: u8) -> usize {
     put_bytes(out, at, b", handed out")
 }
 
-fn put_vote(out: &mut [u8], at: usize, n: usize, vote: Vote) -> usize {
+// A vote, with these bytes before what was voted for.
+pub fn put_vote(out: &mut [u8], at: usize, n: usize, vote: Vote, between: &[u8]) -> usize {
     let status = put_status(&mut *out, at, vote.status);
     if vote.status == 0 {
         return status;
     }
     let command = vote.command;
     let deps = vote.deps;
-    let space = put_bytes(&mut *out, status, b" ");
-    put_proposal(&mut *out, space, n, command, deps)
+    let next = put_bytes(&mut *out, status, between);
+    put_proposal(&mut *out, next, n, command, deps)
 }
 
 pub fn put_record(out: &mut [u8], at: usize, n: usize, r: Record) -> usize {
     let vote = r.vote;
     let voted = vote.voted;
-    let told = put_vote(&mut *out, at, n, vote);
+    let told = put_vote(&mut *out, at, n, vote, b" ");
     let v = [from32(r.joined), from32(voted), 0, 0];
     let ballots = put_form(&mut *out, told, b", joined #, voted #", v);
     let phase = put_phase(&mut *out, ballots, r.phase);

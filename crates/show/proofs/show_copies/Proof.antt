@@ -1,24 +1,24 @@
 use borrow.Author.Needs.{needs}
-use Prim.Native.Nat.{_-_, _≤_}
+use Prim.Native.Nat.{_-_}
 use mathlib.Core.Path.{_≡_}
 use lib.ListN.{length}
-use Rattle.play.proofs.show.show_rows.Statement.{statement}
-use Rattle.play.proofs.show.show_rows.Tie as tie
+use Rattle.show.proofs.show_copies.Statement.{statement}
+use Rattle.show.proofs.show_copies.Tie as tie
 
 abbrev Inv-loop : tie.InvT-loop
-Inv-loop t w c out₀ o₀ out o = (length out ≡ length out₀) × (o ≤ 7)
+Inv-loop all w out₀ n c₀ out c = length out ≡ length out₀
 
 abbrev μ-loop : tie.MeasureT-loop
-μ-loop t w c out₀ o₀ out o = 7 - o
+μ-loop all w out₀ n c₀ out c = n - c
 
 loop-holds : tie.Need-loop-holds Inv-loop μ-loop
 loop-holds c = search needs
 
-show-row-requires : tie.Need-show-row-requires Inv-loop μ-loop
-show-row-requires c κs = search needs
+show-copy-requires : tie.Need-show-copy-requires Inv-loop μ-loop
+show-copy-requires c κs = search needs
 
-add-o : tie.Need-add-o Inv-loop μ-loop
-add-o c = search needs
+add-c : tie.Need-add-c Inv-loop μ-loop
+add-c c = search needs
 
 loop-less : tie.Need-loop-less Inv-loop μ-loop
 loop-less c = search needs
@@ -32,15 +32,15 @@ same-length c = search needs
 returns : tie.Need-returns Inv-loop μ-loop
 returns c = search needs
 
-pub show-rows-spec : {M : Type 1} → statement M
-show-rows-spec =
+pub show-copies-spec : {M : Type 1} → statement M
+show-copies-spec =
     tie.close
     (tie.spec
     Inv-loop
     μ-loop
     loop-holds
-    show-row-requires
-    add-o
+    show-copy-requires
+    add-c
     loop-less
     loop-again
     same-length

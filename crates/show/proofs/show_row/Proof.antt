@@ -2,8 +2,8 @@ use borrow.Author.Needs.{needs}
 use Prim.Native.Nat.{_-_, _≤_}
 use mathlib.Core.Path.{_≡_}
 use lib.ListN.{length}
-use Rattle.play.proofs.show.show_row.Statement.{statement}
-use Rattle.play.proofs.show.show_row.Tie as tie
+use Rattle.show.proofs.show_row.Statement.{statement}
+use Rattle.show.proofs.show_row.Tie as tie
 
 abbrev Inv-loop : tie.InvT-loop
 Inv-loop t w c o out₀ j₀ out j = (length out ≡ length out₀) × (j ≤ 65)

@@ -2,8 +2,8 @@ use borrow.Author.Needs.{needs}
 use Prim.Native.Nat.{_-_}
 use mathlib.Core.Path.{_≡_}
 use lib.ListN.{length}
-use Rattle.play.proofs.show.show_way.Statement.{statement}
-use Rattle.play.proofs.show.show_way.Tie as tie
+use Rattle.show.proofs.show_way.Statement.{statement}
+use Rattle.show.proofs.show_way.Tie as tie
 
 abbrev Inv-loop : tie.InvT-loop
 Inv-loop way w out₀ waiting i₀ out i = length out ≡ length out₀

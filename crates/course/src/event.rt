@@ -1,10 +1,10 @@
 // An event at a copy's working table.
-use crate::Scene;
-use crate::tables::length_of;
-use crate::tables::start_of;
 use log::Answer;
 use order::Handing;
 use paper::Refusal;
+use scene::Scene;
+use scene::tables::length_of;
+use scene::tables::start_of;
 use script::Event;
 
 fn on_table(t: &mut [u8], w: Scene, c: usize, what: Event, b: &[u8], room: &mut [u8]) -> Answer {
