@@ -1,8 +1,5 @@
 // Reads the words of a line: numbers, bytes in hex, names. A place at or past the line's end reads as a space.
 use nouns::logic::both;
-ghost use mathlib.Core.Path.{_≡_};
-ghost use Prim.Native.Nat.{_≤_};
-ghost use lib.ListN.{length};
 
 pub struct Value {
     pub value: u64,
@@ -30,9 +27,7 @@ fn no_number() -> Value {
     }
 }
 
-pub fn nothing_taken() -> Taken
-    ensures { λ r. ⌜ r .count ≡ 0 ⌝ }
-{
+pub fn nothing_taken() -> Taken {
     Taken {
         count: 0,
         next: 0,
@@ -232,14 +227,9 @@ pub fn hex(line: &[u8], at: usize, into: &mut [u8]) -> Taken {
 }
 
 // The rest of the line is bytes in hex.
-pub fn last_hex(line: &[u8], at: usize, into: &mut [u8]) -> Taken
-    ensures { λ r. ⌜ r .count ≤ length (now (into .entry)) ⌝ }
-{
-    let got = hex(line, at, &mut *into);
+pub fn last_hex(line: &[u8], at: usize, into: &mut [u8]) -> Taken {
+    let got = hex(line, at, into);
     if got.next < line.len() {
-        return nothing_taken();
-    }
-    if into.len() < got.count {
         return nothing_taken();
     }
     got
