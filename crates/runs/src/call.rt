@@ -5,6 +5,7 @@ use crate::event::put_watched;
 use crate::tables::poke;
 use crate::tables::start_of;
 use crate::told::Told;
+use text::bytes::front_mut;
 use text::parts::which_word;
 use text::put::bad_line;
 use text::put::finish;
@@ -35,12 +36,11 @@ fn answer_in(line: &[u8], at: usize, w: Told, t: &mut [u8], room: &mut [u8], out
 
 fn answer(line: &[u8], at: usize, w: Told, t: &mut [u8], out: &mut [u8]) {
     let mut room = [0xEEu8; 300];
-    let k = w.room;
-    if 300 < k {
+    if 300 < w.room {
         say_bad(out);
         return;
     }
-    answer_in(line, at, w, t, &mut room[..k], out);
+    answer_in(line, at, w, t, front_mut(&mut room, w.room), out);
 }
 
 fn poke_or_answer(line: &[u8], at: usize, w: Told, t: &mut [u8], out: &mut [u8]) {
