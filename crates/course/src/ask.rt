@@ -1,4 +1,5 @@
 // The settled question and the hand-out at a copy.
+use crate::event::hand_out_at;
 use crate::turn::Turn;
 use crate::turn::went;
 use order::Handing;
@@ -12,7 +13,6 @@ use say::value::say;
 use scene::Scene;
 use scene::copies::marks_saved;
 use scene::copies::stopped;
-use scene::event::hand_out_at;
 use scene::saved::save;
 use scene::tables::table_in;
 use text::put::finish;
@@ -55,18 +55,19 @@ pub fn ask(all: &[u8], w: Scene, c: usize, o: usize, j: usize, out: &mut [u8]) -
     went(w)
 }
 
-// One handed-out instance: its mark is saved, if no cut came before.
-fn hand_one(all: &mut [u8], w: Scene, c: usize, code: u16, is_saved: bool, out: &mut [u8]) {
-    let o = size(from16(code)) / 256;
-    let j = size(from16(code)) % 256;
-    if !is_saved {
-        return;
-    }
-    save(&mut *all, w, c, o, j);
+fn say_handed(all: &[u8], w: Scene, c: usize, o: usize, j: usize, out: &mut [u8]) {
     let at = begin(&mut *out, b"  copy # hands out #.#: ", c, o, j);
-    let t = table_in(&*all, w, c);
+    let t = table_in(all, w, c);
     let end = put_what(&mut *out, at, order::settled::settled(t, w.n, w.s, c, o, j));
     finish(&mut *out, end);
+}
+
+// One handed-out instance: its mark is saved.
+fn hand_one(all: &mut [u8], w: Scene, c: usize, code: u16, out: &mut [u8]) {
+    let o = size(from16(code)) / 256;
+    let j = size(from16(code)) % 256;
+    save(&mut *all, w, c, o, j);
+    say_handed(&*all, w, c, o, j, out);
 }
 
 fn put_what(out: &mut [u8], at: usize, answer: Settling) -> usize {
@@ -80,7 +81,10 @@ fn put_what(out: &mut [u8], at: usize, answer: Settling) -> usize {
 fn save_marks(all: &mut [u8], w: Scene, c: usize, list: &[u16], count: usize, out: &mut [u8]) {
     let mut i = 0;
     while i < list.len() {
-        hand_one(&mut *all, w, c, list[i], i < count, &mut *out);
+        if count <= i {
+            break;
+        }
+        hand_one(&mut *all, w, c, list[i], &mut *out);
         i += 1;
     }
 }

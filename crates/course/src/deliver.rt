@@ -17,6 +17,7 @@ use scene::way::take_off;
 use script::Event;
 use script::Fate;
 use script::Reason;
+use text::bytes::front;
 use text::put::finish;
 use text::put::put_bytes;
 
@@ -58,10 +59,7 @@ fn deliver_at(all: &mut [u8], way: &mut [u8], w: Scene, i: usize, out: &mut [u8]
     let k = hold(&*way, i, &mut held);
     let number = number_at(&*way, i);
     let next = take_off(&mut *way, w, i);
-    if 255 < k {
-        return went(next);
-    }
-    arrive(all, way, next, number, &held[..k], out)
+    arrive(all, way, next, number, front(&held, k), out)
 }
 
 // The message stays on the way, to arrive once more.
@@ -69,10 +67,7 @@ fn repeat_at(all: &mut [u8], way: &mut [u8], w: Scene, i: usize, out: &mut [u8])
     let mut held = [0u8; 255];
     let k = hold(&*way, i, &mut held);
     let number = number_at(&*way, i);
-    if 255 < k {
-        return went(w);
-    }
-    arrive(all, way, w, number, &held[..k], out)
+    arrive(all, way, w, number, front(&held, k), out)
 }
 
 fn drop_at(way: &mut [u8], w: Scene, i: usize, out: &mut [u8]) -> Turn {

@@ -1,5 +1,6 @@
 // An event's course at a copy: the library's answer, the save, the sending. A cut takes the rest.
 use crate::ask::say_refused;
+use crate::event::event_at;
 use crate::turn::Turn;
 use crate::turn::halted;
 use crate::turn::went;
@@ -12,7 +13,6 @@ use scene::Scene;
 use scene::copies::cut_before_saving;
 use scene::copies::cut_before_sending;
 use scene::copies::stopped;
-use scene::event::event_at;
 use scene::saved::is_changed;
 use scene::saved::save;
 use scene::tables::table_in;
@@ -25,6 +25,13 @@ use table::record_part;
 use text::put::finish;
 use wire::length_of;
 
+fn say_saved(all: &[u8], w: Scene, c: usize, o: usize, j: usize, out: &mut [u8]) {
+    let at = begin(&mut *out, b"  copy # saves #.#: ", c, o, j);
+    let part = record_part(table_in(all, w, c), w.n, w.s, c, o, j);
+    let end = put_part(&mut *out, at, w.n, part);
+    finish(&mut *out, end);
+}
+
 // The copy saves what changed in the record of o.j, and says what it holds then.
 fn save_record(all: &mut [u8], w: Scene, c: usize, o: usize, j: usize, out: &mut [u8]) {
     if !is_changed(&*all, w, c, o, j) {
@@ -32,10 +39,7 @@ fn save_record(all: &mut [u8], w: Scene, c: usize, o: usize, j: usize, out: &mut
         return;
     }
     save(&mut *all, w, c, o, j);
-    let at = begin(&mut *out, b"  copy # saves #.#: ", c, o, j);
-    let part = record_part(table_in(&*all, w, c), w.n, w.s, c, o, j);
-    let end = put_part(&mut *out, at, w.n, part);
-    finish(&mut *out, end);
+    say_saved(&*all, w, c, o, j, out);
 }
 
 // One message leaves: it is on the way from now on.

@@ -13,7 +13,7 @@ use paper::Record;
 use paper::Vote;
 use rules::Step;
 use sets::bits_of;
-use sets::lowest_of;
+use sets::lowest_in;
 use step::accepting::accepting_with;
 use step::afresh::afresh_with;
 use step::made::replies_of;
@@ -23,7 +23,7 @@ ghost use Prim.Native.Nat.{_<_, _≤_};
 ghost use lib.Dec.{leb, eqb};
 ghost use Rattle.paper.specs.Deps.{larger};
 ghost use Rattle.paper.specs.Vote.{member};
-ghost use Rattle.rules.specs.Sets.{those, lowest};
+ghost use Rattle.rules.specs.Sets.{those};
 ghost use Rattle.rules.specs.PrepareOk.{
   voter,
   topVoted,
@@ -139,8 +139,9 @@ fn same_voters(r: Record) -> u8
     bits_of(q0, q1, q2, q3, q4, q5, q6)
 }
 
-fn lowest_top_voter(r: Record) -> usize
-    ensures { λ x. ⌜ x ≡ lowest (topVoter r) ⌝ }
+// Those that voted at the highest ballot.
+fn top_voters(r: Record) -> u8
+    ensures { λ x. ⌜ x ≡ those (topVoter r) ⌝ }
 {
     let b = top_voted(r);
     let vs = replies_of(r);
@@ -151,36 +152,7 @@ fn lowest_top_voter(r: Record) -> usize
     let q4 = votes_at(4, r.set, vs[4], b);
     let q5 = votes_at(5, r.set, vs[5], b);
     let q6 = votes_at(6, r.set, vs[6], b);
-    lowest_of(q0, q1, q2, q3, q4, q5, q6)
-}
-
-fn lowest_top_accepter(r: Record) -> usize
-    ensures { λ x. ⌜ x ≡ lowest (topAccepter r) ⌝ }
-{
-    let b = top_voted(r);
-    let vs = replies_of(r);
-    let q0 = accepts_at(0, r.set, vs[0], b);
-    let q1 = accepts_at(1, r.set, vs[1], b);
-    let q2 = accepts_at(2, r.set, vs[2], b);
-    let q3 = accepts_at(3, r.set, vs[3], b);
-    let q4 = accepts_at(4, r.set, vs[4], b);
-    let q5 = accepts_at(5, r.set, vs[5], b);
-    let q6 = accepts_at(6, r.set, vs[6], b);
-    lowest_of(q0, q1, q2, q3, q4, q5, q6)
-}
-
-fn lowest_same_voter(r: Record) -> usize
-    ensures { λ x. ⌜ x ≡ lowest (sameVoter r) ⌝ }
-{
-    let vs = replies_of(r);
-    let q0 = votes_same(0, r.set, vs[0]);
-    let q1 = votes_same(1, r.set, vs[1]);
-    let q2 = votes_same(2, r.set, vs[2]);
-    let q3 = votes_same(3, r.set, vs[3]);
-    let q4 = votes_same(4, r.set, vs[4]);
-    let q5 = votes_same(5, r.set, vs[5]);
-    let q6 = votes_same(6, r.set, vs[6]);
-    lowest_of(q0, q1, q2, q3, q4, q5, q6)
+    bits_of(q0, q1, q2, q3, q4, q5, q6)
 }
 
 // The highest ballot is 0, the owner is not among the replies, and at least F have status 2.
@@ -199,7 +171,7 @@ pub fn afresh_command(r: Record) -> Command
     if voters(r) == 0 {
         return no_op();
     }
-    let q = lowest_top_voter(r);
+    let q = lowest_in(top_voters(r));
     let vs = replies_of(r);
     if 7 <= q {
         return no_op();
@@ -216,11 +188,12 @@ fn accepted_from(n: usize, o: usize, r: Record) -> usize
     if voters(r) == 0 {
         return 7;
     }
-    if top_accepters(r) != 0 {
-        return lowest_top_accepter(r);
+    let accepters = top_accepters(r);
+    if accepters != 0 {
+        return lowest_in(accepters);
     }
     if maybe_fast(n, o, r) {
-        return lowest_same_voter(r);
+        return lowest_in(same_voters(r));
     }
     7
 }

@@ -107,7 +107,14 @@ fn write_label(p: Picture, x: usize, y: usize, line: &[u8], out: &mut [u8]) {
     if end < at {
         return;
     }
-    write(p, x, y, b"label", &line[at..end], out);
+    write(
+        p,
+        x,
+        y,
+        b"<text x=\"#\" y=\"#\" class=\"label\">",
+        &line[at..end],
+        out,
+    );
 }
 
 fn arrive(p: Picture, id: usize, to: usize, v: &[usize], line: &[u8], out: &mut [u8]) -> Picture {

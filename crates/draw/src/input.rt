@@ -39,27 +39,31 @@ fn pass(p: Picture, text: &[u8], v: &mut [usize], out: &mut [u8]) -> Picture {
     q
 }
 
-fn draw_head(p: Picture, out: &mut [u8]) {
+fn draw_size(p: Picture, out: &mut [u8]) {
     draw(
         p,
         b"<svg xmlns=\"http://www.w3.org/2000/svg\" width=\"#\" height=\"#\" viewBox=\"0 0 # #\">",
         [p.wide, p.high, p.wide, p.high],
-        &mut *out,
+        out,
     );
+}
+
+// How arrows end, what lines and marks look like, and on a white ground the legend.
+fn draw_head(out: &mut [u8]) {
     put_line(
-        b"<defs><marker id=\"tip\" viewBox=\"0 0 8 8\" refX=\"8\" refY=\"4\" markerWidth=\"7\" markerHeight=\"7\" orient=\"auto\"><path d=\"M0 0L8 4L0 8z\" style=\"fill:#345\"/></marker></defs>",
-        &mut *out,
-    );
-    put_line(
-        b"<style>text{font-family:sans-serif;paint-order:stroke;stroke:white;stroke-width:3px}.copyname{font-size:14px}.label{font-size:10px;fill:#345;text-anchor:middle}.name{font-size:11px;font-weight:bold;text-anchor:middle}path{fill:none}.copy{stroke:#888;stroke-width:2}.down{stroke:#ccc;stroke-width:2;stroke-dasharray:3 5}",
-        &mut *out,
-    );
-    put_line(
-        b".message{stroke:#345;marker-end:url(#tip)}.lost{stroke:#b99;stroke-dasharray:4 3}.cross{stroke:#b55;stroke-width:2}.cut{stroke:#c00;stroke-width:3}.commit{fill:#183}.handed{fill:#26c}</style>",
-        &mut *out,
-    );
-    put_line(
-        b"<rect width=\"100%\" height=\"100%\" fill=\"white\"/>",
+        b"<defs><marker id=\"tip\" viewBox=\"0 0 8 8\" refX=\"8\" refY=\"4\" markerWidth=\"7\" markerHeight=\"7\" orient=\"auto\">\
+            <path d=\"M0 0L8 4L0 8z\" style=\"fill:#345\"/></marker></defs>\n\
+            <style>text{font-family:sans-serif;paint-order:stroke;stroke:white;stroke-width:3px}.copyname{font-size:14px}\
+            .label{font-size:10px;fill:#345;text-anchor:middle}.name{font-size:11px;font-weight:bold;text-anchor:middle}\
+            .key{font-size:11px}path{fill:none}.copy{stroke:#888;stroke-width:2}\
+            .down{stroke:#ccc;stroke-width:2;stroke-dasharray:3 5}.message{stroke:#345;marker-end:url(#tip)}\
+            .lost{stroke:#b99;stroke-dasharray:4 3}.cross{stroke:#b55;stroke-width:2}.cut{stroke:#c00;stroke-width:3}\
+            .commit{fill:#183}.handed{fill:#26c}</style>\n\
+            <rect width=\"100%\" height=\"100%\" fill=\"white\"/>\n\
+            <circle class=\"commit\" cx=\"75\" cy=\"12\" r=\"5\"/><text x=\"86\" y=\"16\" class=\"key\">committed</text>\n\
+            <path class=\"handed\" d=\"M165 12m-5 -5h10v10h-10z\"/><text x=\"176\" y=\"16\" class=\"key\">handed out</text>\n\
+            <path class=\"cut\" d=\"M260 12m-7 -7l14 14m-14 0l14 -14\"/><text x=\"273\" y=\"16\" class=\"key\">cut off</text>\n\
+            <path class=\"cross\" d=\"M335 12m-4 -4l8 8m-8 0l8 -8\"/><text x=\"345\" y=\"16\" class=\"key\">message lost</text>",
         out,
     );
 }
@@ -77,7 +81,8 @@ fn draw_last(p: Picture, v: &[usize], out: &mut [u8]) {
 }
 
 fn draw_all(p: Picture, text: &[u8], v: &mut [usize], out: &mut [u8]) {
-    draw_head(p, &mut *out);
+    draw_size(p, &mut *out);
+    draw_head(&mut *out);
     let end = pass(p, text, &mut *v, &mut *out);
     draw_last(end, &*v, out);
 }

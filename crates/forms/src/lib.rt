@@ -1,4 +1,6 @@
 // Lines with numbers in them, read and written by a form: a text in which each '#' stands for a number.
+use text::parts::next_part;
+use text::parts::part_end;
 use text::put::put_byte;
 use text::put::put_decimal;
 use text::words::with_digit;
@@ -93,6 +95,21 @@ pub fn fits(line: &[u8], form: &[u8], v: &mut [u64; 4]) -> bool {
         p += 1;
     }
     i == line.len()
+}
+
+// Which of these forms, with a bar between two of them, the line is; how many they are where it is none of them.
+pub fn which_form(line: &[u8], forms: &[u8], v: &mut [u64; 4]) -> usize {
+    let mut k = 0;
+    let mut from = 0;
+    while from < forms.len() {
+        let end = part_end(forms, from);
+        if fits(line, &forms[from..end], &mut *v) {
+            break;
+        }
+        from = next_part(forms, from);
+        k += 1;
+    }
+    k
 }
 
 fn number_at(v: [u64; 4], k: usize) -> u64 {

@@ -1,6 +1,4 @@
 // One line of the script.
-use crate::show::show_all;
-use crate::show::show_copy;
 use course::ask::ask;
 use course::ask::hand_out;
 use course::deliver::between;
@@ -25,6 +23,8 @@ use script::Moment;
 use script::Reason;
 use script::Step;
 use script::line::step_of;
+use show::show_all;
+use show::show_copy;
 use text::put::finish;
 use text::put::put_bytes;
 
@@ -93,7 +93,7 @@ fn all_shown(all: &[u8], way: &[u8], w: Scene, out: &mut [u8]) -> Turn {
     went(w)
 }
 
-// The copy that a step names; N where it names none.
+// The copy that a step names.
 fn named(step: Step) -> usize {
     match step {
         Step::At(c, _) => c,
@@ -104,19 +104,26 @@ fn named(step: Step) -> usize {
     }
 }
 
-fn play_step(all: &mut [u8], way: &mut [u8], w: Scene, step: Step, out: &mut [u8]) -> Turn {
+// A step at one copy.
+fn play_copy(all: &mut [u8], way: &mut [u8], w: Scene, step: Step, out: &mut [u8]) -> Turn {
     if w.n <= named(step) {
         return halted(w, Reason::NoCopy);
     }
     match step {
         Step::At(c, what) => act(all, way, w, c, what, out),
-        Step::Way { from, to, fate } => between(all, way, w, from, to, fate, out),
-        Step::All => deliver_all(all, way, w, out),
         Step::Cut(c, when) => cut(w, c, when, out),
         Step::Restart(c) => restart(all, w, c, out),
-        Step::Show => all_shown(&*all, &*way, w, out),
         Step::ShowCopy(c) => shown(&*all, w, c, out),
         _ => went(w),
+    }
+}
+
+fn play_step(all: &mut [u8], way: &mut [u8], w: Scene, step: Step, out: &mut [u8]) -> Turn {
+    match step {
+        Step::Way { from, to, fate } => between(all, way, w, from, to, fate, out),
+        Step::All => deliver_all(all, way, w, out),
+        Step::Show => all_shown(&*all, &*way, w, out),
+        _ => play_copy(all, way, w, step, out),
     }
 }
 

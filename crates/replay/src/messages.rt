@@ -6,6 +6,8 @@ use paper::Body;
 use paper::Command;
 use paper::Message;
 use paper::Op;
+use text::bytes::front;
+use text::bytes::front_mut;
 use text::put::bad_line;
 use text::put::put_bytes;
 use text::put::put_front;
@@ -13,9 +15,9 @@ use text::put::put_hex;
 use text::put::put_size;
 use text::refusals::put_refused;
 use text::setup::Setup;
-use text::words::hex;
+use text::words::last_hex;
+use text::words::last_numbers;
 use text::words::low8;
-use text::words::numbers;
 use text::words::size;
 use wire::Reading;
 use wire::Writing;
@@ -29,33 +31,30 @@ fn put_again(out: &mut [u8], at: usize, w: Setup, c: usize, m: Message) -> usize
     }
 }
 
+fn put_read(out: &mut [u8], at: usize, w: Setup, c: usize, m: Message) -> usize {
+    let told = put_bytes(&mut *out, at, b" message");
+    let fields = put_message(&mut *out, told, m);
+    put_again(&mut *out, fields, w, c, m)
+}
+
 fn read_bytes(b: &[u8], w: Setup, c: usize, out: &mut [u8]) -> usize {
     let got = wire::read_message(w.n, w.s, c, b);
     let answer = got.answer;
     let at = begin(&mut *out);
     match answer {
-        Reading::Refused(why) => put_refused(&mut *out, at, why),
-        Reading::Valid => {
-            let m = got.message;
-            let told = put_bytes(&mut *out, at, b" message");
-            let fields = put_message(&mut *out, told, m);
-            put_again(&mut *out, fields, w, c, m)
-        }
+        Reading::Refused(why) => put_refused(out, at, why),
+        Reading::Valid => put_read(out, at, w, c, got.message),
     }
 }
 
 // C read BYTES
 pub fn read(line: &[u8], at: usize, w: Setup, c: usize, out: &mut [u8]) -> usize {
     let mut room = [0u8; 300];
-    let got = hex(line, at, &mut room);
-    if !both(got.good, line.len() <= got.next) {
+    let got = last_hex(line, at, &mut room);
+    if !got.good {
         return bad_line(out);
     }
-    let k = got.count;
-    if 300 < k {
-        return bad_line(out);
-    }
-    read_bytes(&room[..k], w, c, out)
+    read_bytes(front(&room, got.count), w, c, out)
 }
 
 fn low16(x: u64) -> u16 {
@@ -184,11 +183,8 @@ fn write_to(room: &mut [u8], w: Setup, c: usize, m: Message, out: &mut [u8]) -> 
 // C write ROOM KIND FROM TO OWNER NUMBER BALLOT VOTED STATUS JOINED OP KEY EDIT D0 .. D6
 pub fn write(line: &[u8], at: usize, w: Setup, c: usize, out: &mut [u8]) -> usize {
     let mut v = [0u64; 20];
-    let got = numbers(line, at, &mut v);
-    if !both(got.good, line.len() <= got.next) {
-        return bad_line(out);
-    }
-    if !fit(v) {
+    let good = last_numbers(line, at, &mut v);
+    if !both(good, fit(v)) {
         return bad_line(out);
     }
     write_fields(v, w, c, out)
@@ -196,9 +192,5 @@ pub fn write(line: &[u8], at: usize, w: Setup, c: usize, out: &mut [u8]) -> usiz
 
 fn write_fields(v: [u64; 20], w: Setup, c: usize, out: &mut [u8]) -> usize {
     let mut room = [0xEEu8; 300];
-    let k = size(v[0]);
-    if 300 < k {
-        return bad_line(out);
-    }
-    write_to(&mut room[..k], w, c, message_of(v), out)
+    write_to(front_mut(&mut room, size(v[0])), w, c, message_of(v), out)
 }

@@ -1,6 +1,7 @@
 // One line of the input: the setup, or a call and its answer.
 use crate::messages;
 use crate::tables;
+use text::parts::which_word;
 use text::put::bad_line;
 use text::put::finish;
 use text::put::say_bad;
@@ -14,22 +15,14 @@ use text::words::word_is;
 // A call at copy c; its name begins at a place of the line.
 fn call(line: &[u8], at: usize, w: Setup, c: usize, t: &mut [u8], out: &mut [u8]) -> usize {
     let next = next_word(line, at);
-    if word_is(line, at, b"read") {
-        return messages::read(line, next, w, c, out);
+    match which_word(line, at, b"read|write|judge|blank|part") {
+        0 => messages::read(line, next, w, c, out),
+        1 => messages::write(line, next, w, c, out),
+        2 => tables::judge(line, next, w, c, t, out),
+        3 => tables::blank(line, next, w, c, t, out),
+        4 => tables::part(line, next, w, c, t, out),
+        _ => bad_line(out),
     }
-    if word_is(line, at, b"write") {
-        return messages::write(line, next, w, c, out);
-    }
-    if word_is(line, at, b"judge") {
-        return tables::judge(line, next, w, c, t, out);
-    }
-    if word_is(line, at, b"blank") {
-        return tables::blank(line, next, w, c, t, out);
-    }
-    if word_is(line, at, b"part") {
-        return tables::part(line, next, w, c, t, out);
-    }
-    bad_line(out)
 }
 
 fn answer_of(line: &[u8], w: Setup, t: &mut [u8], out: &mut [u8]) -> usize {

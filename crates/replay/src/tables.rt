@@ -5,6 +5,8 @@ use table::Blanking;
 use table::Judging;
 use text::bytes::checksum;
 use text::bytes::fill;
+use text::bytes::front;
+use text::bytes::front_mut;
 use text::put::bad_line;
 use text::put::put_byte;
 use text::put::put_bytes;
@@ -13,9 +15,10 @@ use text::put::put_size;
 use text::refusals::put_refused;
 use text::setup::Setup;
 use text::setup::times;
-use text::words::hex;
+use text::words::last_hex;
+use text::words::last_number;
+use text::words::last_numbers;
 use text::words::low8;
-use text::words::number;
 use text::words::numbers;
 use text::words::size;
 ghost use Prim.Native.Nat.{_≤_};
@@ -102,35 +105,28 @@ fn judge_words(
     at: usize,
     w: Setup,
     c: usize,
-    v: [u64; 4],
+    spot: Spot,
     t: &mut [u8],
     out: &mut [u8],
 ) -> usize {
     let mut room = [0u8; 300];
-    let got = hex(line, at, &mut room);
-    let where_to = spot_of(w.s, v);
-    let length = size(v[0]);
-    let k = got.count;
-    if !both(both(got.good, where_to.good), line.len() <= got.next) {
+    let got = last_hex(line, at, &mut room);
+    if !both(got.good, spot.good) {
         return bad_line(out);
     }
-    if 300 < k {
-        return bad_line(out);
-    }
-    if t.len() < length {
-        return bad_line(out);
-    }
-    judge_bytes(&mut t[..length], w, c, where_to.at, &room[..k], out)
+    judge_bytes(t, w, c, spot.at, front(&room, got.count), out)
 }
 
 // C judge LEN O J AT BYTES
 pub fn judge(line: &[u8], at: usize, w: Setup, c: usize, t: &mut [u8], out: &mut [u8]) -> usize {
     let mut v = [0u64; 4];
     let got = numbers(line, at, &mut v);
-    if !got.good {
+    let length = size(v[0]);
+    if !both(got.good, length <= t.len()) {
         return bad_line(out);
     }
-    judge_words(line, got.next, w, c, v, t, out)
+    let spot = spot_of(w.s, v);
+    judge_words(line, got.next, w, c, spot, front_mut(t, length), out)
 }
 
 fn put_blanking(out: &mut [u8], at: usize, answer: Blanking) -> usize {
@@ -150,15 +146,12 @@ fn blank_bytes(t: &mut [u8], w: Setup, c: usize, out: &mut [u8]) -> usize {
 
 // C blank LEN
 pub fn blank(line: &[u8], at: usize, w: Setup, c: usize, t: &mut [u8], out: &mut [u8]) -> usize {
-    let got = number(line, at);
+    let got = last_number(line, at);
     let length = size(got.value);
-    if !both(got.good, line.len() <= got.next) {
+    if !both(got.good, length <= t.len()) {
         return bad_line(out);
     }
-    if t.len() < length {
-        return bad_line(out);
-    }
-    blank_bytes(&mut t[..length], w, c, out)
+    blank_bytes(front_mut(t, length), w, c, out)
 }
 
 fn part_bytes(t: &[u8], w: Setup, c: usize, o: usize, j: usize, out: &mut [u8]) -> usize {
@@ -169,21 +162,18 @@ fn part_bytes(t: &[u8], w: Setup, c: usize, o: usize, j: usize, out: &mut [u8]) 
     put_number(&mut *out, length, checksum(part))
 }
 
-fn part_words(v: [u64; 3], w: Setup, c: usize, t: &mut [u8], out: &mut [u8]) -> usize {
-    let length = size(v[0]);
-    if t.len() < length {
-        return bad_line(out);
-    }
-    count_up(&mut t[..length]);
-    part_bytes(&t[..length], w, c, size(v[1]), size(v[2]), out)
+fn part_words(t: &mut [u8], w: Setup, c: usize, o: usize, j: usize, out: &mut [u8]) -> usize {
+    count_up(&mut *t);
+    part_bytes(&*t, w, c, o, j, out)
 }
 
 // C part LEN O J
 pub fn part(line: &[u8], at: usize, w: Setup, c: usize, t: &mut [u8], out: &mut [u8]) -> usize {
     let mut v = [0u64; 3];
-    let got = numbers(line, at, &mut v);
-    if !both(got.good, line.len() <= got.next) {
+    let good = last_numbers(line, at, &mut v);
+    let length = size(v[0]);
+    if !both(good, length <= t.len()) {
         return bad_line(out);
     }
-    part_words(v, w, c, t, out)
+    part_words(front_mut(t, length), w, c, size(v[1]), size(v[2]), out)
 }

@@ -2,7 +2,6 @@
 use crate::event::put_no;
 use crate::told::Told;
 use nouns::command::op_number;
-use nouns::logic::both;
 use order::Handing;
 use order::Settling;
 use paper::Command;
@@ -14,8 +13,8 @@ use text::put::put_bytes;
 use text::put::put_decimal;
 use text::put::put_number;
 use text::put::put_size;
-use text::words::number;
-use text::words::numbers;
+use text::words::last_number;
+use text::words::last_numbers;
 use text::words::size;
 
 fn put_settled(out: &mut [u8], k: Command) -> usize {
@@ -43,8 +42,7 @@ fn put_settling(out: &mut [u8], answer: Settling) -> usize {
 // C settled OWNER NUMBER
 pub fn settled(line: &[u8], at: usize, w: Told, t: &[u8], out: &mut [u8]) -> usize {
     let mut v = [0u64; 2];
-    let got = numbers(line, at, &mut v);
-    if !both(got.good, line.len() <= got.next) {
+    if !last_numbers(line, at, &mut v) {
         return bad_line(out);
     }
     let answer = order::settled::settled(t, w.n, w.s, w.c, size(v[0]), size(v[1]));
@@ -88,9 +86,9 @@ fn hand_out_in(w: Told, t: &mut [u8], list: &mut [u16], out: &mut [u8]) -> usize
 // C handout ROOM
 pub fn hand_out(line: &[u8], at: usize, w: Told, t: &mut [u8], out: &mut [u8]) -> usize {
     let mut list = [0u16; 448];
-    let room = number(line, at);
+    let room = last_number(line, at);
     let k = size(room.value);
-    if !both(room.good, line.len() <= room.next) {
+    if !room.good {
         return bad_line(out);
     }
     if 448 < k {

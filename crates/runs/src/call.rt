@@ -5,6 +5,8 @@ use crate::event::put_watched;
 use crate::tables::poke;
 use crate::tables::start_of;
 use crate::told::Told;
+use text::bytes::front_mut;
+use text::parts::which_word;
 use text::put::bad_line;
 use text::put::finish;
 use text::put::say_bad;
@@ -14,25 +16,15 @@ use text::words::word_is;
 // The call whose name begins at a place of the line.
 fn call(line: &[u8], at: usize, w: Told, t: &mut [u8], room: &mut [u8], out: &mut [u8]) -> usize {
     let next = next_word(line, at);
-    if word_is(line, at, b"request") {
-        return event::request(line, next, w, t, room, out);
+    match which_word(line, at, b"request|message|recover|nudge|settled|handout") {
+        0 => event::request(line, next, w, t, room, out),
+        1 => event::message(line, next, w, t, room, out),
+        2 => event::recover(line, next, w, t, room, out),
+        3 => event::nudge(line, next, w, t, room, out),
+        4 => asked::settled(line, next, w, &*t, out),
+        5 => asked::hand_out(line, next, w, t, out),
+        _ => bad_line(out),
     }
-    if word_is(line, at, b"message") {
-        return event::message(line, next, w, t, room, out);
-    }
-    if word_is(line, at, b"recover") {
-        return event::recover(line, next, w, t, room, out);
-    }
-    if word_is(line, at, b"nudge") {
-        return event::nudge(line, next, w, t, room, out);
-    }
-    if word_is(line, at, b"settled") {
-        return asked::settled(line, next, w, &*t, out);
-    }
-    if word_is(line, at, b"handout") {
-        return asked::hand_out(line, next, w, t, out);
-    }
-    bad_line(out)
 }
 
 // The call and its answer line.
@@ -44,12 +36,11 @@ fn answer_in(line: &[u8], at: usize, w: Told, t: &mut [u8], room: &mut [u8], out
 
 fn answer(line: &[u8], at: usize, w: Told, t: &mut [u8], out: &mut [u8]) {
     let mut room = [0xEEu8; 300];
-    let k = w.room;
-    if 300 < k {
+    if 300 < w.room {
         say_bad(out);
         return;
     }
-    answer_in(line, at, w, t, &mut room[..k], out);
+    answer_in(line, at, w, t, front_mut(&mut room, w.room), out);
 }
 
 fn poke_or_answer(line: &[u8], at: usize, w: Told, t: &mut [u8], out: &mut [u8]) {

@@ -1,17 +1,17 @@
 // The calls for events: request, message, recover and nudge.
 use crate::told::Told;
 use log::Answer;
-use nouns::logic::both;
 use paper::Refusal;
 use text::bytes::checksum;
+use text::bytes::front;
 use text::put::bad_line;
 use text::put::put_bytes;
 use text::put::put_front;
 use text::put::put_number;
 use text::put::put_size;
 use text::refusals::put_refused;
-use text::words::hex;
-use text::words::numbers;
+use text::words::last_hex;
+use text::words::last_numbers;
 use text::words::size;
 
 fn put_done(out: &mut [u8], o: usize, j: usize, room: &[u8], k: usize) -> usize {
@@ -60,8 +60,7 @@ pub fn request(
     out: &mut [u8],
 ) -> usize {
     let mut v = [0u64; 3];
-    let got = numbers(line, at, &mut v);
-    if !both(got.good, line.len() <= got.next) {
+    if !last_numbers(line, at, &mut v) {
         return bad_line(out);
     }
     if 4294967295 < v[1] {
@@ -83,15 +82,12 @@ pub fn message(
     out: &mut [u8],
 ) -> usize {
     let mut bytes = [0u8; 300];
-    let got = hex(line, at, &mut bytes);
-    let k = got.count;
-    if !both(got.good, line.len() <= got.next) {
+    let got = last_hex(line, at, &mut bytes);
+    if !got.good {
         return bad_line(out);
     }
-    if 300 < k {
-        return bad_line(out);
-    }
-    let answer = receive::message::message(t, w.n, w.s, w.c, &mut *room, &bytes[..k]);
+    let told = front(&bytes, got.count);
+    let answer = receive::message::message(t, w.n, w.s, w.c, &mut *room, told);
     put_answer(out, answer, &*room)
 }
 
@@ -105,8 +101,7 @@ pub fn recover(
     out: &mut [u8],
 ) -> usize {
     let mut v = [0u64; 2];
-    let got = numbers(line, at, &mut v);
-    if !both(got.good, line.len() <= got.next) {
+    if !last_numbers(line, at, &mut v) {
         return bad_line(out);
     }
     let answer = log::recover::recover(t, w.n, w.s, w.c, &mut *room, size(v[0]), size(v[1]));
@@ -123,8 +118,7 @@ pub fn nudge(
     out: &mut [u8],
 ) -> usize {
     let mut v = [0u64; 2];
-    let got = numbers(line, at, &mut v);
-    if !both(got.good, line.len() <= got.next) {
+    if !last_numbers(line, at, &mut v) {
         return bad_line(out);
     }
     let answer = log::nudge::nudge(t, w.n, w.s, w.c, &mut *room, size(v[0]), size(v[1]));

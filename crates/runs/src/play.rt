@@ -2,14 +2,13 @@
 use crate::call;
 use crate::tables::blank_all;
 use crate::told::Told;
-use crate::told::is_way;
 use crate::told::run;
 use crate::told::way;
 use text::bytes::fill;
+use text::parts::which_word;
 use text::put::say_bad;
 use text::words::number;
 use text::words::size;
-use text::words::word_is;
 
 fn play_run(line: &[u8], w: Told, all: &mut [u8], out: &mut [u8]) -> Told {
     let told = run(line, w);
@@ -22,8 +21,8 @@ fn play_run(line: &[u8], w: Told, all: &mut [u8], out: &mut [u8]) -> Told {
     told
 }
 
-fn play_way(line: &[u8], w: Told, out: &mut [u8]) -> Told {
-    let told = way(line, w);
+fn play_way(line: &[u8], word: usize, w: Told, out: &mut [u8]) -> Told {
+    let told = way(line, word, w);
     if !told.good {
         say_bad(out);
         return w;
@@ -52,11 +51,12 @@ pub fn play_line(line: &[u8], w: Told, all: &mut [u8], out: &mut [u8]) -> Told {
     if is_passed_over(line) {
         return w;
     }
-    if word_is(line, 0, b"run") {
+    let word = which_word(line, 0, b"run|as|length|room|watch");
+    if word == 0 {
         return play_run(line, w, all, out);
     }
-    if is_way(line) {
-        return play_way(line, w, out);
+    if word < 5 {
+        return play_way(line, word, w, out);
     }
     play_call(line, w, all, out);
     w

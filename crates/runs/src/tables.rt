@@ -1,8 +1,9 @@
 // Seven areas of lent bytes, one for each copy's table.
 use crate::told::Told;
 use nouns::logic::both;
+use text::bytes::front;
 use text::put::put_bytes;
-use text::words::hex;
+use text::words::last_hex;
 use text::words::number;
 use text::words::size;
 ghost use Prim.Native.Nat.{_≤_};
@@ -41,14 +42,10 @@ pub fn blank_all(all: &mut [u8], w: Told) {
 pub fn poke(line: &[u8], at: usize, t: &mut [u8]) -> bool {
     let mut room = [0u8; 300];
     let place = number(line, at);
-    let got = hex(line, place.next, &mut room);
-    let k = got.count;
-    if !both(both(place.good, got.good), line.len() <= got.next) {
+    let got = last_hex(line, place.next, &mut room);
+    if !both(place.good, got.good) {
         return false;
     }
-    if 300 < k {
-        return false;
-    }
-    put_bytes(t, size(place.value), &room[..k]);
+    put_bytes(t, size(place.value), front(&room, got.count));
     true
 }

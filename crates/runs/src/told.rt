@@ -1,10 +1,9 @@
 // How the calls that follow are made.
-use nouns::logic::both;
 use text::setup::table_length;
+use text::words::last_number;
+use text::words::last_numbers;
 use text::words::next_word;
-use text::words::numbers;
 use text::words::size;
-use text::words::word_is;
 
 // The setup and, where `other` says so, the copy number that calls name; the length that is lent of a table; the room;
 // whether answers end with checksums; whether the last line was a good one.
@@ -45,8 +44,7 @@ fn bad(old: Told) -> Told {
 // run N S
 pub fn run(line: &[u8], old: Told) -> Told {
     let mut v = [0u64; 2];
-    let got = numbers(line, next_word(line, 0), &mut v);
-    if !both(got.good, line.len() <= got.next) {
+    if !last_numbers(line, next_word(line, 0), &mut v) {
         return bad(old);
     }
     let n = size(v[0]);
@@ -57,8 +55,7 @@ pub fn run(line: &[u8], old: Told) -> Told {
 // as N S C
 fn named(line: &[u8], old: Told) -> Told {
     let mut v = [0u64; 3];
-    let got = numbers(line, next_word(line, 0), &mut v);
-    if !both(got.good, line.len() <= got.next) {
+    if !last_numbers(line, next_word(line, 0), &mut v) {
         return bad(old);
     }
     let mut w = old;
@@ -71,25 +68,19 @@ fn named(line: &[u8], old: Told) -> Told {
 
 // length L
 fn lent(line: &[u8], old: Told) -> Told {
-    let mut v = [0u64; 1];
-    let got = numbers(line, next_word(line, 0), &mut v);
-    if !both(got.good, line.len() <= got.next) {
-        return bad(old);
-    }
+    let x = last_number(line, next_word(line, 0));
     let mut w = old;
-    w.length = size(v[0]);
+    w.length = size(x.value);
+    w.good = x.good;
     w
 }
 
 // room R
 fn roomy(line: &[u8], old: Told) -> Told {
-    let mut v = [0u64; 1];
-    let got = numbers(line, next_word(line, 0), &mut v);
-    if !both(got.good, line.len() <= got.next) {
-        return bad(old);
-    }
+    let x = last_number(line, next_word(line, 0));
     let mut w = old;
-    w.room = size(v[0]);
+    w.room = size(x.value);
+    w.good = x.good;
     w
 }
 
@@ -100,29 +91,12 @@ fn watched(line: &[u8], old: Told) -> Told {
     w
 }
 
-pub fn is_way(line: &[u8]) -> bool {
-    if word_is(line, 0, b"as") {
-        return true;
+// A line that says how the calls that follow are made, by its first word: run, as, length, room or watch.
+pub fn way(line: &[u8], word: usize, old: Told) -> Told {
+    match word {
+        1 => named(line, old),
+        2 => lent(line, old),
+        3 => roomy(line, old),
+        _ => watched(line, old),
     }
-    if word_is(line, 0, b"length") {
-        return true;
-    }
-    if word_is(line, 0, b"room") {
-        return true;
-    }
-    word_is(line, 0, b"watch")
-}
-
-// A line that says how the calls that follow are made.
-pub fn way(line: &[u8], old: Told) -> Told {
-    if word_is(line, 0, b"as") {
-        return named(line, old);
-    }
-    if word_is(line, 0, b"length") {
-        return lent(line, old);
-    }
-    if word_is(line, 0, b"room") {
-        return roomy(line, old);
-    }
-    watched(line, old)
 }

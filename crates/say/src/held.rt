@@ -5,27 +5,27 @@ use nouns::logic::wide8;
 use nouns::vote::is_member;
 use paper::Record;
 use paper::Vote;
+use text::parts::put_text;
 use text::put::from32;
 use text::put::put_bytes;
 use text::put::put_size;
 
-pub fn put_status(out: &mut [u8], at: usize, status: u8) -> usize {
-    match wide8(status) {
-        0 => put_bytes(out, at, b"no vote"),
-        1 => put_bytes(out, at, b"pre-accepted with dependencies added here"),
-        2 => put_bytes(out, at, b"pre-accepted as received"),
-        3 => put_bytes(out, at, b"accepted"),
-        _ => put_bytes(out, at, b"committed"),
-    }
+fn put_status(out: &mut [u8], at: usize, status: u8) -> usize {
+    put_text(
+        out,
+        at,
+        b"no vote|pre-accepted with dependencies added here|pre-accepted as received|accepted|committed",
+        wide8(status),
+    )
 }
 
 fn put_phase(out: &mut [u8], at: usize, phase: u8) -> usize {
-    match wide8(phase) {
-        0 => at,
-        1 => put_bytes(out, at, b", preparing"),
-        2 => put_bytes(out, at, b", pre-accepting"),
-        _ => put_bytes(out, at, b", accepting"),
-    }
+    put_text(
+        out,
+        at,
+        b"|, preparing|, pre-accepting|, accepting",
+        wide8(phase),
+    )
 }
 
 fn put_member(out: &mut [u8], at: usize, q: usize, set: u8) -> usize {
@@ -62,21 +62,22 @@ fn put_mark(out: &mut [u8], at: usize, mark: u8) -> usize {
     put_bytes(out, at, b", handed out")
 }
 
-fn put_vote(out: &mut [u8], at: usize, n: usize, vote: Vote) -> usize {
+// A vote, with these bytes before what was voted for.
+pub fn put_vote(out: &mut [u8], at: usize, n: usize, vote: Vote, between: &[u8]) -> usize {
     let status = put_status(&mut *out, at, vote.status);
     if vote.status == 0 {
         return status;
     }
     let command = vote.command;
     let deps = vote.deps;
-    let space = put_bytes(&mut *out, status, b" ");
-    put_proposal(&mut *out, space, n, command, deps)
+    let next = put_bytes(&mut *out, status, between);
+    put_proposal(&mut *out, next, n, command, deps)
 }
 
 pub fn put_record(out: &mut [u8], at: usize, n: usize, r: Record) -> usize {
     let vote = r.vote;
     let voted = vote.voted;
-    let told = put_vote(&mut *out, at, n, vote);
+    let told = put_vote(&mut *out, at, n, vote, b" ");
     let v = [from32(r.joined), from32(voted), 0, 0];
     let ballots = put_form(&mut *out, told, b", joined #, voted #", v);
     let phase = put_phase(&mut *out, ballots, r.phase);

@@ -1,49 +1,50 @@
 // A message by its name and fields.
-use crate::held::put_status;
+use crate::held::put_vote;
 use crate::value::put_deps;
 use crate::value::put_proposal;
 use forms::put_form;
 use nouns::logic::wide8;
+use nouns::message::command_in;
+use nouns::message::joined_in;
 use nouns::message::kind_of;
-use paper::Body;
+use nouns::message::status_in;
+use nouns::message::voted_in;
 use paper::Command;
 use paper::Message;
+use paper::Vote;
+use text::parts::put_text;
 use text::put::from16;
 use text::put::from32;
 use text::put::put_bytes;
 use text::put::wide;
 use wire::Reading;
 
+// A kind's name, by its number.
 fn put_name(out: &mut [u8], at: usize, kind: usize) -> usize {
-    match kind {
-        1 => put_bytes(out, at, b"PreAccept"),
-        2 => put_bytes(out, at, b"PreAcceptOK"),
-        3 => put_bytes(out, at, b"Accept"),
-        4 => put_bytes(out, at, b"AcceptOK"),
-        5 => put_bytes(out, at, b"Commit"),
-        6 => put_bytes(out, at, b"Prepare"),
-        7 => put_bytes(out, at, b"PrepareOK"),
-        _ => put_bytes(out, at, b"Nack"),
+    put_text(
+        out,
+        at,
+        b"|PreAccept|PreAcceptOK|Accept|AcceptOK|Commit|Prepare|PrepareOK|Nack",
+        kind,
+    )
+}
+
+fn vote_in(m: Message) -> Vote {
+    let body = m.body;
+    let deps = m.deps;
+    let command = command_in(body);
+    Vote {
+        voted: voted_in(body),
+        status: status_in(body),
+        command,
+        deps,
     }
 }
 
-fn put_vote(
-    out: &mut [u8],
-    at: usize,
-    n: usize,
-    voted: u32,
-    status: u8,
-    k: Command,
-    deps: [u16; 7],
-) -> usize {
-    let v = [from32(voted), 0, 0, 0];
+fn put_told(out: &mut [u8], at: usize, n: usize, vote: Vote) -> usize {
+    let v = [from32(vote.voted), 0, 0, 0];
     let ballot = put_form(&mut *out, at, b": voted #, ", v);
-    let told = put_status(&mut *out, ballot, status);
-    if status == 0 {
-        return told;
-    }
-    let comma = put_bytes(&mut *out, told, b", ");
-    put_proposal(&mut *out, comma, n, k, deps)
+    put_vote(&mut *out, ballot, n, vote, b", ")
 }
 
 fn put_carried(out: &mut [u8], at: usize, n: usize, k: Command, deps: [u16; 7]) -> usize {
@@ -62,31 +63,26 @@ fn put_joined(out: &mut [u8], at: usize, joined: u32) -> usize {
 }
 
 // What only some kinds carry.
-fn put_body(out: &mut [u8], at: usize, n: usize, body: Body, deps: [u16; 7]) -> usize {
-    match body {
-        Body::PreAccept(k) => put_carried(out, at, n, k, deps),
-        Body::PreAcceptOk => put_answered(out, at, n, deps),
-        Body::Accept(k) => put_carried(out, at, n, k, deps),
-        Body::AcceptOk => at,
-        Body::Commit(k) => put_carried(out, at, n, k, deps),
-        Body::Prepare => at,
-        Body::PrepareOk {
-            voted,
-            status,
-            command,
-        } => put_vote(out, at, n, voted, status, command, deps),
-        Body::Nack(joined) => put_joined(out, at, joined),
+fn put_body(out: &mut [u8], at: usize, n: usize, kind: usize, m: Message) -> usize {
+    let body = m.body;
+    let deps = m.deps;
+    match kind {
+        1 | 3 | 5 => put_carried(out, at, n, command_in(body), deps),
+        2 => put_answered(out, at, n, deps),
+        7 => put_told(out, at, n, vote_in(m)),
+        8 => put_joined(out, at, joined_in(body)),
+        _ => at,
     }
 }
 
 fn put_fields(out: &mut [u8], at: usize, n: usize, m: Message) -> usize {
     let body = m.body;
-    let deps = m.deps;
-    let name = put_name(&mut *out, at, wide8(kind_of(body)));
+    let kind = wide8(kind_of(body));
+    let name = put_name(&mut *out, at, kind);
     let owner = wide(wide8(m.owner));
     let v = [owner, from16(m.number), from32(m.ballot), 0];
     let front = put_form(&mut *out, name, b" #.# ballot #", v);
-    put_body(&mut *out, front, n, body, deps)
+    put_body(&mut *out, front, n, kind, m)
 }
 
 // The message in these bytes, as copy c reads it.

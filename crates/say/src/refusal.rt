@@ -1,26 +1,33 @@
 // The paper's refusals, in words.
+use nouns::refusal::number_of;
 use paper::Refusal;
-use text::put::put_bytes;
+use text::parts::put_text;
+use text::put::from32;
 use text::refusals::put_refused;
+use text::words::size;
 
-fn put_what(out: &mut [u8], at: usize, why: Refusal) -> usize {
-    match why {
-        Refusal::Setup => put_bytes(out, at, b": the setup is not the table's"),
-        Refusal::Unsound => put_bytes(out, at, b": the table is not sound"),
-        Refusal::Room => put_bytes(out, at, b": there is no room for messages"),
-        Refusal::Message => put_bytes(out, at, b": the message is not valid"),
-        Refusal::Op => put_bytes(out, at, b": only reads and writes are requested"),
-        Refusal::Instance => put_bytes(out, at, b": there is no such instance"),
-        Refusal::Committed => put_bytes(out, at, b": it is committed"),
-        Refusal::Idle => put_bytes(out, at, b": this copy is not leading it"),
-        Refusal::Ballots => put_bytes(out, at, b": its ballots are used up"),
-        Refusal::Full => put_bytes(out, at, b": all numbers of this copy are used"),
-        Refusal::Differs => put_bytes(out, at, b": another command or order is committed"),
-    }
+// What a refusal means, by its number.
+fn put_what(out: &mut [u8], at: usize, number: usize) -> usize {
+    put_text(
+        out,
+        at,
+        b"|: the setup is not the table's\
+            |: there is no room for messages\
+            |: the message is not valid\
+            |: only reads and writes are requested\
+            |: all numbers of this copy are used\
+            |: there is no such instance\
+            |: its ballots are used up\
+            |: it is committed\
+            |: this copy is not leading it\
+            |: another command or order is committed\
+            |: the table is not sound",
+        number,
+    )
 }
 
 // A space, `refused`, the number and what it means.
 pub fn put_refusal(out: &mut [u8], at: usize, why: Refusal) -> usize {
     let number = put_refused(&mut *out, at, why);
-    put_what(&mut *out, number, why)
+    put_what(&mut *out, number, size(from32(number_of(why))))
 }

@@ -1,6 +1,5 @@
 // The copies of a run, each with a working table and a saved one, and the messages on the way between them.
 pub mod copies;
-pub mod event;
 pub mod saved;
 pub mod tables;
 pub mod way;

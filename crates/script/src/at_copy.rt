@@ -3,7 +3,7 @@ use crate::Act;
 use crate::Event;
 use crate::Reason;
 use crate::Step;
-use forms::fits;
+use forms::which_form;
 use text::words::size;
 
 // The longest list that a hand-out can fill: all instances of seven copies with 64 numbers each.
@@ -62,34 +62,34 @@ fn hand_out(c: u64, room: usize) -> Step {
     Step::At(size(c), act)
 }
 
-// The settled question and the hand-out.
-fn question(line: &[u8]) -> Step {
-    let mut v = [0u64; 4];
-    if fits(line, b"copy # is asked about #.#", &mut v) {
-        return ask(v[0], v[1], v[2]);
+// The settled question and the hand-out, by the place of their form below.
+fn question(form: usize, v: [u64; 4]) -> Step {
+    match form {
+        4 => ask(v[0], v[1], v[2]),
+        5 => hand_out(v[0], ALL),
+        6 => hand_out(v[0], size(v[1])),
+        _ => Step::Bad(Reason::Copy),
     }
-    if fits(line, b"copy # hands out", &mut v) {
-        return hand_out(v[0], ALL);
-    }
-    if fits(line, b"copy # hands out up to #", &mut v) {
-        return hand_out(v[0], size(v[1]));
-    }
-    Step::Bad(Reason::Copy)
 }
 
 pub fn at_copy(line: &[u8]) -> Step {
     let mut v = [0u64; 4];
-    if fits(line, b"copy # requests write key # edit #", &mut v) {
-        return request(v[0], 2, v[1], v[2]);
+    let form = which_form(
+        line,
+        b"copy # requests write key # edit #\
+            |copy # requests read key #\
+            |copy # recovers #.#\
+            |copy # nudges #.#\
+            |copy # is asked about #.#\
+            |copy # hands out\
+            |copy # hands out up to #",
+        &mut v,
+    );
+    match form {
+        0 => request(v[0], 2, v[1], v[2]),
+        1 => request(v[0], 1, v[1], 0),
+        2 => recover(v[0], v[1], v[2]),
+        3 => nudge(v[0], v[1], v[2]),
+        _ => question(form, v),
     }
-    if fits(line, b"copy # requests read key #", &mut v) {
-        return request(v[0], 1, v[1], 0);
-    }
-    if fits(line, b"copy # recovers #.#", &mut v) {
-        return recover(v[0], v[1], v[2]);
-    }
-    if fits(line, b"copy # nudges #.#", &mut v) {
-        return nudge(v[0], v[1], v[2]);
-    }
-    question(line)
 }

@@ -5,8 +5,9 @@ use crate::Reason;
 use crate::Step;
 use crate::at_copy::at_copy;
 use forms::fits;
+use forms::which_form;
+use text::parts::which_word;
 use text::words::size;
-use text::words::word_is;
 
 fn copies(line: &[u8]) -> Step {
     let mut v = [0u64; 4];
@@ -29,73 +30,56 @@ fn way(from: u64, to: u64, fate: Fate) -> Step {
 
 fn deliver(line: &[u8]) -> Step {
     let mut v = [0u64; 4];
-    if fits(line, b"deliver all", &mut v) {
-        return Step::All;
+    match which_form(
+        line,
+        b"deliver all|deliver # to #|drop # to #|repeat # to #",
+        &mut v,
+    ) {
+        0 => Step::All,
+        1 => way(v[0], v[1], Fate::Deliver),
+        2 => way(v[0], v[1], Fate::Drop),
+        3 => way(v[0], v[1], Fate::Repeat),
+        _ => Step::Bad(Reason::Way),
     }
-    if fits(line, b"deliver # to #", &mut v) {
-        return way(v[0], v[1], Fate::Deliver);
-    }
-    Step::Bad(Reason::Way)
 }
 
-fn lose_or_repeat(line: &[u8]) -> Step {
-    let mut v = [0u64; 4];
-    if fits(line, b"drop # to #", &mut v) {
-        return way(v[0], v[1], Fate::Drop);
-    }
-    if fits(line, b"repeat # to #", &mut v) {
-        return way(v[0], v[1], Fate::Repeat);
-    }
-    Step::Bad(Reason::Way)
+fn cut_at(c: u64, when: Moment) -> Step {
+    Step::Cut(size(c), when)
 }
 
 fn cut(line: &[u8]) -> Step {
     let mut v = [0u64; 4];
-    if fits(line, b"cut copy # before saving", &mut v) {
-        return Step::Cut(size(v[0]), Moment::Saving);
+    match which_form(
+        line,
+        b"cut copy # before saving\
+            |cut copy # before sending\
+            |cut copy # after # marks\
+            |cut copy # after # mark",
+        &mut v,
+    ) {
+        0 => cut_at(v[0], Moment::Saving),
+        1 => cut_at(v[0], Moment::Sending),
+        2 | 3 => cut_at(v[0], Moment::Marks(size(v[1]))),
+        _ => Step::Bad(Reason::Cut),
     }
-    if fits(line, b"cut copy # before sending", &mut v) {
-        return Step::Cut(size(v[0]), Moment::Sending);
-    }
-    cut_marks(line)
-}
-
-fn cut_marks(line: &[u8]) -> Step {
-    let mut v = [0u64; 4];
-    if fits(line, b"cut copy # after # marks", &mut v) {
-        return Step::Cut(size(v[0]), Moment::Marks(size(v[1])));
-    }
-    if fits(line, b"cut copy # after # mark", &mut v) {
-        return Step::Cut(size(v[0]), Moment::Marks(size(v[1])));
-    }
-    Step::Bad(Reason::Cut)
 }
 
 fn stop(line: &[u8]) -> Step {
     let mut v = [0u64; 4];
-    if fits(line, b"stop copy #", &mut v) {
-        return Step::Cut(size(v[0]), Moment::Now);
+    match which_form(line, b"stop copy #|restart copy #", &mut v) {
+        0 => cut_at(v[0], Moment::Now),
+        1 => Step::Restart(size(v[0])),
+        _ => Step::Bad(Reason::Restart),
     }
-    Step::Bad(Reason::Restart)
-}
-
-fn restart(line: &[u8]) -> Step {
-    let mut v = [0u64; 4];
-    if fits(line, b"restart copy #", &mut v) {
-        return Step::Restart(size(v[0]));
-    }
-    Step::Bad(Reason::Restart)
 }
 
 fn show(line: &[u8]) -> Step {
     let mut v = [0u64; 4];
-    if fits(line, b"show", &mut v) {
-        return Step::Show;
+    match which_form(line, b"show|show copy #", &mut v) {
+        0 => Step::Show,
+        1 => Step::ShowCopy(size(v[0])),
+        _ => Step::Bad(Reason::Show),
     }
-    if fits(line, b"show copy #", &mut v) {
-        return Step::ShowCopy(size(v[0]));
-    }
-    Step::Bad(Reason::Show)
 }
 
 fn is_text(line: &[u8]) -> bool {
@@ -105,41 +89,22 @@ fn is_text(line: &[u8]) -> bool {
     line[0] == b'#'
 }
 
-// Lines about a copy that stops or goes on, and about what is shown.
-fn other(line: &[u8]) -> Step {
-    if word_is(line, 0, b"cut") {
-        return cut(line);
-    }
-    if word_is(line, 0, b"stop") {
-        return stop(line);
-    }
-    if word_is(line, 0, b"restart") {
-        return restart(line);
-    }
-    if word_is(line, 0, b"show") {
-        return show(line);
-    }
-    Step::Bad(Reason::Word)
-}
-
+// By the line's first word.
 pub fn step_of(line: &[u8]) -> Step {
     if is_text(line) {
         return Step::Text;
     }
-    if word_is(line, 0, b"copies") {
-        return copies(line);
+    match which_word(
+        line,
+        0,
+        b"copies|copy|deliver|drop|repeat|cut|stop|restart|show",
+    ) {
+        0 => copies(line),
+        1 => at_copy(line),
+        2 | 3 | 4 => deliver(line),
+        5 => cut(line),
+        6 | 7 => stop(line),
+        8 => show(line),
+        _ => Step::Bad(Reason::Word),
     }
-    if word_is(line, 0, b"copy") {
-        return at_copy(line);
-    }
-    if word_is(line, 0, b"deliver") {
-        return deliver(line);
-    }
-    if word_is(line, 0, b"drop") {
-        return lose_or_repeat(line);
-    }
-    if word_is(line, 0, b"repeat") {
-        return lose_or_repeat(line);
-    }
-    other(line)
 }

@@ -8,7 +8,7 @@ ghost use mathlib.Core.Bool.{cond, not, _&&_};
 ghost use lib.Dec.{ltb, eqb};
 ghost use Prim.Native.Nat.{_+_, _^_, _≤_, _<_};
 ghost use Rattle.paper.specs.Vote.{member};
-ghost use Rattle.rules.specs.Sets.{others, absent, with};
+ghost use Rattle.rules.specs.Sets.{others, absent, with, lowest};
 
 fn pick(b: bool, x: u8) -> u8
     ensures { λ r. ⌜ (r ≡ cond b x 0) × (r ≤ x) ⌝ }
@@ -47,6 +47,20 @@ pub fn lowest_of(a: bool, b: bool, c: bool, d: bool, e: bool, f: bool, g: bool) 
         return 5;
     }
     if g { 6 } else { 7 }
+}
+
+// The lowest member of a set, 7 where there is none.
+pub fn lowest_in(m: u8) -> usize
+    ensures { λ r. ⌜ r ≡ lowest (λ q. member q m) ⌝ }
+{
+    let q0 = is_member(0, m);
+    let q1 = is_member(1, m);
+    let q2 = is_member(2, m);
+    let q3 = is_member(3, m);
+    let q4 = is_member(4, m);
+    let q5 = is_member(5, m);
+    let q6 = is_member(6, m);
+    lowest_of(q0, q1, q2, q3, q4, q5, q6)
 }
 
 // Copy q alone.

@@ -1,6 +1,7 @@
 // Writes parts of the picture, by their forms.
 use crate::picture::Picture;
 use forms::put_form;
+use text::bytes::front;
 use text::put::finish;
 use text::put::put_byte;
 use text::put::put_bytes;
@@ -16,19 +17,12 @@ pub fn draw(p: Picture, form: &[u8], v: [usize; 4], out: &mut [u8]) {
     finish(&mut *out, end);
 }
 
-// A text at a place.
-pub fn write(p: Picture, x: usize, y: usize, class: &[u8], words: &[u8], out: &mut [u8]) {
+// A text at a place; the form opens it.
+pub fn write(p: Picture, x: usize, y: usize, form: &[u8], words: &[u8], out: &mut [u8]) {
     if !p.writes {
         return;
     }
-    let start = put_form(
-        &mut *out,
-        0,
-        b"<text x=\"#\" y=\"#\" class=\"",
-        [wide(x), wide(y), 0, 0],
-    );
-    let named = put_bytes(&mut *out, start, class);
-    let open = put_bytes(&mut *out, named, b"\">");
+    let open = put_form(&mut *out, 0, form, [wide(x), wide(y), 0, 0]);
     let said = put_bytes(&mut *out, open, words);
     let end = put_bytes(&mut *out, said, b"</text>");
     finish(&mut *out, end);
@@ -42,10 +36,14 @@ fn instance(room: &mut [u8], o: usize, j: usize) -> usize {
 pub fn write_instance(p: Picture, x: usize, y: usize, o: usize, j: usize, out: &mut [u8]) {
     let mut room = [0u8; 48];
     let k = instance(&mut room, o, j);
-    if 48 < k {
-        return;
-    }
-    write(p, x, y, b"name", &room[..k], out);
+    write(
+        p,
+        x,
+        y,
+        b"<text x=\"#\" y=\"#\" class=\"name\">",
+        front(&room, k),
+        out,
+    );
 }
 
 // The same as one byte after the other; the picture's own text has none that SVG takes for its own.

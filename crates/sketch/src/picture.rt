@@ -15,12 +15,16 @@ const LEFT: usize = 70;
 
 const FAR: usize = 1000000;
 
+// The width of the legend.
+const KEY: usize = 460;
+
+// Before the first run: as wide and high as was measured, and never narrower than the legend.
 pub fn blank(writes: bool, wide: usize, high: usize) -> Picture {
     Picture {
         n: 0,
         x: LEFT,
         top: 0,
-        wide,
+        wide: larger(wide, KEY),
         high,
         writes,
     }

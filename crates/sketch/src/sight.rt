@@ -1,5 +1,6 @@
 // What a line of a played script says, as far as it is drawn.
 use forms::fits;
+use forms::which_form;
 use text::words::size;
 use text::words::word_is;
 ghost use Prim.Native.Nat.{_≤_};
@@ -33,65 +34,51 @@ pub fn head_end(line: &[u8]) -> usize
 
 fn of_message(head: &[u8]) -> Sight {
     let mut v = [0u64; 4];
-    if fits(head, b"  message # leaves # for #", &mut v) {
-        return Sight::Leaves {
+    match which_form(
+        head,
+        b"  message # leaves # for #\
+            |  message # arrives at #\
+            |  message # is lost on the way\
+            |  message # is lost",
+        &mut v,
+    ) {
+        0 => Sight::Leaves {
             id: size(v[0]),
             from: size(v[1]),
             to: size(v[2]),
-        };
-    }
-    if fits(head, b"  message # arrives at #", &mut v) {
-        return Sight::Arrives {
+        },
+        1 => Sight::Arrives {
             id: size(v[0]),
             to: size(v[1]),
-        };
+        },
+        2 | 3 => Sight::Lost(size(v[0])),
+        _ => Sight::Nothing,
     }
-    if fits(head, b"  message # is lost on the way", &mut v) {
-        return Sight::Lost(size(v[0]));
-    }
-    if fits(head, b"  message # is lost", &mut v) {
-        return Sight::Lost(size(v[0]));
-    }
-    Sight::Nothing
-}
-
-fn of_cut(head: &[u8]) -> Sight {
-    let mut v = [0u64; 4];
-    if fits(head, b"  copy # stops", &mut v) {
-        return Sight::Stops(size(v[0]));
-    }
-    if fits(head, b"  copy # is cut off before it saves #.#", &mut v) {
-        return Sight::Stops(size(v[0]));
-    }
-    if fits(head, b"  copy # is cut off before it sends", &mut v) {
-        return Sight::Stops(size(v[0]));
-    }
-    if fits(
-        head,
-        b"  copy # is cut off after # of # marks are saved",
-        &mut v,
-    ) {
-        return Sight::Stops(size(v[0]));
-    }
-    Sight::Nothing
 }
 
 fn of_copy(head: &[u8], is_commit: bool) -> Sight {
     let mut v = [0u64; 4];
-    if fits(head, b"  copy # hands out #.#", &mut v) {
-        return Sight::HandsOut {
+    match which_form(
+        head,
+        b"  copy # hands out #.#\
+            |  copy # saves #.#\
+            |  copy # goes on with what it saved\
+            |  copy # stops\
+            |  copy # is cut off before it saves #.#\
+            |  copy # is cut off before it sends\
+            |  copy # is cut off after # of # marks are saved",
+        &mut v,
+    ) {
+        0 => Sight::HandsOut {
             c: size(v[0]),
             o: size(v[1]),
             j: size(v[2]),
-        };
+        },
+        1 => saved(size(v[0]), size(v[1]), size(v[2]), is_commit),
+        2 => Sight::GoesOn(size(v[0])),
+        3 | 4 | 5 | 6 => Sight::Stops(size(v[0])),
+        _ => Sight::Nothing,
     }
-    if fits(head, b"  copy # goes on with what it saved", &mut v) {
-        return Sight::GoesOn(size(v[0]));
-    }
-    if fits(head, b"  copy # saves #.#", &mut v) {
-        return saved(size(v[0]), size(v[1]), size(v[2]), is_commit);
-    }
-    of_cut(head)
 }
 
 fn saved(c: usize, o: usize, j: usize, is_commit: bool) -> Sight {

@@ -2,11 +2,11 @@
 use mathlib.Core.Path.{_≡_, refl, sym, ap, _∙_}
 use mathlib.Core.Bool.{Bool, true, false, _&&_, _||_, not, cond}
 use mathlib.Core.List.{List, [], _∷_}
-use Prim.Native.Nat.{ℕ, zero, suc, _+_, _^_, _<_, _≤_}
+use Prim.Native.Nat.{ℕ, zero, suc, _+_, _<_}
 use native.Mathlib.Omega.{arith}
-use lib.ListN.{length, getD, replicate}
+use lib.ListN.{length, getD}
 use Rattle.nouns.proofs.Laws.{seven as all-seven}
-use Rattle.sets.proofs.Laws.{bits-are, lowest-is}
+use Rattle.sets.proofs.Laws.{bits-are}
 use Rattle.paper.specs.Logic.{allBelow}
 use Rattle.paper.specs.Deps.{join}
 use Rattle.paper.specs.Vote.{noVote}
@@ -14,9 +14,8 @@ use Rattle.paper.specs.declared.Vote.{Vote}
 use Rattle.paper.specs.declared.Record.{Record}
 use Rattle.paper.specs.declared.Message.{Message}
 use Rattle.rules.specs.declared.Step.{Step}
-use Rattle.rules.specs.Sets.{those, lowest}
+use Rattle.rules.specs.Sets.{those}
 use Rattle.rules.specs.Accepting.{joinAll}
-use Rattle.rules.specs.Recover.{nextBallot, preparing}
 
 -- a list of seven, written out
 seven : (vs : List Vote) (d : Vote) → length vs ≡ 7
@@ -43,19 +42,13 @@ pub step-is : {e f : Record} {to to' : ℕ} {m m' : Message} → e ≡ f → to 
     → _≡_ {A = Step} (record { entry = e; to = to; message = m }) (record { entry = f; to = to'; message = m' })
 step-is p q r = λ i. record { entry = p i; to = q i; message = r i }
 
--- the record of a copy that prepares, of its parts
-pub preparing-is : (c : ℕ) (r : Record) {b q at : ℕ} {v : Vote} → b ≡ nextBallot c (r .joined) → q ≡ 2 ^ c → v ≡ noVote → at ≡ c
-    → _≡_ {A = Record} (record { joined = b; vote = r .vote; mark = r .mark; phase = 1; set = q; replies = lib.ListN.set (replicate 7 v) at (r .vote) }) (preparing c r)
-preparing-is c r p q v a = λ i. record
-    { joined = p i; vote = r .vote; mark = r .mark; phase = 1; set = q i; replies = lib.ListN.set (replicate 7 (v i)) (a i) (r .vote) }
-
 -- a place below seven holds the same whatever stands for a missing one
 pub at-same : (vs : List Vote) (i : ℕ) (z : Vote) → i < length vs → getD vs i z ≡ getD vs i noVote
 at-same [] i z h = absurd (omega arith)
 at-same (v ∷ vs) zero z h = refl
 at-same (v ∷ vs) (suc i) z h = at-same vs i z (omega arith)
 
--- a test of each of seven votes: all of them, the set of those that pass, the lowest that passes
+-- a test of each of seven votes: all of them, and the set of those that pass
 module _ (t : ℕ → Vote → Bool) (vs : List Vote) (z : Vote) (l : length vs ≡ 7) {a b c d e f g : Bool} (p0 : a ≡ t 0 (getD vs 0 z))
     (p1 : b ≡ t 1 (getD vs 1 z)) (p2 : c ≡ t 2 (getD vs 2 z)) (p3 : d ≡ t 3 (getD vs 3 z)) (p4 : e ≡ t 4 (getD vs 4 z)) (p5 : f ≡ t 5 (getD vs 5 z))
     (p6 : g ≡ t 6 (getD vs 6 z)) where
@@ -71,9 +64,4 @@ module _ (t : ℕ → Vote → Bool) (vs : List Vote) (z : Vote) (l : length vs 
       → r ≡ those (λ q. t q (getD vs q noVote))
   bits-votes h =
       bits-are (λ q. t q (getD vs q noVote)) h (p0 ∙ told 0 (omega arith)) (p1 ∙ told 1 (omega arith)) (p2 ∙ told 2 (omega arith)) (p3 ∙ told 3 (omega arith))
-      (p4 ∙ told 4 (omega arith)) (p5 ∙ told 5 (omega arith)) (p6 ∙ told 6 (omega arith))
-
-  pub lowest-vote : {r : ℕ} → r ≡ cond a 0 (cond b 1 (cond c 2 (cond d 3 (cond e 4 (cond f 5 (cond g 6 7)))))) → r ≡ lowest (λ q. t q (getD vs q noVote))
-  lowest-vote h =
-      lowest-is (λ q. t q (getD vs q noVote)) h (p0 ∙ told 0 (omega arith)) (p1 ∙ told 1 (omega arith)) (p2 ∙ told 2 (omega arith)) (p3 ∙ told 3 (omega arith))
       (p4 ∙ told 4 (omega arith)) (p5 ∙ told 5 (omega arith)) (p6 ∙ told 6 (omega arith))

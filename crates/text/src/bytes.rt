@@ -1,6 +1,7 @@
-// Lent bytes: filled, and summed up in one number.
+// Lent bytes: filled, summed up in one number, and their first ones.
 use std::num::wrapping_add_u64;
 use std::num::wrapping_sub_u64;
+ghost use Prim.Native.Nat.{_≤_};
 
 pub fn fill(t: &mut [u8], b: u8) {
     let mut i = 0;
@@ -32,4 +33,21 @@ pub fn checksum(t: &[u8]) -> u64 {
         i += 1;
     }
     h
+}
+
+pub fn least(a: usize, b: usize) -> usize
+    ensures { λ r. ⌜ (r ≤ a) × (r ≤ b) ⌝ }
+{
+    if a < b { a } else { b }
+}
+
+// The first k bytes of a room, all of it where k is more.
+pub fn front(room: &[u8], k: usize) -> &[u8] {
+    let n = least(room.len(), k);
+    &room[..n]
+}
+
+pub fn front_mut(room: &mut [u8], k: usize) -> &mut [u8] {
+    let n = least(room.len(), k);
+    &mut room[..n]
 }

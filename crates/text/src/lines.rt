@@ -1,4 +1,5 @@
 // Reads standard input a part at a time and finds its lines. A line is at most as long as the part.
+use crate::bytes::least;
 use nouns::logic::either;
 ghost use Prim.Native.Nat.{_≤_};
 ghost use lib.ListN.{length};
@@ -24,12 +25,6 @@ pub fn before_first() -> Line {
         last: false,
         more: true,
     }
-}
-
-fn least(a: usize, b: usize) -> usize
-    ensures { λ r. ⌜ (r ≤ a) × (r ≤ b) ⌝ }
-{
-    if a < b { a } else { b }
 }
 
 // The end of the line that begins at a place of what is held.

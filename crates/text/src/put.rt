@@ -1,4 +1,6 @@
 // Puts text into a lent line. Each function gives the place after what it put; what has no place is dropped.
+use crate::bytes::front;
+
 pub fn put_byte(out: &mut [u8], at: usize, b: u8) -> usize {
     if at < out.len() {
         out[at] = b;
@@ -76,10 +78,7 @@ pub fn put_hex(out: &mut [u8], at: usize, bytes: &[u8]) -> usize {
 
 // The first k bytes of a room, in hex; all of it where k is more.
 pub fn put_front(out: &mut [u8], at: usize, room: &[u8], k: usize) -> usize {
-    if room.len() < k {
-        return put_hex(out, at, room);
-    }
-    put_hex(out, at, &room[..k])
+    put_hex(out, at, front(room, k))
 }
 
 fn send(out: &[u8], n: usize) {

@@ -1,4 +1,6 @@
 // Reads the words of a line: numbers, bytes in hex, names. A place at or past the line's end reads as a space.
+use nouns::logic::both;
+
 pub struct Value {
     pub value: u64,
     pub next: usize,
@@ -119,6 +121,21 @@ pub fn numbers(line: &[u8], at: usize, into: &mut [u64]) -> Taken {
     took(i, next)
 }
 
+// The rest of the line is as many numbers as the lent list has places.
+pub fn last_numbers(line: &[u8], at: usize, into: &mut [u64]) -> bool {
+    let got = numbers(line, at, into);
+    both(got.good, line.len() <= got.next)
+}
+
+// The rest of the line is one number.
+pub fn last_number(line: &[u8], at: usize) -> Value {
+    let got = number(line, at);
+    if got.next < line.len() {
+        return no_number();
+    }
+    got
+}
+
 // Where the word after this one begins.
 pub fn next_word(line: &[u8], at: usize) -> usize {
     let mut i = at;
@@ -204,6 +221,15 @@ pub fn hex(line: &[u8], at: usize, into: &mut [u8]) -> Taken {
     }
     let got = hex_digits(line, at, into);
     if got.count == 0 {
+        return nothing_taken();
+    }
+    got
+}
+
+// The rest of the line is bytes in hex.
+pub fn last_hex(line: &[u8], at: usize, into: &mut [u8]) -> Taken {
+    let got = hex(line, at, into);
+    if got.next < line.len() {
         return nothing_taken();
     }
     got

@@ -3,6 +3,8 @@ use Prim.Native.Nat.{ℕ}
 use mathlib.Core.List.{List}
 use lib.ListN.{length, getD}
 use Rattle.paper.specs.declared.Vote.{Vote}
+use Rattle.rules.specs.PrepareOk.{topVoter}
+use Rattle.sets.proofs.Laws.{lowest-those}
 use Rattle.decide.proofs.Laws.{afresh-none, afresh-past, afresh-told}
 use borrow.Author.Needs.{needs}
 use Rattle.decide.proofs.afresh_command.Statement.{statement}
@@ -17,8 +19,11 @@ no-op-requires c κs = search needs
 returns : tie.Need-returns
 returns c = c .no-op .ensures ∙ afresh-none _ (sym (c .before .before .voters .ensures) ∙ c .before .if1 .taken)
 
-lowest-top-voter-requires : tie.Need-lowest-top-voter-requires
-lowest-top-voter-requires c κs = search needs
+top-voters-requires : tie.Need-top-voters-requires
+top-voters-requires c κs = search needs
+
+lowest-in-requires : tie.Need-lowest-in-requires
+lowest-in-requires c κs = search needs
 
 replies-of-requires : tie.Need-replies-of-requires
 replies-of-requires c κs = search needs
@@ -27,8 +32,10 @@ no-op-requires-2 : tie.Need-no-op-requires-2
 no-op-requires-2 c κs = search needs
 
 returns-2 : tie.Need-returns-2
-returns-2 c = c .no-op2 .ensures
-    ∙ afresh-past _ (λ e. c .before .before .before .before .if1 .left (c .before .before .before .before .before .voters .ensures ∙ e)) (ap length (sym (c .before .before .replies-of .ensures .0)) ∙ c .before .before .replies-of .ensures .1) _ (c .before .before .before .lowest-top-voter .ensures) (c .before .if2 .taken)
+returns-2 c =
+    let e = lowest-those (topVoter (c .before .before .before .before .before .before .before .args .r)) (c .before .before .before .before .top-voters .ensures) (c .before .before .before .lowest-in .ensures) in
+    c .no-op2 .ensures
+    ∙ afresh-past _ (λ e. c .before .before .before .before .before .if1 .left (c .before .before .before .before .before .before .voters .ensures ∙ e)) (ap length (sym (c .before .before .replies-of .ensures .0)) ∙ c .before .before .replies-of .ensures .1) _ e (c .before .if2 .taken)
 
 mul-v : tie.Need-mul-v
 mul-v c = search needs
@@ -38,9 +45,10 @@ array-copy-out-v c = search needs
 
 returns-3 : tie.Need-returns-3
 returns-3 c =
-    let q = c .before .before .before .before .lowest-top-voter in
+    let q = c .before .before .before .before .lowest-in in
+    let e = lowest-those (topVoter (c .before .before .before .before .before .before .before .before .args .r)) (c .before .before .before .before .before .top-voters .ensures) (q .ensures) in
     ap (λ (l : List Vote). getD l (q .result) _ .command) (c .before .before .before .replies-of .ensures .0)
-    ∙ afresh-told _ (λ e. c .before .before .before .before .before .if1 .left (c .before .before .before .before .before .before .voters .ensures ∙ e)) (ap length (sym (c .before .before .before .replies-of .ensures .0)) ∙ c .before .before .before .replies-of .ensures .1) _ _ (q .ensures) (c .before .before .if2 .left)
+    ∙ afresh-told _ (λ e. c .before .before .before .before .before .before .if1 .left (c .before .before .before .before .before .before .before .voters .ensures ∙ e)) (ap length (sym (c .before .before .before .replies-of .ensures .0)) ∙ c .before .before .before .replies-of .ensures .1) _ _ e (c .before .before .if2 .left)
 
 pub afresh-command-spec : {M : Type 1} → statement M
 afresh-command-spec =
@@ -49,7 +57,8 @@ afresh-command-spec =
     voters-requires
     no-op-requires
     returns
-    lowest-top-voter-requires
+    top-voters-requires
+    lowest-in-requires
     replies-of-requires
     no-op-requires-2
     returns-2

@@ -1,3 +1,4 @@
+use mathlib.Core.Path.{_∙_}
 use Rattle.rules.specs.PrepareOk.{quorum}
 use borrow.Author.Needs.{needs}
 use Rattle.decide.proofs.has_quorum.Statement.{statement}
@@ -17,7 +18,7 @@ at-most-requires c κs = search needs
 
 returns : tie.Need-returns
 unfolding quorum
-returns c = cc
+returns c = c .at-most .ensures ∙ rw (c .before .count-of .ensures, c .before .before .faults-of .ensures)
 
 pub has-quorum-spec : {M : Type 1} → statement M
 has-quorum-spec =

@@ -1,3 +1,4 @@
+use mathlib.Core.Path.{_∙_}
 use Rattle.rules.specs.PrepareOk.{maybeFast}
 use borrow.Author.Needs.{needs}
 use Rattle.decide.proofs.maybe_fast.Statement.{statement}
@@ -35,7 +36,7 @@ both-requires-2 c κs = search needs
 
 returns : tie.Need-returns
 unfolding maybeFast
-returns c = cc
+returns c = c .both2 .ensures ∙ rw (c .before .at-most .ensures, c .before .before .count-of .ensures, c .before .before .before .same-voters .ensures, c .before .before .before .before .faults-of .ensures, c .before .before .before .before .before .both .ensures, c .before .before .before .before .before .before .is-member .ensures, c .before .before .before .before .before .before .before .equal .ensures, c .before .before .before .before .before .before .before .before .wide32 .ensures, c .before .before .before .before .before .before .before .before .before .top-voted .ensures)
 
 pub maybe-fast-spec : {M : Type 1} → statement M
 maybe-fast-spec =

@@ -1,3 +1,4 @@
+use mathlib.Core.Path.{_∙_}
 use borrow.Author.Needs.{needs}
 use Rattle.decide.proofs.votes_at.Statement.{statement}
 use Rattle.decide.proofs.votes_at.Tie as tie
@@ -18,7 +19,7 @@ both-requires : tie.Need-both-requires
 both-requires c κs = search needs
 
 returns : tie.Need-returns
-returns c = cc
+returns c = c .both .ensures ∙ rw (c .before .equal .ensures, c .before .before .wide322 .ensures, c .before .before .before .wide32 .ensures, c .before .before .before .before .votes .ensures)
 
 pub votes-at-spec : {M : Type 1} → statement M
 votes-at-spec =

@@ -1,3 +1,4 @@
+use mathlib.Core.Path.{_∙_}
 use borrow.Author.Needs.{needs}
 use Rattle.decide.proofs.votes_same.Statement.{statement}
 use Rattle.decide.proofs.votes_same.Tie as tie
@@ -15,7 +16,7 @@ both-requires : tie.Need-both-requires
 both-requires c κs = search needs
 
 returns : tie.Need-returns
-returns c = cc
+returns c = c .both .ensures ∙ rw (c .before .equal .ensures, c .before .before .wide8 .ensures, c .before .before .before .votes .ensures)
 
 pub votes-same-spec : {M : Type 1} → statement M
 votes-same-spec =

@@ -4,6 +4,7 @@ use mathlib.Core.Path.{_≡_}
 use lib.ListN.{length}
 use Rattle.course.proofs.ask.save_marks.Statement.{statement}
 use Rattle.course.proofs.ask.save_marks.Tie as tie
+use Rattle.course.proofs.ask.hand_one.Reads as hand-one-reads
 
 abbrev Inv-loop : tie.InvT-loop
 Inv-loop all₀ w c list count out₀ i₀ all out i = (length all ≡ length all₀) × (length out ≡ length out₀)
@@ -41,6 +42,15 @@ same-length-2 c = search needs
 returns : tie.Need-returns Inv-loop μ-loop
 returns c = search needs
 
+same-length-3 : tie.Need-same-length-3 Inv-loop μ-loop
+same-length-3 c = search needs
+
+same-length-4 : tie.Need-same-length-4 Inv-loop μ-loop
+same-length-4 c = search needs
+
+returns-2 : tie.Need-returns-2 Inv-loop μ-loop
+returns-2 c = search needs
+
 pub save-marks-spec : {M : Type 1} → statement M
 save-marks-spec =
     tie.close
@@ -56,4 +66,7 @@ save-marks-spec =
     loop-again
     same-length
     same-length-2
-    returns)
+    returns
+    same-length-3
+    same-length-4
+    returns-2)

@@ -1,20 +1,15 @@
-use borrow.Author.Needs.{needs}
 use native.Mathlib.Omega.{arith}
 use mathlib.Core.Path.{sym}
-use lib.ListN.{length}
 use lib.Seq.{length-take-le}
 use borrow.Author.Needs.{needs}
 use Rattle.runs.proofs.asked.hand_out.Statement.{statement}
 use Rattle.runs.proofs.asked.hand_out.Tie as tie
 
-number-requires : tie.Need-number-requires
-number-requires c κs = search needs
+last-number-requires : tie.Need-last-number-requires
+last-number-requires c κs = search needs
 
 size-requires : tie.Need-size-requires
 size-requires c κs = search needs
-
-both-requires : tie.Need-both-requires
-both-requires c κs = search needs
 
 bad-line-requires : tie.Need-bad-line-requires
 bad-line-requires c κs = search needs
@@ -56,9 +51,8 @@ pub hand-out-spec : {M : Type 1} → statement M
 hand-out-spec =
     tie.close
     (tie.spec
-    number-requires
+    last-number-requires
     size-requires
-    both-requires
     bad-line-requires
     same-length
     returns

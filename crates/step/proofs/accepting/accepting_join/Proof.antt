@@ -1,3 +1,4 @@
+use mathlib.Core.Path.{_∙_}
 use Rattle.rules.specs.Accepting.{acceptingJoin}
 use borrow.Author.Needs.{needs}
 use Rattle.step.proofs.accepting.accepting_join.Statement.{statement}
@@ -11,7 +12,7 @@ accepting-with-requires c κs = search needs
 
 returns : tie.Need-returns
 unfolding acceptingJoin
-returns c = cc
+returns c = c .accepting-with .ensures ∙ rw (c .before .join-all .ensures)
 
 pub accepting-join-spec : {M : Type 1} → statement M
 accepting-join-spec = tie.close (tie.spec join-all-requires accepting-with-requires returns)

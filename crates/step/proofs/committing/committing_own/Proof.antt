@@ -1,3 +1,6 @@
+use mathlib.Core.Path.{ap, _∙_}
+use Rattle.rules.specs.Sets.{others}
+use Rattle.step.proofs.Laws.{step-is}
 use Rattle.rules.specs.Committing.{committing}
 use borrow.Author.Needs.{needs}
 use Rattle.step.proofs.committing.committing_own.Statement.{statement}
@@ -17,7 +20,8 @@ others-of-requires c κs = search needs
 
 returns : tie.Need-returns
 unfolding committing
-returns c = cc
+returns c =
+    step-is (c .before .before .before .committed-with .ensures) (c .others-of .ensures ∙ ap (others _) (c .before .wide8 .ensures)) (c .before .before .said .ensures)
 
 pub committing-own-spec : {M : Type 1} → statement M
 committing-own-spec =

@@ -17,7 +17,7 @@ with-of-requires c κs = search needs
 
 returns : tie.Need-returns
 unfolding collect
-returns c = cc
+returns c = rw (c .with-of .ensures, c .before .before .wide8 .ensures)
 
 pub collected-spec : {M : Type 1} → statement M
 collected-spec =

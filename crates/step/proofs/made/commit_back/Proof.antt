@@ -1,3 +1,5 @@
+use mathlib.Core.Path.{refl}
+use Rattle.step.proofs.Laws.{step-is}
 use Rattle.rules.specs.Step.{commitBack}
 use borrow.Author.Needs.{needs}
 use Rattle.step.proofs.made.commit_back.Statement.{statement}
@@ -11,7 +13,7 @@ only-of-requires c κs = search needs
 
 returns : tie.Need-returns
 unfolding commitBack
-returns c = cc
+returns c = step-is refl (c .only-of .ensures .0) (c .before .said .ensures)
 
 pub commit-back-spec : {M : Type 1} → statement M
 commit-back-spec = tie.close (tie.spec said-requires only-of-requires returns)

@@ -1,3 +1,4 @@
+use mathlib.Core.Path.{_∙_}
 use Rattle.rules.specs.Step.{awaited}
 use borrow.Author.Needs.{needs}
 use Rattle.step.proofs.made.is_awaited.Statement.{statement}
@@ -32,7 +33,7 @@ both-requires-2 c κs = search needs
 
 returns : tie.Need-returns
 unfolding awaited
-returns c = cc
+returns c = c .both2 .ensures ∙ rw (c .before .is-member .ensures, c .before .before .wide82 .ensures, c .before .before .before .both .ensures, c .before .before .before .before .equal2 .ensures, c .before .before .before .before .before .wide322 .ensures, c .before .before .before .before .before .before .wide32 .ensures, c .before .before .before .before .before .before .before .equal .ensures, c .before .before .before .before .before .before .before .before .wide8 .ensures)
 
 pub is-awaited-spec : {M : Type 1} → statement M
 is-awaited-spec =

@@ -1,3 +1,4 @@
+use mathlib.Core.Path.{_∙_}
 use borrow.Author.Needs.{needs}
 use Rattle.step.proofs.made.is_committed.Statement.{statement}
 use Rattle.step.proofs.made.is_committed.Tie as tie
@@ -9,7 +10,7 @@ equal-requires : tie.Need-equal-requires
 equal-requires c κs = search needs
 
 returns : tie.Need-returns
-returns c = cc
+returns c = c .equal .ensures ∙ rw (c .before .wide8 .ensures)
 
 pub is-committed-spec : {M : Type 1} → statement M
 is-committed-spec = tie.close (tie.spec wide8-requires equal-requires returns)

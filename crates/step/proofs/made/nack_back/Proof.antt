@@ -1,3 +1,5 @@
+use mathlib.Core.Path.{refl, _∙_}
+use Rattle.step.proofs.Laws.{step-is}
 use Rattle.rules.specs.Step.{nackBack}
 use borrow.Author.Needs.{needs}
 use Rattle.step.proofs.made.nack_back.Statement.{statement}
@@ -14,7 +16,7 @@ only-of-requires c κs = search needs
 
 returns : tie.Need-returns
 unfolding nackBack
-returns c = cc
+returns c = step-is refl (c .only-of .ensures .0) (c .before .said .ensures ∙ rw (c .before .before .no-deps .ensures))
 
 pub nack-back-spec : {M : Type 1} → statement M
 nack-back-spec = tie.close (tie.spec no-deps-requires said-requires only-of-requires returns)
