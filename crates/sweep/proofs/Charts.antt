@@ -14,7 +14,7 @@ use Rattle.rows.specs.Rows.{slotOf, rowOf}
 use Rattle.sweep.specs.Sweeping.{Sized, Row, Charted, Charting, marksOf, Sweeping, Found, Closed, Wrote, Closing, Reaching}
 
 -- nothing is marked yet
-pub rows-blank : (n s : ℕ) (t g h : List ℕ) → Charting n s t g h → Sweeping n s t g
+pub rows-blank : (n s : ℕ) (t g h : List ℕ) → Charting n s t g h → Sweeping n s t g h
 rows-blank n s t g h c = record {
   sized = c .sized;
   rows = record {
@@ -22,6 +22,7 @@ rows-blank n s t g h c = record {
     few = λ q i iq o l. rw (c .blank (slotOf q i) o) (omega arith);
     from = λ q i iq o x io l. absurd (omega (arith, c .blank (slotOf q i) o, io .first));
   };
+  long = c .long;
 }
 
 -- the places below z are closed

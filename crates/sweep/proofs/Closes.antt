@@ -24,7 +24,7 @@ use Rattle.rows.specs.Rows.{slotOf, rowOf, putRow, Within}
 use Rattle.rows.proofs.Laws.{row-seven, row-fits, put-long, put-own, put-other}
 use Rattle.sweep.specs.Sweeping.{Sized, Taking, beyondIn, marksOf, Found, Opened, Closed, Wrote, Closing}
 use Rattle.sweep.proofs.Joins.{past}
-use Rattle.sweep.proofs.Named.{deps-fits, deps-are, beyond-seven, beyond-few, beyond-old, beyond-held, beyond-comers, beyond-fits}
+use Rattle.sweep.proofs.Named.{wrote-same, wrote-on, deps-fits, deps-are, beyond-seven, beyond-few, beyond-old, beyond-held, beyond-comers}
 
 -- a sum of marks
 unfoldable pub sum : ℕ → (ℕ → ℕ) → ℕ
@@ -96,14 +96,14 @@ module _ (n s : ℕ) (t g h₀ : List ℕ) (p k : ℕ) (a : Closing n s t g h₀
   close-place h l = record { long = l; place = omega (arith, a .inst .owner, a .inst .first, a .inst .last, a .sized .copies, a .sized .numbers) }
 
   pub turn-first : Opened n s (recordsIn s t) p k (rowOf h₀ x) → Turn n s t g h₀ p k true h₀
-  turn-first o = record { opened = o; wrote = record { long = a .long; others = λ y l d. refl }; named = λ e. clash (cc) }
+  turn-first o = record { opened = o; wrote = wrote-same h₀ x (a .long); named = λ e. clash (cc) }
 
   module _ (h : List ℕ) (v : Turn n s t g h₀ p k true h) where
     abbrev row : List ℕ
     row = rowOf h x
 
     abbrev more : List ℕ
-    more = beyondIn 7 n g row
+    more = beyondIn n n g row
 
     pub turn-taking : Taking n s g row
     turn-taking = record {
@@ -121,12 +121,14 @@ module _ (n s : ℕ) (t g h₀ : List ℕ) (p k : ℕ) (a : Closing n s t g h₀
     seven : length more ≡ 7
     seven = beyond-seven n s g row turn-taking
 
-    module _ (bg : (i : ℕ) → getD g i 0 < 256) (bh : (i : ℕ) → getD h i 0 < 256) where
-      fits : DepsFit more
-      fits = beyond-fits n g row bg (row-fits h x bh) 7
+    -- the row took in what it names
+    module _ {y : ℕ} {r m h₁ : List ℕ} {b : Bool} (ey : y ≡ x) (er : r ≡ rowOf h y) (eh : rowOf h₁ y ≡ beyondIn n n g (rowOf h y)) (em : m ≡ rowOf h₁ y) (eb : b ≡ sameDeps m r) (w : Wrote h h₁ y)
+        (fits : (i : ℕ) → getD h₁ i 0 < 256) where
+      own : rowOf h₁ x ≡ more
+      own = rw ey at eh
 
-      own : rowOf (putRow h x more) x ≡ more
-      own = put-own h x more (close-place h (v .wrote .long)) fits
+      same : b ≡ sameDeps more row
+      same = rw (eb, em, er, eh, ey)
 
       opened : Opened n s (recordsIn s t) p k more
       opened = record {
@@ -135,42 +137,24 @@ module _ (n s : ℕ) (t g h₀ : List ℕ) (p k : ℕ) (a : Closing n s t g h₀
         comers = beyond-comers n s g row turn-taking (recordsIn s t) p k (a .inst) (a .found .rows .from) (v .opened .comers);
       }
 
-      turn-next : {changed : Bool} → changed ≡ not (sameDeps more row) → Turn n s t g h₀ p k changed (putRow h x more)
-      turn-next {changed = changed} e = record {
-        opened = rw own opened;
-        wrote = record {
-          long = put-long h x more (close-place h (v .wrote .long));
-          others = λ y l d. put-other h x more (close-place h (v .wrote .long)) y l d ∙ v .wrote .others y l d;
-        };
-        named = λ f. rw own (held (sameDeps more row) refl (sym e ∙ f));
-      }
+      held : (c : Bool) → sameDeps more row ≡ c → not c ≡ false → (q : ℕ) → q < n → 1 ≤ getD more q 0 → (o : ℕ) → marksOf g q (getD more q 0) o ≤ getD more o 0
+      held true c d q l f o =
+          let z : (i : ℕ) → getD more i 0 ≡ getD row i 0 = λ i. same-at row more (row-seven h x) seven old c i in
+          same-mark q o (getD row q 0) (getD more q 0) (getD more o 0) (sym (z q)) (omega (arith, beyond-held n s g row turn-taking z q l (omega (arith, z q)) o, z o))
         where
-          held : (b : Bool) → sameDeps more row ≡ b → not (sameDeps more row) ≡ false → (q : ℕ) → q < n → 1 ≤ getD more q 0 → (o : ℕ) → marksOf g q (getD more q 0) o ≤ getD more o 0
-          held true c d q l w o =
-              let z : (i : ℕ) → getD more i 0 ≡ getD row i 0 = λ i. same-at row more (row-seven h x) seven old c i in
-              same-mark q o (getD row q 0) (getD more q 0) (getD more o 0) (sym (z q)) (omega (arith, beyond-held n s g row turn-taking z q l (omega (arith, z q)) o, z o))
-            where
-              same-mark : (q o a b m : ℕ) → a ≡ b → marksOf g q a o ≤ m → marksOf g q b o ≤ m
-              same-mark q o a b m e l = rw e at l
-          held false c d q l w o = clash (cc)
+          same-mark : (q o a b m : ℕ) → a ≡ b → marksOf g q a o ≤ m → marksOf g q b o ≤ m
+          same-mark q o a b m e l = rw e at l
+      held false c d q l f o = clash (cc)
 
-      turn-falls : {changed : Bool} → changed ≡ not (sameDeps more row) → left (rowOf (putRow h x more) x) changed < left row true
-      turn-falls e = rw (own, e) (left-falls row more (row-seven h x) seven old fits (sameDeps more row) refl)
+      pub turn-on : Turn n s t g h₀ p k (not b) h₁
+      turn-on = record {
+        opened = rw own opened;
+        wrote = wrote-on h₀ h h₁ x (v .wrote) (rw ey at w);
+        named = λ f. rw own (held b (sym same) f);
+      }
 
-  -- as it was read and written
-  module _ (h : List ℕ) (v : Turn n s t g h₀ p k true h) (bg : (i : ℕ) → getD g i 0 < 256) (bh : (i : ℕ) → getD h i 0 < 256) {y : ℕ} {r m h₁ : List ℕ} {b : Bool} (ey : y ≡ x) (er : r ≡ rowOf h y)
-      (em : m ≡ beyondIn 7 n g r) (eb : b ≡ sameDeps m r) (eh : h₁ ≡ putRow h y m) where
-    same : not b ≡ not (sameDeps (more h v) (row h v))
-    same = rw (eb, em, er, ey)
-
-    wrote : h₁ ≡ putRow h x (more h v)
-    wrote = rw (eh, em, er, ey)
-
-    pub turn-on : Turn n s t g h₀ p k (not b) h₁
-    turn-on = rw wrote (turn-next h v bg bh same)
-
-    pub turn-less : left (rowOf h₁ x) (not b) < left (rowOf h x) true
-    turn-less = rw wrote (turn-falls h v bg bh same)
+      pub turn-less : left (rowOf h₁ x) (not b) < left (rowOf h x) true
+      turn-less = rw own (left-falls row more (row-seven h x) seven old (rw own at (row-fits h₁ x fits)) b (sym same))
 
   pub turn-last : (h : List ℕ) → Turn n s t g h₀ p k false h → Closed n s (recordsIn s t) g p k (rowOf h x)
   turn-last h v = record { opened = v .opened; named = v .named refl }
@@ -195,6 +179,3 @@ module _ (n s : ℕ) (t g h₀ : List ℕ) (p k : ℕ) (a : Closing n s t g h₀
 
   pub close-next : (h₁ : List ℕ) → Wrote h₀ h₁ x → Closing n s t g h₁ p k
   close-next h₁ w = record { sized = a .sized; found = a .found; long = w .long; inst = a .inst }
-
-pub wrote-on : (h h₁ h₂ : List ℕ) (x : ℕ) → Wrote h h₁ x → Wrote h₁ h₂ x → Wrote h h₂ x
-wrote-on h h₁ h₂ x a b = record { long = b .long; others = λ y l d. b .others y l d ∙ a .others y l d }

@@ -15,13 +15,27 @@ use Rattle.table.specs.Place.{placeOf, partAt}
 use Rattle.table.proofs.Round.{part-bytes}
 use Rattle.rules.specs.Seen.{Records}
 use Rattle.seen.specs.Records.{recordsIn}
-use Rattle.rows.specs.Rows.{slotOf, rowOf, markIn}
-use Rattle.rows.proofs.Laws.{row-seven, deps-fit, row-fits}
+use Rattle.rows.specs.Rows.{slotOf, rowOf, putRow, Within}
+use Rattle.rows.proofs.Laws.{row-seven, deps-fit, row-fits, put-long, put-own, put-other}
 use Rattle.reach.specs.High.{Inst, Comes, From}
-use Rattle.reach.proofs.Tests.{and-l, and-r, and-in, leb-le, leb-in, ltb-lt, ltb-in, tf}
+use Rattle.reach.proofs.Tests.{and-l, and-r, and-in, leb-le, leb-in, ltb-lt, ltb-in, not-true}
 use Rattle.reach.proofs.Beginnings.{Comers, comers-named}
-use Rattle.sweep.specs.Sweeping.{Naming, Taking, withNamed, beyondIn, beforeIn, marksOf}
+use Rattle.sweep.specs.Sweeping.{Naming, Taking, Wrote, withNamed, beyondIn, beforeIn, marksOf}
 use Rattle.sweep.proofs.Joins.{join-seven, join-at, join-fits}
+
+-- one row is written
+pub wrote-same : (h : List ℕ) (x : ℕ) → length h ≡ 6272 → Wrote h h x
+wrote-same h x l = record { long = l; others = λ y a d. refl }
+
+pub wrote-on : (h h₁ h₂ : List ℕ) (x : ℕ) → Wrote h h₁ x → Wrote h₁ h₂ x → Wrote h h₂ x
+wrote-on h h₁ h₂ x a b = record { long = b .long; others = λ y l d. b .others y l d ∙ a .others y l d }
+
+pub take-made : (g h : List ℕ) (y x : ℕ) {a b r h₁ : List ℕ} → Within h x → ((i : ℕ) → getD g i 0 < 256) → ((i : ℕ) → getD h i 0 < 256) → a ≡ rowOf h x → b ≡ rowOf g y → r ≡ join a b
+    → h₁ ≡ putRow h x r → (rowOf h₁ x ≡ join (rowOf h x) (rowOf g y)) × Wrote h h₁ x
+take-made g h y x {r = r} w bg bh ea eb er eh =
+    let e : r ≡ join (rowOf h x) (rowOf g y) = er ∙ rw (ea, eb) in
+    let f = rw (← e) at (join-fits (rowOf h x) (rowOf g y) (row-fits h x bh) (row-fits g y bg)) in
+    rw eh (put-own h x r w f ∙ e, record { long = put-long h x r w; others = λ z l d. put-other h x r w z l d })
 
 -- entries of a table
 pub deps-seven : (s : ℕ) (t : List ℕ) (o j : ℕ) → length (recordsIn s t o j .vote .deps) ≡ 7
@@ -40,23 +54,20 @@ named-in : (n : ℕ) (g : List ℕ) (q entry : ℕ) (row : List ℕ) → (ltb q 
 unfolding withNamed
 named-in n g q entry row e = rw e
 
-pub named-out : (n : ℕ) (g : List ℕ) (q entry : ℕ) (row : List ℕ) → (ltb q n && leb 1 entry) ≡ false → row ≡ withNamed n g q entry row
+named-out : (n : ℕ) (g : List ℕ) (q entry : ℕ) (row : List ℕ) → (ltb q n && leb 1 entry) ≡ false → row ≡ withNamed n g q entry row
 unfolding withNamed
 named-out n g q entry row e = rw e
 
 -- as it was tested and read
 module _ (n : ℕ) (g : List ℕ) (q entry : ℕ) where
-  pub named-test : {a b v : Bool} {e : ℕ} → a ≡ ltb q n → e ≡ entry → b ≡ leb 1 e → v ≡ (a && b) → v ≡ (ltb q n && leb 1 entry)
-  named-test ra re rb rv = rv ∙ rw (ra, rb, re)
+  pub named-place : Naming n g q entry → {e : ℕ} → e ≡ entry → 1 ≤ e → (q < 7) × (1 ≤ e) × (e ≤ 64)
+  named-place a re le = (omega (arith, a .copies, a .owner), le, omega (arith, a .last))
 
-  pub named-place : Naming n g q entry → (ltb q n && leb 1 entry) ≡ true → {e : ℕ} → e ≡ entry → (q < 7) × (1 ≤ e) × (e ≤ 64)
-  named-place a t re =
-      let lq = ltb-lt q n (and-l (ltb q n) (leb 1 entry) t) in
-      let le = leb-le 1 entry (and-r (ltb q n) (leb 1 entry) t) in
-      (omega (arith, a .copies), omega arith, omega (arith, a .last lq))
+  pub named-none : (row : List ℕ) → {e : ℕ} → e ≡ entry → e ≡ 0 → row ≡ withNamed n g q entry row
+  named-none row re z = named-out n g q entry row (not-true _ (λ t. absurd (omega (arith, leb-le 1 entry (and-r (ltb q n) (leb 1 entry) t)))))
 
-  pub named-taken : (row : List ℕ) → (ltb q n && leb 1 entry) ≡ true → {e x : ℕ} {v r : List ℕ} → e ≡ entry → x ≡ slotOf q e → v ≡ rowOf g x → r ≡ join row v → r ≡ withNamed n g q entry row
-  named-taken row t re rx rv rr = rr ∙ rw (rv, rx, re) (named-in n g q entry row t)
+  pub named-taken : (row : List ℕ) → q < n → {e x : ℕ} {r : List ℕ} → e ≡ entry → 1 ≤ e → x ≡ slotOf q e → r ≡ join row (rowOf g x) → r ≡ withNamed n g q entry row
+  named-taken row lq re le rx rr = rr ∙ rw (rx, re) (named-in n g q entry row (and-in _ _ (ltb-in q n lq) (leb-in 1 entry (omega arith))))
 
   by : (P : List ℕ → Type 0) (row : List ℕ) → (q < n → 1 ≤ entry → P (join row (rowOf g (slotOf q entry)))) → P row → P (withNamed n g q entry row)
   by P row f h = go (ltb q n && leb 1 entry) refl
@@ -96,15 +107,15 @@ module _ (n s : ℕ) (g row : List ℕ) (a : Taking n s g row) where
           })
           u
 
-  pub beyond-seven : length (beyondIn 7 n g row) ≡ 7
-  beyond-seven = upto 7 .seven
+  pub beyond-seven : length (beyondIn n n g row) ≡ 7
+  beyond-seven = upto n .seven
 
-  pub beyond-few : (o : ℕ) → o < n → getD (beyondIn 7 n g row) o 0 ≤ s
-  beyond-few = upto 7 .few
+  pub beyond-few : (o : ℕ) → o < n → getD (beyondIn n n g row) o 0 ≤ s
+  beyond-few = upto n .few
 
   -- the entry that is read next
-  pub beyond-named : (k : ℕ) {r : List ℕ} → r ≡ beyondIn k n g row → Naming n g k (getD r k 0)
-  beyond-named k e = record { copies = a .copies; long = a .long; last = λ l. rw e (omega (arith, upto k .few k l, a .numbers)) }
+  pub beyond-named : (k : ℕ) {r : List ℕ} → k < n → r ≡ beyondIn k n g row → Naming n g k (getD r k 0)
+  beyond-named k l e = record { copies = a .copies; long = a .long; owner = l; last = rw e (omega (arith, upto k .few k l, a .numbers)) }
 
   rises : (k e o : ℕ) → getD (beyondIn k n g row) o 0 ≤ getD (beyondIn (k + e) n g row) o 0
   unfolding beyondIn
@@ -116,22 +127,21 @@ module _ (n s : ℕ) (g row : List ℕ) (a : Taking n s g row) where
   rise : (k m o : ℕ) → k ≤ m → getD (beyondIn k n g row) o 0 ≤ getD (beyondIn m n g row) o 0
   rise k m o l = let z : k + (m - k) ≡ m = omega arith in rw z at (rises k (m - k) o)
 
-  pub beyond-old : (o : ℕ) → getD row o 0 ≤ getD (beyondIn 7 n g row) o 0
+  pub beyond-old : (o : ℕ) → getD row o 0 ≤ getD (beyondIn n n g row) o 0
   unfolding beyondIn
-  beyond-old o = rise 0 7 o (omega arith)
+  beyond-old o = rise 0 n o (omega arith)
 
   same-mark : (q o a b m : ℕ) → a ≡ b → marksOf g q a o ≤ m → marksOf g q b o ≤ m
   same-mark q o a b m e l = rw e at l
 
   -- where nothing changes, what is named is held
-  pub beyond-held : ((i : ℕ) → getD (beyondIn 7 n g row) i 0 ≡ getD row i 0) → (q : ℕ) → q < n → 1 ≤ getD row q 0 → (o : ℕ) → marksOf g q (getD row q 0) o ≤ getD row o 0
+  pub beyond-held : ((i : ℕ) → getD (beyondIn n n g row) i 0 ≡ getD row i 0) → (q : ℕ) → q < n → 1 ≤ getD row q 0 → (o : ℕ) → marksOf g q (getD row q 0) o ≤ getD row o 0
   unfolding beyondIn
   beyond-held e q l f o =
-      let lq : q < 7 = omega (arith, a .copies) in
-      let w : getD (beyondIn q n g row) q 0 ≡ getD row q 0 = omega (arith, rise 0 q q (omega arith), rise q 7 q (omega arith), e q) in
+      let w : getD (beyondIn q n g row) q 0 ≡ getD row q 0 = omega (arith, rise 0 q q (omega arith), rise q n q (omega arith), e q) in
       let v : marksOf g q (getD (beyondIn q n g row) q 0) o ≤ getD (beyondIn (suc q) n g row) o 0 = with-new n g q (getD (beyondIn q n g row) q 0) (beyondIn q n g row) (upto q .seven) l (omega arith) o in
       let x = same-mark q o (getD (beyondIn q n g row) q 0) (getD row q 0) (getD (beyondIn (suc q) n g row) o 0) w v in
-      omega (arith, rise (suc q) 7 o (omega arith), e o)
+      omega (arith, rise (suc q) n o (omega arith), e o)
 
   -- all that is marked comes from where the row's marks come from
   module _ (u : Records) (p k : ℕ) (ip : Inst n s p k) (from : From n s u (marksOf g)) where
@@ -149,25 +159,20 @@ module _ (n s : ℕ) (g row : List ℕ) (a : Taking n s g row) where
             (join-at r (rowOf g (slotOf m (getD r m 0))) (v .seven) (row-seven g (slotOf m (getD r m 0))) o .one))
             c
 
-    pub beyond-comers : Comers n s u p k ip (λ o. getD row o 0) → Comers n s u p k ip (λ o. getD (beyondIn 7 n g row) o 0)
-    beyond-comers = comers-upto 7
-
-pub beyond-fits : (n : ℕ) (g row : List ℕ) → ((i : ℕ) → getD g i 0 < 256) → DepsFit row → (k : ℕ) → DepsFit (beyondIn k n g row)
-unfolding beyondIn
-beyond-fits n g row b f zero = f
-beyond-fits n g row b f (suc k) =
-    let r = beyondIn k n g row in
-    let v = beyond-fits n g row b f k in
-    by n g k (getD r k 0) DepsFit r (λ l e. join-fits r (rowOf g (slotOf k (getD r k 0))) v (row-fits g (slotOf k (getD r k 0)) b)) v
+    pub beyond-comers : Comers n s u p k ip (λ o. getD row o 0) → Comers n s u p k ip (λ o. getD (beyondIn n n g row) o 0)
+    beyond-comers = comers-upto n
 
 -- one owner after the other
 pub beyond-first : (n : ℕ) (g row : List ℕ) → row ≡ beyondIn 0 n g row
 unfolding beyondIn
 beyond-first n g row = refl
 
-pub beyond-next : (n : ℕ) (g row : List ℕ) (k : ℕ) {r v : List ℕ} → r ≡ beyondIn k n g row → v ≡ withNamed n g k (getD r k 0) r → v ≡ beyondIn (suc k) n g row
+pub beyond-next : (n : ℕ) (g row : List ℕ) (k : ℕ) {r v : List ℕ} → r ≡ beyondIn k n g row → v ≡ withNamed n g k (getD r k 0) r → v ≡ beyondIn (k + 1) n g row
 unfolding beyondIn
-beyond-next n g row k er ev = ev ∙ rw er
+beyond-next n g row k er ev = let z : k + 1 ≡ suc k = omega arith in rw z (ev ∙ rw er)
+
+pub beyond-last : (n : ℕ) (g row : List ℕ) (k : ℕ) {r : List ℕ} → r ≡ beyondIn k n g row → n ≤ k → k ≤ n → r ≡ beyondIn n n g row
+beyond-last n g row k e a b = let z : k ≡ n = omega arith in rw z at e
 
 -- the beginning before: none, or one shorter by its last instance
 pub before-first : (g : List ℕ) (o j : ℕ) → j ≤ 1 → noDeps ≡ beforeIn g o j

@@ -9,6 +9,8 @@ use native.Mathlib.Decide.{ℕ-discrete, decLt}
 use lib.ListN.{length, getD, getD-replicate}
 use Rattle.paper.specs.Deps.{noDeps, join}
 use Rattle.codec.proofs.Laws.{DepsFit}
+use Rattle.record.specs.Layout.{recordAt}
+use Rattle.table.specs.Place.{placeOf, partAt}
 use Rattle.rules.specs.Seen.{Records}
 use Rattle.seen.specs.Records.{recordsIn}
 use Rattle.reach.specs.High.{Inst, entryOf, Comes, From, Holds}
@@ -17,7 +19,7 @@ use Rattle.rows.specs.Rows.{slotOf, rowOf, putRow, Within}
 use Rattle.rows.proofs.Laws.{row-seven, row-fits, put-long, put-own, put-other}
 use Rattle.sweep.specs.Sweeping.{Sized, Taking, beyondIn, beforeIn, marksOf, Rows, Kept, Raised}
 use Rattle.sweep.proofs.Joins.{Larger, past, join-seven, join-at, join-fits}
-use Rattle.sweep.proofs.Named.{deps-seven, deps-fits, beyond-seven, beyond-few, beyond-old, beyond-comers, beyond-fits, before-first, before-later}
+use Rattle.sweep.proofs.Named.{deps-seven, deps-fits, deps-are, beyond-seven, beyond-few, beyond-old, beyond-comers, before-first, before-later}
 
 zeros-at : (i : ℕ) → getD noDeps i 0 ≡ 0
 zeros-at i = go (decLt i 7)
@@ -28,6 +30,13 @@ zeros-at i = go (decLt i 7)
 
 zeros : DepsFit noDeps
 zeros = record { seven = refl; each = λ i. rw (zeros-at i) (omega arith) }
+
+-- a row is written and read back
+pub put-first : (h : List ℕ) (x : ℕ) (d : List ℕ) {h₁ : List ℕ} → Within h x → DepsFit d → h₁ ≡ putRow h x d → (rowOf h₁ x ≡ d) × Within h₁ x
+put-first h x d w f e = rw e (put-own h x d w f, record { long = put-long h x d w; place = w .place })
+
+pub read-fits : (h : List ℕ) (x : ℕ) {r : List ℕ} → rowOf h x ≡ r → ((i : ℕ) → getD h i 0 < 256) → DepsFit r
+read-fits h x e b = rw e at (row-fits h x b)
 
 -- a row that takes in two others
 module _ (old more before : List ℕ) (lo : length old ≡ 7) (lm : length more ≡ 7) (lb : length before ≡ 7) where
@@ -66,7 +75,7 @@ module _ (n s : ℕ) (t g : List ℕ) (z : Sized n s t) (r : Rows n s (recordsIn
   old = rowOf g x
 
   abbrev more : List ℕ
-  more = beyondIn 7 n g (u o j .vote .deps)
+  more = beyondIn n n g (u o j .vote .deps)
 
   abbrev before : List ℕ
   before = beforeIn g o j
@@ -97,16 +106,25 @@ module _ (n s : ℕ) (t g : List ℕ) (z : Sized n s t) (r : Rows n s (recordsIn
   shorter : 1 < j → Inst n s o (j - 1)
   shorter l = record { owner = io .owner; first = omega arith; last = omega (arith, io .last) }
 
-  -- as it was read
-  pub raise-read : {y : ℕ} {d m v w b k : List ℕ} → y ≡ slotOf o j → d ≡ u o j .vote .deps → m ≡ beyondIn 7 n g d → v ≡ rowOf g y → w ≡ join v m → b ≡ beforeIn g o j → k ≡ join w b → k ≡ row
-  raise-read ey ed em ev ew eb ek = ek ∙ rw (ew, eb, ev, em, ed, ey)
+  -- the entries in h, where what o.j reaches is worked out
+  pub raise-first : (h : List ℕ) → length h ≡ 6272 → ((i : ℕ) → getD t i 0 < 256) → {y at : ℕ} {d h₁ : List ℕ} → y ≡ x → at ≡ placeOf s o j → d ≡ recordAt (partAt t at) .vote .deps → h₁ ≡ putRow h y d
+      → (rowOf h₁ y ≡ u o j .vote .deps) × Within h₁ y
+  raise-first h l b {y = y} {d = d} ey ea ed eh =
+      let e : d ≡ u o j .vote .deps = deps-are s t o j ea ed in
+      let w = put-first h y d (record { long = l; place = rw ey (at-place .place) }) (rw e (deps-fits s t o j b)) eh in
+      (w .0 ∙ e, w .1)
 
-  module _ (bytes : (i : ℕ) → getD g i 0 < 256) (entries : (i : ℕ) → getD t i 0 < 256) where
+  -- as it was read, with h₁ the list where what o.j reaches was worked out
+  pub raise-read : (h₁ : List ℕ) {y : ℕ} {v m w b k : List ℕ} → y ≡ slotOf o j → rowOf h₁ y ≡ beyondIn n n g (u o j .vote .deps) → v ≡ rowOf g y → m ≡ rowOf h₁ y → w ≡ join v m → b ≡ beforeIn g o j
+      → k ≡ join w b → k ≡ row
+  raise-read h₁ ey eh ev em ew eb ek = ek ∙ rw (ew, eb, ev, em, eh, ey)
+
+  module _ (bytes : (i : ℕ) → getD g i 0 < 256) (reached : DepsFit more) where
     abbrev g′ : List ℕ
     g′ = putRow g x row
 
     fits : DepsFit row
-    fits = join-fits (join old more) before (join-fits old more (row-fits g x bytes) (beyond-fits n g (u o j .vote .deps) bytes (deps-fits s t o j entries) 7))
+    fits = join-fits (join old more) before (join-fits old more (row-fits g x bytes) reached)
         (before-by DepsFit zeros (λ l. row-fits g (slotOf o (j - 1)) bytes))
 
     own : rowOf g′ x ≡ row

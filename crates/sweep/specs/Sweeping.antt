@@ -87,15 +87,17 @@ pub record Swept (n s : ℕ) (u : Records) (g g′ : List ℕ) (back : Bool) : T
 abbrev pub turned : ℕ → ℕ → Bool → ℕ
 turned many i back = cond back (many - 1 - i) i
 
-pub record Sweeping (n s : ℕ) (t g : List ℕ) : Type 0 where
+pub record Sweeping (n s : ℕ) (t g h : List ℕ) : Type 0 where
   pub sized : Sized n s t
   pub rows : Rows n s (recordsIn s t) g
+  pub long : length h ≡ 6272
 
 -- an entry of owner q's
 pub record Naming (n : ℕ) (g : List ℕ) (q entry : ℕ) : Type 0 where
   pub copies : n ≤ 7
   pub long : length g ≡ 6272
-  pub last : q < n → entry ≤ 64
+  pub owner : q < n
+  pub last : entry ≤ 64
 
 -- a row of entries or marks
 pub record Taking (n s : ℕ) (g row : List ℕ) : Type 0 where

@@ -4,10 +4,7 @@
 use nouns::deps::join_of;
 use nouns::deps::no_deps;
 use nouns::deps::same_deps;
-use nouns::logic::at_most;
-use nouns::logic::below;
-use nouns::logic::both;
-use nouns::logic::wide16;
+use rows::mark_of;
 use rows::put_row;
 use rows::row_of;
 use rows::slot_of;
@@ -18,32 +15,42 @@ ghost use Prim.Native.Nat.{_≤_, _<_};
 ghost use lib.ListN.{length};
 ghost use Rattle.seen.specs.Records.{recordsIn};
 ghost use Rattle.reach.specs.High.{Inst};
-ghost use Rattle.rows.specs.Rows.{slotOf, rowOf};
+ghost use Rattle.paper.specs.Deps.{join};
+ghost use Rattle.rows.specs.Rows.{slotOf, rowOf, markIn, Within};
 ghost use Rattle.sweep.specs.Sweeping.{Charting, Charted, withNamed, beyondIn, beforeIn, turned, Raised, Numbered, Swept, Sweeping, Naming, Taking, Found, Opened, Closed, Wrote, Closing, Reaching};
 
-// The row takes in that of the beginning of owner q's row which an entry names.
-fn with_named(n: usize, g: &[u8], q: usize, entry: u16, row: [u16; 7]) -> [u16; 7]
-    requires { ⌜ Naming n (now g) q entry ⌝ }
-    ensures { λ r. ⌜ r ≡ withNamed n (now (g .entry)) q entry row ⌝ }
+// The row at x of h takes in that at y of g.
+fn take_row(g: &[u8], y: usize, h: &mut [u8], x: usize)
+    requires { ⌜ Within (now g) y × Within (now h) x ⌝ }
+    ensures row { λ _. ⌜ rowOf (now (h .exit)) x ≡ join (rowOf (now (h .entry)) x) (rowOf (now (g .entry)) y) ⌝ }
+    ensures wrote { λ _. ⌜ Wrote (now (h .entry)) (now (h .exit)) x ⌝ }
 {
-    if !both(below(q, n), at_most(1, wide16(entry))) {
-        return row;
-    }
-    join_of(row, row_of(g, slot_of(q, wide16(entry))))
+    let row = join_of(row_of(&*h, x), row_of(g, y));
+    put_row(h, x, row);
 }
 
-// The marks take in the rows that they name, owner by owner.
-fn beyond(n: usize, s: usize, g: &[u8], marks: [u16; 7]) -> [u16; 7]
-    requires { ⌜ Taking n s (now g) marks ⌝ }
-    ensures { λ r. ⌜ r ≡ beyondIn 7 n (now (g .entry)) marks ⌝ }
+// It takes in that of the beginning of owner q's row which its own mark names.
+fn take_named(n: usize, g: &[u8], h: &mut [u8], x: usize, q: usize)
+    requires { ⌜ Naming n (now g) q (markIn (now h) x q) × Within (now h) x ⌝ }
+    ensures row { λ _. ⌜ rowOf (now (h .exit)) x ≡ withNamed n (now (g .entry)) q (markIn (now (h .entry)) x q) (rowOf (now (h .entry)) x) ⌝ }
+    ensures wrote { λ _. ⌜ Wrote (now (h .entry)) (now (h .exit)) x ⌝ }
 {
-    let row0 = with_named(n, g, 0, marks[0], marks);
-    let row1 = with_named(n, g, 1, row0[1], row0);
-    let row2 = with_named(n, g, 2, row1[2], row1);
-    let row3 = with_named(n, g, 3, row2[3], row2);
-    let row4 = with_named(n, g, 4, row3[4], row3);
-    let row5 = with_named(n, g, 5, row4[5], row4);
-    with_named(n, g, 6, row5[6], row5)
+    let entry = mark_of(&*h, x, q);
+    if entry == 0 {
+        return;
+    }
+    take_row(g, slot_of(q, entry), h, x);
+}
+
+// It takes in those that it names, owner by owner.
+fn beyond(n: usize, s: usize, g: &[u8], h: &mut [u8], x: usize)
+    requires { ⌜ Taking n s (now g) (rowOf (now h) x) × Within (now h) x ⌝ }
+    ensures row { λ _. ⌜ rowOf (now (h .exit)) x ≡ beyondIn n n (now (g .entry)) (rowOf (now (h .entry)) x) ⌝ }
+    ensures wrote { λ _. ⌜ Wrote (now (h .entry)) (now (h .exit)) x ⌝ }
+{
+    for q in 0..n {
+        take_named(n, g, &mut *h, x, q);
+    }
 }
 
 // The row of the beginning before.
@@ -57,15 +64,17 @@ fn before(g: &[u8], o: usize, j: usize) -> [u16; 7]
     row_of(g, slot_of(o, j - 1))
 }
 
-// The row of the beginning that ends at o.j takes in the beginning before, and what o.j reaches.
-fn raise(t: &[u8], n: usize, s: usize, g: &mut [u8], o: usize, j: usize)
-    requires { ⌜ Sweeping n s (now t) (now g) × Inst n s o j ⌝ }
-    ensures { λ _. ⌜ Raised n s (recordsIn s (now (t .entry))) (now (g .entry)) (now (g .exit)) o j ⌝ }
+// The row of the beginning that ends at o.j takes in the beginning before, and what o.j reaches; that is worked out in h.
+fn raise(t: &[u8], n: usize, s: usize, g: &mut [u8], h: &mut [u8], o: usize, j: usize)
+    requires { ⌜ Sweeping n s (now t) (now g) (now h) × Inst n s o j ⌝ }
+    ensures long { λ _. ⌜ length (now (h .exit)) ≡ 6272 ⌝ }
+    ensures raised { λ _. ⌜ Raised n s (recordsIn s (now (t .entry))) (now (g .entry)) (now (g .exit)) o j ⌝ }
 {
     let x = slot_of(o, j);
-    let d = deps_at(t, place_of(n, s, o, j));
-    let last = beyond(n, s, &*g, d);
-    let row = join_of(join_of(row_of(&*g, x), last), before(&*g, o, j));
+    put_row(&mut *h, x, deps_at(t, place_of(n, s, o, j)));
+    beyond(n, s, &*g, &mut *h, x);
+    let with_last = join_of(row_of(&*g, x), row_of(&*h, x));
+    let row = join_of(with_last, before(&*g, o, j));
     put_row(g, x, row);
 }
 
@@ -77,21 +86,23 @@ fn turn(many: usize, i: usize, back: bool) -> usize
     if back { many - 1 - i } else { i }
 }
 
-fn raise_number(t: &[u8], n: usize, s: usize, g: &mut [u8], j: usize, back: bool)
-    requires { ⌜ Sweeping n s (now t) (now g) × (1 ≤ j) × (j ≤ s) ⌝ }
-    ensures { λ _. ⌜ Numbered n s (recordsIn s (now (t .entry))) (now (g .entry)) (now (g .exit)) j ⌝ }
+fn raise_number(t: &[u8], n: usize, s: usize, g: &mut [u8], h: &mut [u8], j: usize, back: bool)
+    requires { ⌜ Sweeping n s (now t) (now g) (now h) × (1 ≤ j) × (j ≤ s) ⌝ }
+    ensures long { λ _. ⌜ length (now (h .exit)) ≡ 6272 ⌝ }
+    ensures raised { λ _. ⌜ Numbered n s (recordsIn s (now (t .entry))) (now (g .entry)) (now (g .exit)) j ⌝ }
 {
     for i in 0..n {
-        raise(t, n, s, &mut *g, turn(n, i, back), j);
+        raise(t, n, s, &mut *g, &mut *h, turn(n, i, back), j);
     }
 }
 
-fn sweep(t: &[u8], n: usize, s: usize, g: &mut [u8], back: bool)
-    requires { ⌜ Sweeping n s (now t) (now g) ⌝ }
-    ensures { λ _. ⌜ Swept n s (recordsIn s (now (t .entry))) (now (g .entry)) (now (g .exit)) back ⌝ }
+fn sweep(t: &[u8], n: usize, s: usize, g: &mut [u8], h: &mut [u8], back: bool)
+    requires { ⌜ Sweeping n s (now t) (now g) (now h) ⌝ }
+    ensures long { λ _. ⌜ length (now (h .exit)) ≡ 6272 ⌝ }
+    ensures raised { λ _. ⌜ Swept n s (recordsIn s (now (t .entry))) (now (g .entry)) (now (g .exit)) back ⌝ }
 {
     for i in 0..s {
-        raise_number(t, n, s, &mut *g, turn(s, i, back) + 1, back);
+        raise_number(t, n, s, &mut *g, &mut *h, turn(s, i, back) + 1, back);
     }
 }
 
@@ -105,9 +116,8 @@ fn close(t: &[u8], n: usize, s: usize, g: &[u8], h: &mut [u8], p: usize, k: usiz
     let mut changed = true;
     while changed {
         let row = row_of(&*h, x);
-        let more = beyond(n, s, g, row);
-        changed = !same_deps(more, row);
-        put_row(&mut *h, x, more);
+        beyond(n, s, g, &mut *h, x);
+        changed = !same_deps(row_of(&*h, x), row);
     }
 }
 
@@ -139,7 +149,7 @@ pub fn reach_all(t: &[u8], n: usize, s: usize, g: &mut [u8], h: &mut [u8])
     requires { ⌜ Charting n s (now t) (now g) (now h) ⌝ }
     ensures { λ _. ⌜ Charted n s (recordsIn s (now (t .entry))) (now (h .exit)) ⌝ }
 {
-    sweep(t, n, s, &mut *g, false);
-    sweep(t, n, s, &mut *g, true);
+    sweep(t, n, s, &mut *g, &mut *h, false);
+    sweep(t, n, s, &mut *g, &mut *h, true);
     reach_each(t, n, s, &*g, h);
 }

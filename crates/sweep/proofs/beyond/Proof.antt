@@ -1,121 +1,58 @@
-use borrow.Author.Needs.{needs}
 use Rattle.sweep.proofs.beyond.Statement.{statement}
 use Rattle.sweep.proofs.beyond.Tie as tie
-use Rattle.sweep.proofs.Named.{beyond-first, beyond-next, beyond-named}
+use Prim.Native.Nat.{_-_, _≤_}
+use mathlib.Core.Path.{_≡_, sym, _∙_}
+use native.Mathlib.Omega.{arith}
+use Rattle.rows.specs.Rows.{rowOf}
+use Rattle.sweep.specs.Sweeping.{beyondIn, Wrote}
+use Rattle.sweep.proofs.Named.{wrote-same, wrote-on, beyond-first, beyond-next, beyond-named, beyond-last}
 
-array-read-with-named : tie.Need-array-read-with-named
-array-read-with-named c = search needs
+abbrev Inv-loop : tie.InvT-loop
+Inv-loop n s g h₀ x q₀ h q = (rowOf h x ≡ beyondIn q n g (rowOf h₀ x)) × Wrote h₀ h x × (q ≤ n)
 
-with-named-requires : tie.Need-with-named-requires
-with-named-requires c κs =
-    let e = c .before in
-    let m0 = beyond-first (e .args .n) (e .args .g .now) (e .args .t4) in
-    beyond-named (e .args .n) (e .args .s) (e .args .g .now) (e .args .t4) (e .pre) 0 m0
+abbrev μ-loop : tie.MeasureT-loop
+μ-loop n s g h₀ x q₀ h q = n - q
 
-array-read-with-named-2 : tie.Need-array-read-with-named-2
-array-read-with-named-2 c = search needs
+loop-holds : tie.Need-loop-holds Inv-loop μ-loop
+loop-holds c = (beyond-first _ _ _, wrote-same _ _ (c .before .before .pre .1 .long), omega arith)
 
-with-named-requires-2 : tie.Need-with-named-requires-2
-with-named-requires-2 c κs =
-    let e = c .before .before in
-    let m0 = beyond-first (e .args .n) (e .args .g .now) (e .args .t4) in
-    let m1 = beyond-next (e .args .n) (e .args .g .now) (e .args .t4) 0 m0 (c .with-named .ensures) in
-    beyond-named (e .args .n) (e .args .s) (e .args .g .now) (e .args .t4) (e .pre) 1 m1
+take-named-requires : tie.Need-take-named-requires Inv-loop μ-loop
+take-named-requires c κs =
+    let l = c .before .before in
+    let e = l .before .before .before in
+    (beyond-named _ _ _ _ (e .pre .0) _ (c .before .loop-test .taken) (l .loop .inv .0), record { long = l .loop .inv .1 .long; place = e .pre .1 .place })
 
-array-read-with-named-3 : tie.Need-array-read-with-named-3
-array-read-with-named-3 c = search needs
+add-q : tie.Need-add-q Inv-loop μ-loop
+add-q c = omega (arith, c .before .before .before .before .loop-test .taken)
 
-with-named-requires-3 : tie.Need-with-named-requires-3
-with-named-requires-3 c κs =
-    let e = c .before .before .before in
-    let m0 = beyond-first (e .args .n) (e .args .g .now) (e .args .t4) in
-    let m1 = beyond-next (e .args .n) (e .args .g .now) (e .args .t4) 0 m0 (c .before .with-named .ensures) in
-    let m2 = beyond-next (e .args .n) (e .args .g .now) (e .args .t4) 1 m1 (c .with-named2 .ensures) in
-    beyond-named (e .args .n) (e .args .s) (e .args .g .now) (e .args .t4) (e .pre) 2 m2
+loop-less : tie.Need-loop-less Inv-loop μ-loop
+loop-less c = omega (arith, c .before .before .before .before .loop-test .taken)
 
-array-read-with-named-4 : tie.Need-array-read-with-named-4
-array-read-with-named-4 c = search needs
+loop-again : tie.Need-loop-again Inv-loop μ-loop
+loop-again c =
+    let l = c .before .before .before .before .before in
+    let w = c .before .before .take-named .ensures in
+    (beyond-next _ _ _ _ (l .loop .inv .0) (w .0), wrote-on _ _ _ _ (l .loop .inv .1) (w .1), omega (arith, c .before .before .before .before .loop-test .taken))
 
-with-named-requires-4 : tie.Need-with-named-requires-4
-with-named-requires-4 c κs =
-    let e = c .before .before .before .before in
-    let m0 = beyond-first (e .args .n) (e .args .g .now) (e .args .t4) in
-    let m1 = beyond-next (e .args .n) (e .args .g .now) (e .args .t4) 0 m0 (c .before .before .with-named .ensures) in
-    let m2 = beyond-next (e .args .n) (e .args .g .now) (e .args .t4) 1 m1 (c .before .with-named2 .ensures) in
-    let m3 = beyond-next (e .args .n) (e .args .g .now) (e .args .t4) 2 m2 (c .with-named3 .ensures) in
-    beyond-named (e .args .n) (e .args .s) (e .args .g .now) (e .args .t4) (e .pre) 3 m3
+same-length : tie.Need-same-length Inv-loop μ-loop
+same-length c = c .before .loop .inv .1 .long ∙ sym (c .before .before .before .before .pre .1 .long)
 
-array-read-with-named-5 : tie.Need-array-read-with-named-5
-array-read-with-named-5 c = search needs
-
-with-named-requires-5 : tie.Need-with-named-requires-5
-with-named-requires-5 c κs =
-    let e = c .before .before .before .before .before in
-    let m0 = beyond-first (e .args .n) (e .args .g .now) (e .args .t4) in
-    let m1 = beyond-next (e .args .n) (e .args .g .now) (e .args .t4) 0 m0 (c .before .before .before .with-named .ensures) in
-    let m2 = beyond-next (e .args .n) (e .args .g .now) (e .args .t4) 1 m1 (c .before .before .with-named2 .ensures) in
-    let m3 = beyond-next (e .args .n) (e .args .g .now) (e .args .t4) 2 m2 (c .before .with-named3 .ensures) in
-    let m4 = beyond-next (e .args .n) (e .args .g .now) (e .args .t4) 3 m3 (c .with-named4 .ensures) in
-    beyond-named (e .args .n) (e .args .s) (e .args .g .now) (e .args .t4) (e .pre) 4 m4
-
-array-read-with-named-6 : tie.Need-array-read-with-named-6
-array-read-with-named-6 c = search needs
-
-with-named-requires-6 : tie.Need-with-named-requires-6
-with-named-requires-6 c κs =
-    let e = c .before .before .before .before .before .before in
-    let m0 = beyond-first (e .args .n) (e .args .g .now) (e .args .t4) in
-    let m1 = beyond-next (e .args .n) (e .args .g .now) (e .args .t4) 0 m0 (c .before .before .before .before .with-named .ensures) in
-    let m2 = beyond-next (e .args .n) (e .args .g .now) (e .args .t4) 1 m1 (c .before .before .before .with-named2 .ensures) in
-    let m3 = beyond-next (e .args .n) (e .args .g .now) (e .args .t4) 2 m2 (c .before .before .with-named3 .ensures) in
-    let m4 = beyond-next (e .args .n) (e .args .g .now) (e .args .t4) 3 m3 (c .before .with-named4 .ensures) in
-    let m5 = beyond-next (e .args .n) (e .args .g .now) (e .args .t4) 4 m4 (c .with-named5 .ensures) in
-    beyond-named (e .args .n) (e .args .s) (e .args .g .now) (e .args .t4) (e .pre) 5 m5
-
-array-read-with-named-7 : tie.Need-array-read-with-named-7
-array-read-with-named-7 c = search needs
-
-with-named-requires-7 : tie.Need-with-named-requires-7
-with-named-requires-7 c κs =
-    let e = c .before .before .before .before .before .before .before in
-    let m0 = beyond-first (e .args .n) (e .args .g .now) (e .args .t4) in
-    let m1 = beyond-next (e .args .n) (e .args .g .now) (e .args .t4) 0 m0 (c .before .before .before .before .before .with-named .ensures) in
-    let m2 = beyond-next (e .args .n) (e .args .g .now) (e .args .t4) 1 m1 (c .before .before .before .before .with-named2 .ensures) in
-    let m3 = beyond-next (e .args .n) (e .args .g .now) (e .args .t4) 2 m2 (c .before .before .before .with-named3 .ensures) in
-    let m4 = beyond-next (e .args .n) (e .args .g .now) (e .args .t4) 3 m3 (c .before .before .with-named4 .ensures) in
-    let m5 = beyond-next (e .args .n) (e .args .g .now) (e .args .t4) 4 m4 (c .before .with-named5 .ensures) in
-    let m6 = beyond-next (e .args .n) (e .args .g .now) (e .args .t4) 5 m5 (c .with-named6 .ensures) in
-    beyond-named (e .args .n) (e .args .s) (e .args .g .now) (e .args .t4) (e .pre) 6 m6
-
-returns : tie.Need-returns
+returns : tie.Need-returns Inv-loop μ-loop
 returns c =
-    let e = c .before .before .before .before .before .before .before .before in
-    let m0 = beyond-first (e .args .n) (e .args .g .now) (e .args .t4) in
-    let m1 = beyond-next (e .args .n) (e .args .g .now) (e .args .t4) 0 m0 (c .before .before .before .before .before .before .with-named .ensures) in
-    let m2 = beyond-next (e .args .n) (e .args .g .now) (e .args .t4) 1 m1 (c .before .before .before .before .before .with-named2 .ensures) in
-    let m3 = beyond-next (e .args .n) (e .args .g .now) (e .args .t4) 2 m2 (c .before .before .before .before .with-named3 .ensures) in
-    let m4 = beyond-next (e .args .n) (e .args .g .now) (e .args .t4) 3 m3 (c .before .before .before .with-named4 .ensures) in
-    let m5 = beyond-next (e .args .n) (e .args .g .now) (e .args .t4) 4 m4 (c .before .before .with-named5 .ensures) in
-    let m6 = beyond-next (e .args .n) (e .args .g .now) (e .args .t4) 5 m5 (c .before .with-named6 .ensures) in
-    let m7 = beyond-next (e .args .n) (e .args .g .now) (e .args .t4) 6 m6 (c .with-named7 .ensures) in
-    m7
+    let l = c .before in
+    let e = l .before .before .before in
+    (beyond-last (e .args .n) (e .args .g .now) _ (l .loop .q) (l .loop .inv .0) (c .loop-test .left) (l .loop .inv .2), l .loop .inv .1)
 
 pub beyond-spec : {M : Type 1} → statement M
 beyond-spec =
     tie.close
     (tie.spec
-    array-read-with-named
-    with-named-requires
-    array-read-with-named-2
-    with-named-requires-2
-    array-read-with-named-3
-    with-named-requires-3
-    array-read-with-named-4
-    with-named-requires-4
-    array-read-with-named-5
-    with-named-requires-5
-    array-read-with-named-6
-    with-named-requires-6
-    array-read-with-named-7
-    with-named-requires-7
+    Inv-loop
+    μ-loop
+    loop-holds
+    take-named-requires
+    add-q
+    loop-less
+    loop-again
+    same-length
     returns)

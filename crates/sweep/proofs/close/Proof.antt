@@ -1,15 +1,13 @@
 use Rattle.sweep.proofs.close.Statement.{statement}
 use Rattle.sweep.proofs.close.Tie as tie
-use mathlib.Core.Path.{_≡_, refl, sym, ap, _∙_}
-use mathlib.Core.Bool.{true, not}
+use Prim.Native.Nat.{ℕ, _<_}
+use mathlib.Core.Path.{_≡_, sym, _∙_}
 use native.Mathlib.Omega.{arith}
 use Rattle.rows.specs.Rows.{slotOf, rowOf}
 use Rattle.sweep.proofs.Closes.{left, Turn, close-place, turn-first, turn-taking, turn-on, turn-less, turn-last}
-use Prim.Native.Nat.{ℕ, _<_}
-use lib.ListN.{getD}
 
 abbrev Inv-loop : tie.InvT-loop
-Inv-loop t n s g h₀ p k x changed₀ h changed = Turn n s t g h₀ p k changed h × (x ≡ slotOf p k) × ((i : ℕ) → getD h i 0 < 256)
+Inv-loop t n s g h₀ p k x changed₀ h changed = Turn n s t g h₀ p k changed h × (x ≡ slotOf p k)
 
 abbrev μ-loop : tie.MeasureT-loop
 μ-loop t n s g h₀ p k x changed₀ h changed = left (rowOf h (slotOf p k)) changed
@@ -22,7 +20,7 @@ slot-of-requires c κs =
 loop-holds : tie.Need-loop-holds Inv-loop μ-loop
 loop-holds c =
     let e = c .before .before .before .before in
-    (turn-first (e .args .n) (e .args .s) (e .args .t .now) (e .args .g .now) (e .args .h .now) (e .args .p) (e .args .k) (e .pre .0) (e .pre .1), c .slot-of .ensures .0, λ i. omega (arith, c .before .slice-known .given i))
+    (turn-first (e .args .n) (e .args .s) (e .args .t .now) (e .args .g .now) (e .args .h .now) (e .args .p) (e .args .k) (e .pre .0) (e .pre .1), c .slot-of .ensures .0)
 
 row-of-requires : tie.Need-row-of-requires Inv-loop μ-loop
 row-of-requires c κs =
@@ -32,32 +30,30 @@ row-of-requires c κs =
 
 beyond-requires : tie.Need-beyond-requires Inv-loop μ-loop
 beyond-requires c κs =
-    let l = c .before .before .before in
+    let l = c .before .before .before .before in
     let e = l .before .before .before .before .before in
-    rw (c .row-of .ensures, l .loop .inv .1) (turn-taking (e .args .n) (e .args .s) (e .args .t .now) (e .args .g .now) (e .args .h .now) (e .args .p) (e .args .k) (e .pre .0) _ (rw (c .before .before .loop-test .taken) at (l .loop .inv .0)))
+    rw (l .loop .inv .1) (turn-taking (e .args .n) (e .args .s) (e .args .t .now) (e .args .g .now) (e .args .h .now) (e .args .p) (e .args .k) (e .pre .0) _ (rw (c .before .before .before .loop-test .taken) at (l .loop .inv .0)), close-place (e .args .n) (e .args .s) (e .args .t .now) (e .args .g .now) (e .args .h .now) (e .args .p) (e .args .k) (e .pre .0) _ (l .loop .inv .0 .wrote .long))
+
+row-of-requires-2 : tie.Need-row-of-requires-2 Inv-loop μ-loop
+row-of-requires-2 c κs =
+    let l = c .before .before .before .before .before .before .before .before in
+    let e = l .before .before .before .before .before in
+    rw (l .loop .inv .1) (close-place (e .args .n) (e .args .s) (e .args .t .now) (e .args .g .now) (e .args .h .now) (e .args .p) (e .args .k) (e .pre .0) _ (c .before .before .before .beyond .ensures .1 .long))
 
 same-deps-requires : tie.Need-same-deps-requires Inv-loop μ-loop
 same-deps-requires c κs = tt
 
-put-row-requires : tie.Need-put-row-requires Inv-loop μ-loop
-put-row-requires c κs =
-    let l = c .before .before .before .before .before .before in
-    let e = l .before .before .before .before .before in
-    rw (l .loop .inv .1) (close-place (e .args .n) (e .args .s) (e .args .t .now) (e .args .g .now) (e .args .h .now) (e .args .p) (e .args .k) (e .pre .0) _ (l .loop .inv .0 .wrote .long))
-
 loop-less : tie.Need-loop-less Inv-loop μ-loop
 loop-less c =
-    let l = c .before .before .before .before .before .before .before .before .before in
-    let e1 = l .before .before .before in
-    let e = e1 .before .before in
-    rw (c .before .before .before .before .before .before .before .before .loop-test .taken) (turn-less (e .args .n) (e .args .s) (e .args .t .now) (e .args .g .now) (e .args .h .now) (e .args .p) (e .args .k) (e .pre .0) _ (rw (c .before .before .before .before .before .before .before .before .loop-test .taken) at (l .loop .inv .0)) (λ i. omega (arith, e1 .shared-slice-known2 .given i)) (l .loop .inv .2) (l .loop .inv .1) (c .before .before .before .before .before .before .row-of .ensures) (c .before .before .before .before .before .beyond .ensures) (c .before .before .before .before .same-deps .ensures) (c .before .before .put-row .ensures))
+    let l = c .before .before .before .before .before .before .before .before .before .before in
+    let e = l .before .before .before .before .before in
+    rw (c .before .before .before .before .before .before .before .before .before .loop-test .taken) (turn-less (e .args .n) (e .args .s) (e .args .t .now) (e .args .g .now) (e .args .h .now) (e .args .p) (e .args .k) (e .pre .0) _ (rw (c .before .before .before .before .before .before .before .before .before .loop-test .taken) at (l .loop .inv .0)) (l .loop .inv .1) (c .before .before .before .before .before .before .before .row-of .ensures) (c .before .before .before .before .before .beyond .ensures .0) (c .before .row-of2 .ensures) (c .same-deps .ensures) (c .before .before .before .before .before .beyond .ensures .1) (λ i. omega (arith, c .before .before .before .slice-known2 .given i)))
 
 loop-again : tie.Need-loop-again Inv-loop μ-loop
 loop-again c =
-    let l = c .before .before .before .before .before .before .before .before .before in
-    let e1 = l .before .before .before in
-    let e = e1 .before .before in
-    (turn-on (e .args .n) (e .args .s) (e .args .t .now) (e .args .g .now) (e .args .h .now) (e .args .p) (e .args .k) (e .pre .0) _ (rw (c .before .before .before .before .before .before .before .before .loop-test .taken) at (l .loop .inv .0)) (λ i. omega (arith, e1 .shared-slice-known2 .given i)) (l .loop .inv .2) (l .loop .inv .1) (c .before .before .before .before .before .before .row-of .ensures) (c .before .before .before .before .before .beyond .ensures) (c .before .before .before .before .same-deps .ensures) (c .before .before .put-row .ensures), l .loop .inv .1, λ i. omega (arith, c .slice-known2 .given i))
+    let l = c .before .before .before .before .before .before .before .before .before .before in
+    let e = l .before .before .before .before .before in
+    (turn-on (e .args .n) (e .args .s) (e .args .t .now) (e .args .g .now) (e .args .h .now) (e .args .p) (e .args .k) (e .pre .0) _ (rw (c .before .before .before .before .before .before .before .before .before .loop-test .taken) at (l .loop .inv .0)) (l .loop .inv .1) (c .before .before .before .before .before .before .before .row-of .ensures) (c .before .before .before .before .before .beyond .ensures .0) (c .before .row-of2 .ensures) (c .same-deps .ensures) (c .before .before .before .before .before .beyond .ensures .1) (λ i. omega (arith, c .before .before .before .slice-known2 .given i)), l .loop .inv .1)
 
 same-length : tie.Need-same-length Inv-loop μ-loop
 same-length c = c .before .loop .inv .0 .wrote .long ∙ sym (c .before .before .before .before .before .before .pre .0 .long)
@@ -79,8 +75,8 @@ close-spec =
     loop-holds
     row-of-requires
     beyond-requires
+    row-of-requires-2
     same-deps-requires
-    put-row-requires
     loop-less
     loop-again
     same-length

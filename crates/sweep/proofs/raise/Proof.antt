@@ -1,10 +1,9 @@
 use borrow.Author.Needs.{needs}
 use Rattle.sweep.proofs.raise.Statement.{statement}
 use Rattle.sweep.proofs.raise.Tie as tie
-use mathlib.Core.Path.{sym, _∙_}
+use mathlib.Core.Path.{_≡_, sym, _∙_}
 use native.Mathlib.Omega.{arith}
-use Rattle.sweep.proofs.Named.{deps-are}
-use Rattle.sweep.proofs.Rises.{raise-taking, raise-read, raise-raised}
+use Rattle.sweep.proofs.Rises.{at-place, raise-taking, raise-first, raise-read, read-fits, raise-raised}
 
 slot-of-requires : tie.Need-slot-of-requires
 slot-of-requires c κs = search needs
@@ -15,38 +14,54 @@ place-of-requires c κs = search needs
 deps-at-requires : tie.Need-deps-at-requires
 deps-at-requires c κs = search needs
 
+put-row-requires : tie.Need-put-row-requires
+put-row-requires c κs = search needs
+
 beyond-requires : tie.Need-beyond-requires
 beyond-requires c κs =
-    let d = c .before in
-    let e = d .before .before .before .before .before in
-    rw (deps-are (e .args .s) (e .args .t .now) (e .args .o) (e .args .j) (d .before .place-of .ensures .0) (d .deps-at .ensures)) (raise-taking (e .args .n) (e .args .s) (e .args .t .now) (e .args .g .now) (e .pre .0 .sized) (e .pre .0 .rows) (e .args .o) (e .args .j) (e .pre .1))
+    let e = c .before .before .before .before .before .before .before .before .before .before .before .before in
+    let w = raise-first (e .args .n) (e .args .s) (e .args .t .now) (e .args .g .now) (e .pre .0 .sized) (e .pre .0 .rows) (e .args .o) (e .args .j) (e .pre .1) _ (e .pre .0 .long) (λ i. omega (arith, c .before .before .before .before .before .before .before .before .before .before .before .shared-slice-known .given i)) (c .before .before .before .before .before .before .before .before .slot-of .ensures .0) (c .before .before .before .before .before .before .place-of .ensures .0) (c .before .before .before .before .before .deps-at .ensures) (c .before .before .before .before .put-row .ensures) in
+    (rw (w .0) (raise-taking (e .args .n) (e .args .s) (e .args .t .now) (e .args .g .now) (e .pre .0 .sized) (e .pre .0 .rows) (e .args .o) (e .args .j) (e .pre .1)), w .1)
 
 row-of-requires : tie.Need-row-of-requires
 row-of-requires c κs = search needs
+
+row-of-requires-2 : tie.Need-row-of-requires-2
+row-of-requires-2 c κs = search needs
 
 join-of-requires : tie.Need-join-of-requires
 join-of-requires c κs = search needs
 
 before-requires : tie.Need-before-requires
-before-requires c κs = search needs
+before-requires c κs =
+    let e = c .before .before .before .before .before .before .before .before .before .before .before .before .before .before .before .before .before .before .before .before .before in
+    (e .pre .0 .rows .long, omega (arith, e .pre .1 .owner, e .pre .0 .sized .copies), omega (arith, e .pre .1 .last, e .pre .0 .sized .numbers))
 
 join-of-requires-2 : tie.Need-join-of-requires-2
 join-of-requires-2 c κs = search needs
 
-put-row-requires : tie.Need-put-row-requires
-put-row-requires c κs = search needs
+put-row-requires-2 : tie.Need-put-row-requires-2
+put-row-requires-2 c κs =
+    let e = c .before .before .before .before .before .before .before .before .before .before .before .before .before .before .before .before .before .before .before .before .before .before .before .before in
+    rw (c .before .before .before .before .before .before .before .before .before .before .before .before .before .before .before .before .before .before .before .before .slot-of .ensures .0) (at-place (e .args .n) (e .args .s) (e .args .t .now) (e .args .g .now) (e .pre .0 .sized) (e .pre .0 .rows) (e .args .o) (e .args .j) (e .pre .1))
 
 same-length : tie.Need-same-length
 same-length c = search needs
 
+same-length-2 : tie.Need-same-length-2
+same-length-2 c = search needs
+
 returns : tie.Need-returns
 returns c =
-    let p = c .before .before in
-    let d = p .before .before .before .before .before .before .before .before .before .before in
-    let k = d .before .before .before in
-    let e = k .before .before in
-    let w = raise-read (e .args .n) (e .args .s) (e .args .t .now) (e .args .g .now) (e .pre .0 .sized) (e .pre .0 .rows) (e .args .o) (e .args .j) (e .pre .1) (d .before .before .slot-of .ensures .0) (deps-are (e .args .s) (e .args .t .now) (e .args .o) (e .args .j) (d .before .place-of .ensures .0) (d .deps-at .ensures)) (p .before .before .before .before .before .before .before .before .beyond .ensures) (p .before .before .before .before .before .before .row-of .ensures) (p .before .before .before .before .before .join-of .ensures) (p .before .before .before .before2 .ensures) (p .before .before .join-of2 .ensures) in
-    rw (p .put-row .ensures, w, d .before .before .slot-of .ensures .0) (raise-raised (e .args .n) (e .args .s) (e .args .t .now) (e .args .g .now) (e .pre .0 .sized) (e .pre .0 .rows) (e .args .o) (e .args .j) (e .pre .1) (λ i. omega (arith, k .slice-known .given i)) (λ i. omega (arith, k .before .shared-slice-known .given i)))
+    let e = c .before .before .before .before .before .before .before .before .before .before .before .before .before .before .before .before .before .before .before .before .before .before .before .before .before .before .before in
+    let y = c .before .before .before .before .before .before .before .before .before .before .before .before .before .before .before .before .before .before .before .before .before .before .before .slot-of .ensures .0 in
+    let w = raise-first (e .args .n) (e .args .s) (e .args .t .now) (e .args .g .now) (e .pre .0 .sized) (e .pre .0 .rows) (e .args .o) (e .args .j) (e .pre .1) _ (e .pre .0 .long) (λ i. omega (arith, c .before .before .before .before .before .before .before .before .before .before .before .before .before .before .before .before .before .before .before .before .before .before .before .before .before .before .shared-slice-known .given i)) (c .before .before .before .before .before .before .before .before .before .before .before .before .before .before .before .before .before .before .before .before .before .before .before .slot-of .ensures .0) (c .before .before .before .before .before .before .before .before .before .before .before .before .before .before .before .before .before .before .before .before .before .place-of .ensures .0) (c .before .before .before .before .before .before .before .before .before .before .before .before .before .before .before .before .before .before .before .before .deps-at .ensures) (c .before .before .before .before .before .before .before .before .before .before .before .before .before .before .before .before .before .before .before .put-row .ensures) in
+    let m = rw (w .0) at (c .before .before .before .before .before .before .before .before .before .before .before .before .before .before .beyond .ensures .0) in
+    let k = raise-read (e .args .n) (e .args .s) (e .args .t .now) (e .args .g .now) (e .pre .0 .sized) (e .pre .0 .rows) (e .args .o) (e .args .j) (e .pre .1) _ y m (c .before .before .before .before .before .before .before .before .before .before .row-of .ensures) (c .before .before .before .before .before .before .before .before .row-of2 .ensures) (c .before .before .before .before .before .before .before .join-of .ensures) (c .before .before .before .before .before .before2 .ensures) (c .before .before .before .before .join-of2 .ensures) in (
+      c .before .before .before .before .before .before .before .before .before .before .before .before .before .before .beyond .ensures .1 .long,
+      rw (c .before .before .put-row2 .ensures, k, y)
+          (raise-raised (e .args .n) (e .args .s) (e .args .t .now) (e .args .g .now) (e .pre .0 .sized) (e .pre .0 .rows) (e .args .o) (e .args .j) (e .pre .1) (λ i. omega (arith, c .before .before .before .before .before .before .before .before .before .before .before .before .before .before .before .before .before .before .before .before .before .before .before .before .before .slice-known .given i)) (read-fits _ _ m (λ i. omega (arith, c .before .before .before .before .before .before .before .before .before .before .before .before .slice-known4 .given i)))),
+    )
 
 pub raise-spec : {M : Type 1} → statement M
 raise-spec =
@@ -55,11 +70,14 @@ raise-spec =
     slot-of-requires
     place-of-requires
     deps-at-requires
+    put-row-requires
     beyond-requires
     row-of-requires
+    row-of-requires-2
     join-of-requires
     before-requires
     join-of-requires-2
-    put-row-requires
+    put-row-requires-2
     same-length
+    same-length-2
     returns)
