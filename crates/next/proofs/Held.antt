@@ -67,7 +67,8 @@ not-passes h st p k y e = go (decLt (markIn h y p) k)
     go (yes l) = l
     go (no l) = tf (passesAt h st p k y) (passes-back h st p k y (omega arith)) e
 
-pub passes-is : (h st : List ℕ) (p k y : ℕ) {u w : ℕ} {a b r : Bool} → u ≡ getD st y 0 → a ≡ eqb u 2 → w ≡ markIn h y p → b ≡ leb k w → r ≡ (a || b)
+pub passes-is : (h st : List ℕ) (p k y : ℕ) {u w : ℕ} {a b r : Bool} → u ≡ getD st y 0 → a ≡ eqb u 2 → w ≡ markIn h y p
+    → b ≡ leb k w → r ≡ (a || b)
     → r ≡ passesAt h st p k y
 unfolding passesAt
 passes-is h st p k y eu ea ew eb er = er ∙ rw (ea, eb, eu, ew)
@@ -109,7 +110,8 @@ module _ (h st past : List ℕ) (p k q : ℕ) {x top : ℕ} (ex : x ≡ slotOf p
       → Freed st q (getD past q 0) (markIn h (slotOf p k) q) know know₁
   freed-at ef w = rw (← ef, top-is) w
 
-pub row-span : (n s : ℕ) (h st : List ℕ) (p k : ℕ) → Lists n s h st → Inst n s p k → (q : ℕ) → q < n → {x top : ℕ} → x ≡ slotOf p k
+pub row-span : (n s : ℕ) (h st : List ℕ) (p k : ℕ) → Lists n s h st → Inst n s p k → (q : ℕ) → q < n → {x top : ℕ}
+    → x ≡ slotOf p k
     → top ≡ markIn h x q → Span h st p q top
 row-span n s h st p k g i q l ex et = record {
   marks = g .marks;
@@ -197,14 +199,16 @@ module _ (st : List ℕ) (q from top : ℕ) (know : List ℕ) where
   pub freed-start : Freed st q from top know know
   freed-start = record { long = refl; each = λ x. inl refl }
 
-  pub freed-more : (know₁ : List ℕ) (i y : ℕ) → Freed st q from top know know₁ → from ≤ i → i < top → y ≡ 64 * q + i → (getD st y 0 ≡ 2 → ⊥) → y < length know
+  pub freed-more : (know₁ : List ℕ) (i y : ℕ) → Freed st q from top know know₁ → from ≤ i → i < top → y ≡ 64 * q + i
+      → (getD st y 0 ≡ 2 → ⊥) → y < length know
       → Freed st q from top know (set know₁ y 1)
   freed-more know₁ i y f a b e d l = record { long = length-set know₁ y 1 ∙ f .long; each = each }
     where
       each : (x : ℕ) → (getD (set know₁ y 1) x 0 ≡ getD know x 0) ⊎ ((getD (set know₁ y 1) x 0 ≡ 1) × Waiting st q from top x)
       each x = go (ℕ-discrete x y)
         where
-          go : Dec (x ≡ y) → (getD (set know₁ y 1) x 0 ≡ getD know x 0) ⊎ ((getD (set know₁ y 1) x 0 ≡ 1) × Waiting st q from top x)
+          go : Dec (x ≡ y)
+              → (getD (set know₁ y 1) x 0 ≡ getD know x 0) ⊎ ((getD (set know₁ y 1) x 0 ≡ 1) × Waiting st q from top x)
           go (no z) = rw (getD-set-other know₁ y x 1 0 z) (f .each x)
           go (yes z) = inr (
             rw z (getD-set-same know₁ y 1 0 (omega (arith, f .long))),
@@ -253,7 +257,8 @@ module _ (n s : ℕ) (h st know past : List ℕ) (g : Going n s h st know past) 
         go (no l) = let a = u .held (omega arith) in omega (arith, a .place, a .inst .owner, a .inst .first, a .inst .last, g .lists .copies, g .lists .numbers)
 
     -- one ahead that was not handed out holds it back
-    pub known-held : (x : ℕ) → Known n s h st p k x → (leb 2 x && not (eqb (getD st (x - 2) 0) 2)) ≡ true → everywhere n s (lets h st p k) ≡ false
+    pub known-held : (x : ℕ) → Known n s h st p k x → (leb 2 x && not (eqb (getD st (x - 2) 0) 2)) ≡ true
+        → everywhere n s (lets h st p k) ≡ false
     known-held x u t =
         let a = u .held (leb-le 2 x (and-l (leb 2 x) _ t)) in
         let d = not-not (eqb (getD st (x - 2) 0) 2) (and-r (leb 2 x) _ t) in
@@ -264,7 +269,8 @@ module _ (n s : ℕ) (h st know past : List ℕ) (g : Going n s h st know past) 
 
     module _ (r : everywhere n s (lets h st p k) ≡ true) where
       -- what is reached and was not handed out reaches back: so whoever it waits for, p.k waits for
-      ready-too : (q i : ℕ) → Inst n s q i → i ≤ markIn h (slotOf p k) q → (getD st (slotOf q i) 0 ≡ 2 → ⊥) → everywhere n s (lets h st q i) ≡ true
+      ready-too : (q i : ℕ) → Inst n s q i → i ≤ markIn h (slotOf p k) q → (getD st (slotOf q i) 0 ≡ 2 → ⊥)
+          → everywhere n s (lets h st q i) ≡ true
       ready-too q i iq m d = every-in n s (lets h st q i) (λ o j a b c. one o j (record { owner = a; first = b; last = c }))
         where
           let-by : (o j : ℕ) → Inst n s o j → lets h st p k o j ≡ true
@@ -276,7 +282,8 @@ module _ (n s : ℕ) (h st know past : List ℕ) (g : Going n s h st know past) 
           one : (o j : ℕ) → Inst n s o j → lets h st q i o j ≡ true
           one o j io = go (decLt (markIn h (slotOf q i) o) j) (decLt (markIn h (slotOf o j) p) k) (ℕ-discrete (getD st (slotOf o j) 0) 2)
             where
-              go : Dec (markIn h (slotOf q i) o < j) → Dec (markIn h (slotOf o j) p < k) → Dec (getD st (slotOf o j) 0 ≡ 2) → lets h st q i o j ≡ true
+              go : Dec (markIn h (slotOf q i) o < j) → Dec (markIn h (slotOf o j) p < k) → Dec (getD st (slotOf o j) 0 ≡ 2)
+                  → lets h st q i o j ≡ true
               go (yes a) b e = lets-out h st q i o j a
               go (no a) b (yes e) = lets-in h st q i o j (omega arith) ∙ passes-two h st q i (slotOf o j) e
               go (no a) (no b) (no e) =
@@ -286,7 +293,8 @@ module _ (n s : ℕ) (h st know past : List ℕ) (g : Going n s h st know past) 
                   let l : j ≤ markIn h (slotOf p k) o = omega (arith, g .lists .closed p k ip q i iq m o (io .owner)) in
                   absurd (omega (arith, passes-or h st p k (slotOf o j) (sym (lets-in h st p k o j l) ∙ let-by o j io) e))
 
-      pub known-freed : (q : ℕ) (know₁ : List ℕ) → q < n → Freed st q (getD past q 0) (markIn h (slotOf p k) q) know know₁ → Going n s h st know₁ past
+      pub known-freed : (q : ℕ) (know₁ : List ℕ) → q < n → Freed st q (getD past q 0) (markIn h (slotOf p k) q) know know₁
+          → Going n s h st know₁ past
       known-freed q know₁ lq f = record { lists = g .lists; long = f .long ∙ g .long; known = each; passed = g .passed }
         where
           each : (o j : ℕ) → Inst n s o j → Known n s h st o j (getD know₁ (slotOf o j) 0)
@@ -306,13 +314,15 @@ module _ (n s : ℕ) (h st know past : List ℕ) (g : Going n s h st know past) 
 pub is-held-no : (st : List ℕ) (x : ℕ) → x < 2 → false ≡ (leb 2 x && not (eqb (getD st (x - 2) 0) 2))
 is-held-no st x l = rw (leb-not 2 x l)
 
-pub is-held-is : (st : List ℕ) (x : ℕ) → 2 ≤ x → {u : ℕ} {a : Bool} → u ≡ getD st (x - 2) 0 → a ≡ eqb u 2 → not a ≡ (leb 2 x && not (eqb (getD st (x - 2) 0) 2))
+pub is-held-is : (st : List ℕ) (x : ℕ) → 2 ≤ x → {u : ℕ} {a : Bool} → u ≡ getD st (x - 2) 0 → a ≡ eqb u 2
+    → not a ≡ (leb 2 x && not (eqb (getD st (x - 2) 0) 2))
 is-held-is st x l eu ea = rw (leb-in 2 x l, ea, eu)
 
 pub ready-not : (n s : ℕ) (h st : List ℕ) (p k x : ℕ) → x ≡ slotOf p k → (getD st x 0 ≡ 1 → ⊥) → false ≡ readyIn n s h st p k
 unfolding readyIn
 ready-not n s h st p k x e d = rw (← e, eqb-false (getD st x 0) 1 d)
 
-pub ready-is : (n s : ℕ) (h st : List ℕ) (p k x : ℕ) → x ≡ slotOf p k → getD st x 0 ≡ 1 → {b : Bool} → b ≡ everywhere n s (lets h st p k) → b ≡ readyIn n s h st p k
+pub ready-is : (n s : ℕ) (h st : List ℕ) (p k x : ℕ) → x ≡ slotOf p k → getD st x 0 ≡ 1 → {b : Bool}
+    → b ≡ everywhere n s (lets h st p k) → b ≡ readyIn n s h st p k
 unfolding readyIn
 ready-is n s h st p k x e d eb = eb ∙ rw (← e, eqb-same (getD st x 0) 1 d)

@@ -33,7 +33,8 @@ module _ (st : List ℕ) (x : ℕ) (inside : x < length st) where
       all true = refl
       all false = refl
 
-  every-still : (n s : ℕ) (h : List ℕ) (p k : ℕ) → everywhere n s (lets h st p k) ≡ true → everywhere n s (lets h (set st x 2) p k) ≡ true
+  every-still : (n s : ℕ) (h : List ℕ) (p k : ℕ) → everywhere n s (lets h st p k) ≡ true
+      → everywhere n s (lets h (set st x 2) p k) ≡ true
   every-still n s h p k e = every-in n s (lets h (set st x 2) p k) (λ o j a b c. lets-still h p k o j (every-at n s (lets h st p k) e o j a b c))
 
   none-still : (n j : ℕ) → noneAt n st j ≡ true → noneAt n (set st x 2) j ≡ true

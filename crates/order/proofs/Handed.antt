@@ -73,7 +73,8 @@ module _ (n s c : ℕ) (t : List ℕ) (g : Passed n s c t) where
       recordBytes-recordAt (partAt t (placeOf s o j)) (part-bytes t (placeOf s o j) byte) l
       (and-true (opsFit (partAt t (placeOf s o j))) (soundRecord n s c o (recordIn s t o j)) p .0)
 
-  pub listing : ((i : ℕ) → getD t i 0 < 256) → (k m : ℕ) → k ≡ 448 → m ≡ 8 → (h st : List ℕ) → Charted n s (recordsIn s t) h → Stated n s (recordsIn s t) st
+  pub listing : ((i : ℕ) → getD t i 0 < 256) → (k m : ℕ) → k ≡ 448 → m ≡ 8 → (h st : List ℕ) → Charted n s (recordsIn s t) h
+      → Stated n s (recordsIn s t) st
       → Listing n s t h st (replicate k 0) (replicate m 0)
   listing byte k m e f h st a d = record {
     long = sized .long;

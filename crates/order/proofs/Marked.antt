@@ -63,7 +63,8 @@ set-part t a k i x l m =
     let d : drop (a + k) (set t (a + i) x) ≡ drop (a + k) t = drop-set-lt (a + k) t (a + i) x (omega arith) in
     sym (splice-own (set t (a + i) x) a k (omega (arith, length-set t (a + i) x))) ∙ rw (v, b, n, d)
 
-pub mark-written : (n s : ℕ) (t : List ℕ) (o j : ℕ) → Marking n s t o j → {at : ℕ} → at ≡ placeOf s o j → set t (at + 36) 1 ≡ markIn s t o j
+pub mark-written : (n s : ℕ) (t : List ℕ) (o j : ℕ) → Marking n s t o j → {at : ℕ} → at ≡ placeOf s o j
+    → set t (at + 36) 1 ≡ markIn s t o j
 unfolding markIn
 mark-written n s t o j g ea =
     let l = place-end n s o j (record { copies = g .copies; numbers = g .numbers; owner = g .inst .owner; first = g .inst .first; last = g .inst .last }) in
@@ -85,7 +86,8 @@ module _ (n s : ℕ) (t h st know past : List ℕ) (g : Listing n s t h st know 
   own : recordIn s (markIn s t o j) o j ≡ marked (recordIn s t o j)
   own = ap recordAt own-part ∙ marked-back (recordIn s t o j) (ap recordAt (g .whole o j io))
 
-  other-part : (p k : ℕ) → Inst n s p k → ((o ≡ p) × (j ≡ k) → ⊥) → partAt (markIn s t o j) (placeOf s p k) ≡ partAt t (placeOf s p k)
+  other-part : (p k : ℕ) → Inst n s p k → ((o ≡ p) × (j ≡ k) → ⊥)
+      → partAt (markIn s t o j) (placeOf s p k) ≡ partAt t (placeOf s p k)
   unfolding markIn
   other-part p k i d = put-part n s t (g .long) o j (names o j io) (marked (recordIn s t o j)) seven p k (names p k i) d
 

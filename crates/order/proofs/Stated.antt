@@ -30,10 +30,12 @@ pub sized-names : (n s : ℕ) (t : List ℕ) → Sized n s t → (o j : ℕ) →
 sized-names n s t g o j i = record { copies = g .copies; numbers = g .numbers; owner = i .owner; first = i .first; last = i .last }
 
 -- the test at a place is the record's
-pub at-place : (f : List ℕ → Bool) (s : ℕ) (t : List ℕ) (o j : ℕ) {at : ℕ} {r : Bool} → at ≡ placeOf s o j → r ≡ f (partAt t at) → r ≡ f (partAt t (placeOf s o j))
+pub at-place : (f : List ℕ → Bool) (s : ℕ) (t : List ℕ) (o j : ℕ) {at : ℕ} {r : Bool} → at ≡ placeOf s o j
+    → r ≡ f (partAt t at) → r ≡ f (partAt t (placeOf s o j))
 at-place f s t o j ea er = er ∙ ap (λ (a : ℕ). f (partAt t a)) ea
 
-pub mark-read : (t : List ℕ) (at : ℕ) {x : ℕ} → x ≡ numAt 1 (take (at + 263 - at) (drop at t)) 36 → x ≡ recordAt (partAt t at) .mark
+pub mark-read : (t : List ℕ) (at : ℕ) {x : ℕ} → x ≡ numAt 1 (take (at + 263 - at) (drop at t)) 36
+    → x ≡ recordAt (partAt t at) .mark
 unfolding recordAt
 mark-read t at e = e ∙ ap (λ (k : ℕ). numAt 1 (take k (drop at t)) 36) (add-sub-cancel-left at 263)
 
@@ -54,7 +56,8 @@ module _ (s : ℕ) (u : Records) (q : ℕ) where
 abbrev Led : ℕ → Records → List ℕ → ℕ → Type 0
 Led s u lead o = (q : ℕ) → q < o → Lead s u q (getD lead q 0)
 
-pub led-more : (s : ℕ) (u : Records) (lead : List ℕ) (o z : ℕ) → Led s u lead o → o < length lead → Lead s u o z → Led s u (set lead o z) (o + 1)
+pub led-more : (s : ℕ) (u : Records) (lead : List ℕ) (o z : ℕ) → Led s u lead o → o < length lead → Lead s u o z
+    → Led s u (set lead o z) (o + 1)
 led-more s u lead o z c l d q m = go (ℕ-discrete q o)
   where
     go : Dec (q ≡ o) → Lead s u q (getD (set lead o z) q 0)
@@ -84,12 +87,14 @@ module _ (n : ℕ) (h : List ℕ) (x : ℕ) (lead : List ℕ) where
 
 -- settled: committed, and whatever is marked is among the commits that its owner's row begins with
 module _ (n s : ℕ) (u : Records) (h : List ℕ) (p k : ℕ) (i : Inst n s p k) (r : Row n s u h p k) where
-  waits-is : (o j : ℕ) → Inst n s o j → waitsFor n s u p k o j ≡ ((itself p k o j || leb j (markIn h (slotOf p k) o)) && not (isCommitted (u o j)))
+  waits-is : (o j : ℕ) → Inst n s o j
+      → waitsFor n s u p k o j ≡ ((itself p k o j || leb j (markIn h (slotOf p k) o)) && not (isCommitted (u o j)))
   unfolding waitsFor
   waits-is o j io = ap (λ (b : Bool). b && not (isCommitted (u o j))) (r .highs o j io)
 
   -- an uncommitted one that is marked, or the instance itself
-  open-one : (o j : ℕ) → Inst n s o j → (itself p k o j || leb j (markIn h (slotOf p k) o)) ≡ true → isCommitted (u o j) ≡ false → isSettled n s u p k ≡ false
+  open-one : (o j : ℕ) → Inst n s o j → (itself p k o j || leb j (markIn h (slotOf p k) o)) ≡ true
+      → isCommitted (u o j) ≡ false → isSettled n s u p k ≡ false
   unfolding isSettled
   open-one o j io m c = not-true _
       (λ e. tf (waitsFor n s u p k o j) (waits-is o j io ∙ rw (m, c)) (not-not _ (every-at n s (λ o j. not (waitsFor n s u p k o j)) e o j (io .owner) (io .first) (io .last))))
@@ -163,14 +168,16 @@ module _ (n s : ℕ) (t h lead : List ℕ) (p k : ℕ) (a : Asking n s t h lead 
   state-waits : isMarked (recordsIn s t p k) ≡ false → isSettled n s (recordsIn s t) p k ≡ false → State n s (recordsIn s t) p k 0
   state-waits m e = record { out = sym m; ready = rw (m, e) }
 
-  pub state-open : isMarked (recordsIn s t p k) ≡ false → isCommitted (recordsIn s t p k) ≡ false → State n s (recordsIn s t) p k 0
+  pub state-open : isMarked (recordsIn s t p k) ≡ false → isCommitted (recordsIn s t p k) ≡ false
+      → State n s (recordsIn s t) p k 0
   state-open m c = state-waits m (open-itself n s (recordsIn s t) h p k (a .inst) row c)
 
   module _ (x : ℕ) (ex : x ≡ slotOf p k) where
     pub state-place : x < 448 → Within h x
     state-place l = record { long = a .seen .charted .long; place = l }
 
-    pub state-settled : isMarked (recordsIn s t p k) ≡ false → isCommitted (recordsIn s t p k) ≡ true → behindNone n h x lead ≡ true → State n s (recordsIn s t) p k 1
+    pub state-settled : isMarked (recordsIn s t p k) ≡ false → isCommitted (recordsIn s t p k) ≡ true
+        → behindNone n h x lead ≡ true → State n s (recordsIn s t) p k 1
     state-settled m c e = record { out = sym m; ready = rw (m, settled-all n s (recordsIn s t) h p k (a .inst) row lead (a .seen .leads) c (rw ex at e)) }
 
     pub state-behind : isMarked (recordsIn s t p k) ≡ false → behindNone n h x lead ≡ false → State n s (recordsIn s t) p k 0
@@ -188,7 +195,8 @@ module _ (n s : ℕ) (u : Records) (st : List ℕ) where
   pub states-row : (o j : ℕ) → s ≤ 64 → States n s u (64 * o + (j - 1)) st → s < j → States n s u (64 * (o + 1)) st
   states-row o j l c m = record { long = c .long; done = λ p k i e. c .done p k i (omega (arith, i .first, i .last)) }
 
-  pub states-more : (o j x v : ℕ) → n ≤ 7 → s ≤ 64 → Inst n s o j → x ≡ slotOf o j → States n s u (64 * o + (j - 1)) st → State n s u o j v
+  pub states-more : (o j x v : ℕ) → n ≤ 7 → s ≤ 64 → Inst n s o j → x ≡ slotOf o j → States n s u (64 * o + (j - 1)) st
+      → State n s u o j v
       → States n s u (64 * o + (j + 1 - 1)) (set st x v)
   states-more o j x v ln ls io ex c w = record { long = length-set st x v ∙ c .long; done = done }
     where
