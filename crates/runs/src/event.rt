@@ -1,5 +1,6 @@
 // The calls for events: request, message, recover and nudge.
 use crate::told::Told;
+use forms::put_form;
 use log::Answer;
 use nouns::logic::both;
 use nouns::logic::either;
@@ -10,16 +11,14 @@ use text::put::bad_line;
 use text::put::put_bytes;
 use text::put::put_front;
 use text::put::put_number;
-use text::put::put_size;
+use text::put::wide;
 use text::refusals::put_refused;
 use text::words::last_hex;
 use text::words::last_numbers;
 use text::words::size;
 
 fn put_done(out: &mut [u8], o: usize, j: usize, room: &[u8], k: usize) -> usize {
-    let told = put_bytes(&mut *out, 0, b"= event");
-    let owner = put_size(&mut *out, told, o);
-    let number = put_size(&mut *out, owner, j);
+    let number = put_form(&mut *out, 0, b"= event # #", [wide(o), wide(j), 0, 0]);
     put_front(&mut *out, number, room, k)
 }
 
