@@ -78,6 +78,11 @@ pub fn orders(setup: Setup) -> Vec<(&'static str, Vec<u8>)> {
         }
         deps
     };
+    // Four rows reach each other and all the rest, which goes out first.
+    let over = |o: usize, _| match o {
+        0..4 => [last; 7],
+        _ => [0; 7],
+    };
     vec![
         ("chain", table(setup, |o, j| on_the_one_before(n, o, j))),
         ("one cycle", table(setup, cycle)),
@@ -89,6 +94,7 @@ pub fn orders(setup: Setup) -> Vec<(&'static str, Vec<u8>)> {
         ),
         ("rows against the order", table(setup, against)),
         ("a saw of two rows", table(setup, saw)),
+        ("four rows over three", table(setup, over)),
     ]
 }
 

@@ -176,7 +176,8 @@ impl Next {
             HELD if self.state[self.held[x] as usize] == OUT => {}
             _ => return false,
         }
-        if let Some(y) = self.holder(p, k) {
+        let from = if self.state[x] == HELD { self.held[x] as usize } else { 0 };
+        if let Some(y) = self.holder(p, k, from) {
             self.held[x] = y as u16;
             self.state[x] = HELD;
             return false;
@@ -185,10 +186,11 @@ impl Next {
         true
     }
 
-    /// The first that is reached, was not handed out and does not reach back.
-    fn holder(&self, p: usize, k: usize) -> Option<usize> {
-        for q in 0..self.n {
-            for i in self.out[q]..self.reached[slot(p, k)][q] as usize {
+    /// The first, from a place on, that is reached, was not handed out and does not reach back.
+    fn holder(&self, p: usize, k: usize, from: usize) -> Option<usize> {
+        for q in from / 64..self.n {
+            let start = self.out[q].max(from.saturating_sub(64 * q));
+            for i in start..self.reached[slot(p, k)][q] as usize {
                 let y = 64 * q + i;
                 if self.state[y] != OUT && self.reached[y][p] < k as u16 {
                     return Some(y);

@@ -1,4 +1,5 @@
 // Puts answers into a lent line, with every field of a message in the order of the line.
+use forms::put_form;
 use nouns::command::op_number;
 use nouns::logic::wide8;
 use nouns::message::command_in;
@@ -7,39 +8,44 @@ use nouns::message::kind_of;
 use nouns::message::status_in;
 use nouns::message::voted_in;
 use paper::Body;
+use paper::Command;
 use paper::Message;
 use text::put::from16;
 use text::put::from32;
 use text::put::put_byte;
-use text::put::put_bytes;
 use text::put::put_number;
-use text::put::put_size;
+use text::put::wide;
 
 // The answer's first byte.
 pub fn begin(out: &mut [u8]) -> usize {
     put_byte(out, 0, b'=')
 }
 
+fn byte(x: u8) -> u64 {
+    wide(wide8(x))
+}
+
 fn put_names(out: &mut [u8], at: usize, m: Message) -> usize {
     let body = m.body;
-    let kind = put_size(&mut *out, at, wide8(kind_of(body)));
-    let from = put_size(&mut *out, kind, wide8(m.from));
-    let to = put_size(&mut *out, from, wide8(m.to));
-    let owner = put_size(&mut *out, to, wide8(m.owner));
-    let number = put_number(&mut *out, owner, from16(m.number));
-    put_number(&mut *out, number, from32(m.ballot))
+    let kind = byte(kind_of(body));
+    let copies = [kind, byte(m.from), byte(m.to), byte(m.owner)];
+    let owner = put_form(&mut *out, at, b" # # # #", copies);
+    let rest = [from16(m.number), from32(m.ballot), 0, 0];
+    put_form(&mut *out, owner, b" # #", rest)
 }
 
 // What only some kinds carry, 0 where this one does not.
 fn put_body(out: &mut [u8], at: usize, body: Body) -> usize {
-    let command = command_in(body);
-    let op = command.op;
-    let voted = put_number(&mut *out, at, from32(voted_in(body)));
-    let status = put_size(&mut *out, voted, wide8(status_in(body)));
-    let joined = put_number(&mut *out, status, from32(joined_in(body)));
-    let done = put_size(&mut *out, joined, op_number(op));
-    let key = put_number(&mut *out, done, from32(command.key));
-    put_number(&mut *out, key, command.edit)
+    let status = byte(status_in(body));
+    let told = [from32(voted_in(body)), status, from32(joined_in(body)), 0];
+    let joined = put_form(&mut *out, at, b" # # #", told);
+    put_command(&mut *out, joined, command_in(body))
+}
+
+fn put_command(out: &mut [u8], at: usize, k: Command) -> usize {
+    let op = k.op;
+    let v = [wide(op_number(op)), from32(k.key), k.edit, 0];
+    put_form(out, at, b" # # #", v)
 }
 
 fn put_deps(out: &mut [u8], at: usize, deps: [u16; 7]) -> usize {

@@ -1,6 +1,7 @@
 // The settled question and the hand-out.
 use crate::event::put_no;
 use crate::told::Told;
+use forms::put_form;
 use nouns::command::op_number;
 use order::Handing;
 use order::Settling;
@@ -11,24 +12,19 @@ use text::put::from32;
 use text::put::put_byte;
 use text::put::put_bytes;
 use text::put::put_decimal;
-use text::put::put_number;
-use text::put::put_size;
+use text::put::wide;
 use text::words::last_number;
 use text::words::last_numbers;
 use text::words::size;
 
 fn put_settled(out: &mut [u8], k: Command) -> usize {
     let op = k.op;
-    let told = put_bytes(&mut *out, 0, b"= settled");
-    let done = put_size(&mut *out, told, op_number(op));
-    let key = put_number(&mut *out, done, from32(k.key));
-    put_number(&mut *out, key, k.edit)
+    let v = [wide(op_number(op)), from32(k.key), k.edit, 0];
+    put_form(out, 0, b"= settled # # #", v)
 }
 
 fn put_waits(out: &mut [u8], o: usize, j: usize) -> usize {
-    let told = put_bytes(&mut *out, 0, b"= waits");
-    let owner = put_size(&mut *out, told, o);
-    put_size(&mut *out, owner, j)
+    put_form(out, 0, b"= waits # #", [wide(o), wide(j), 0, 0])
 }
 
 fn put_settling(out: &mut [u8], answer: Settling) -> usize {

@@ -16,11 +16,10 @@ use text::words::word_is;
 // The call whose name begins at a place of the line.
 fn call(line: &[u8], at: usize, w: Told, t: &mut [u8], room: &mut [u8], out: &mut [u8]) -> usize {
     let next = next_word(line, at);
-    match which_word(line, at, b"request|message|recover|nudge|settled|handout") {
-        0 => event::request(line, next, w, t, room, out),
-        1 => event::message(line, next, w, t, room, out),
-        2 => event::recover(line, next, w, t, room, out),
-        3 => event::nudge(line, next, w, t, room, out),
+    let name = which_word(line, at, b"request|recover|nudge|message|settled|handout");
+    match name {
+        0 | 1 | 2 => event::by_numbers(line, next, name, w, t, room, out),
+        3 => event::message(line, next, w, t, room, out),
         4 => asked::settled(line, next, w, &*t, out),
         5 => asked::hand_out(line, next, w, t, out),
         _ => bad_line(out),

@@ -3,7 +3,6 @@ use crate::picture::Picture;
 use forms::put_form;
 use text::bytes::front;
 use text::put::finish;
-use text::put::put_byte;
 use text::put::put_bytes;
 use text::put::wide;
 
@@ -46,9 +45,8 @@ pub fn write_instance(p: Picture, x: usize, y: usize, o: usize, j: usize, out: &
     );
 }
 
-// The same as one byte after the other; the picture's own text has none that SVG takes for its own.
+// A part without numbers.
 pub fn put_line(line: &[u8], out: &mut [u8]) {
-    let at = put_bytes(&mut *out, 0, line);
-    let end = put_byte(&mut *out, at, b' ');
+    let end = put_bytes(&mut *out, 0, line);
     finish(&mut *out, end);
 }
