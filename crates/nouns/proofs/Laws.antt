@@ -2,12 +2,11 @@
 -- test. Assumes nothing.
 use mathlib.Core.Path.{_≡_, sym, _∙_}
 use mathlib.Core.Bool.{Bool, true, false, _&&_}
-use Prim.Native.Nat.{ℕ, _%_, _≤_}
-use native.Mathlib.Omega.{arith}
+use Prim.Native.Nat.{ℕ, _%_}
 use mathlib.Core.List.{List, [], _∷_}
 use lib.Dec.{leb, ltb, eqb}
 use lib.ListN.{getD}
-use borrow.Author.Tests.{lt-ltb, eq-eqb, ne-eqb}
+use borrow.Author.Tests.{eq-eqb, ne-eqb}
 use Rattle.paper.specs.Ballot.{ballotOk}
 use Rattle.paper.specs.Command.{isNoop, commandOk}
 use Rattle.paper.specs.Deps.{larger, joinFrom, join, noDeps, sameDeps, depsOk}
@@ -26,12 +25,6 @@ pub joined : (d e : List ℕ) {x0 x1 x2 x3 x4 x5 x6 : ℕ} → x0 ≡ larger (ge
     → x5 ≡ larger (getD d 5 0) (getD e 5 0) → x6 ≡ larger (getD d 6 0) (getD e 6 0) → x0 ∷ x1 ∷ x2 ∷ x3 ∷ x4 ∷ x5 ∷ x6 ∷ [] ≡ join d e
 unfolding joinFrom
 joined d e p0 p1 p2 p3 p4 p5 p6 = rw (p0, p1, p2, p3, p4, p5, p6)
-
--- seven copies or more: no entry is past them
-pub deps-seven : (n s : ℕ) (d : List ℕ) → 7 ≤ n → depsOk 7 s d ≡ depsOk n s d
-unfolding depsOk allBelow
-deps-seven n s d h =
-    rw (lt-ltb 0 n (omega arith), lt-ltb 1 n (omega arith), lt-ltb 2 n (omega arith), lt-ltb 3 n (omega arith), lt-ltb 4 n (omega arith), lt-ltb 5 n (omega arith), lt-ltb 6 n (omega arith))
 
 -- status 0 alone asks for anything
 pub some-status : (v : Vote) → (v .status ≡ 0 → ⊥) → true ≡ noneIsBlank v

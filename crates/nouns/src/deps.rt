@@ -17,7 +17,7 @@ fn entry_ok(n: usize, s: usize, i: usize, x: u16) -> bool
     at_most(wide16(x), entry_limit(n, s, i))
 }
 
-fn entries_ok(n: usize, s: usize, d: [u16; 7]) -> bool
+pub fn deps_ok(n: usize, s: usize, d: [u16; 7]) -> bool
     ensures { λ r. ⌜ r ≡ depsOk n s d ⌝ }
 {
     let d0 = entry_ok(n, s, 0, d[0]);
@@ -28,16 +28,6 @@ fn entries_ok(n: usize, s: usize, d: [u16; 7]) -> bool
     let d5 = entry_ok(n, s, 5, d[5]);
     let d6 = entry_ok(n, s, 6, d[6]);
     all_seven(d0, d1, d2, d3, d4, d5, d6)
-}
-
-// With seven copies every entry has the same limit: said as a number, it is compared with as it stands.
-pub fn deps_ok(n: usize, s: usize, d: [u16; 7]) -> bool
-    ensures { λ r. ⌜ r ≡ depsOk n s d ⌝ }
-{
-    if 7 <= n {
-        return entries_ok(7, s, d);
-    }
-    entries_ok(n, s, d)
 }
 
 fn same_entry(a: u16, b: u16) -> bool

@@ -2,12 +2,14 @@
 use mathlib.Core.Path.{_≡_, refl, sym, ap, _∙_}
 use mathlib.Core.Bool.{Bool, true, false, _&&_}
 use mathlib.Core.List.{List}
-use Prim.Native.Nat.{ℕ, zero, suc}
+use Prim.Native.Nat.{ℕ, zero, suc, _≤_}
+use native.Mathlib.Omega.{arith}
 use lib.Dec.{leb, eqb}
-use borrow.Author.Tests.{eq-eqb, ne-eqb}
+use borrow.Author.Tests.{lt-ltb, eq-eqb, ne-eqb}
 use Rattle.num.specs.Num.{numAt}
 use Rattle.codec.specs.Parts.{opOf, commandAt, depsAt, voteAt}
 use Rattle.paper.specs.Command.{opNumber, commandOk}
+use Rattle.paper.specs.Logic.{allBelow}
 use Rattle.paper.specs.Deps.{depsOk}
 use Rattle.paper.specs.Vote.{noneIsBlank}
 use Rattle.sound.specs.Asked.{ballotsOk, markedOk, phasedOk}
@@ -36,6 +38,12 @@ module _ (b : List ℕ) {x : ℕ} (ex : x ≡ numAt 1 b 9) where
 pub none-some : (b : List ℕ) {x : ℕ} → x ≡ numAt 1 b 8 → (x ≡ 0 → ⊥) → true ≡ noneIsBlank (voteAt b 4)
 unfolding noneIsBlank voteAt
 none-some b ex h = rw (ne-eqb (numAt 1 b 8) 0 (λ z. h (ex ∙ z)))
+
+-- seven copies or more: no entry is past them
+pub deps-seven : (n s : ℕ) (d : List ℕ) → 7 ≤ n → depsOk 7 s d ≡ depsOk n s d
+unfolding depsOk allBelow
+deps-seven n s d h =
+    rw (lt-ltb 0 n (omega arith), lt-ltb 1 n (omega arith), lt-ltb 2 n (omega arith), lt-ltb 3 n (omega arith), lt-ltb 4 n (omega arith), lt-ltb 5 n (omega arith), lt-ltb 6 n (omega arith))
 
 module _ (n s : ℕ) (b : List ℕ) where
   pub front-ballots : ballotsOk n (numAt 4 b 0) (numAt 4 b 4) ≡ false → false ≡ frontOk n s b

@@ -19,8 +19,9 @@ ghost use lib.ListN.{length};
 ghost use Rattle.num.specs.Num.{splice};
 ghost use Rattle.paper.specs.Logic.{allBelow};
 ghost use Rattle.paper.specs.Sound.{phasesOk};
+ghost use Rattle.paper.specs.Deps.{depsOk};
 ghost use Rattle.paper.specs.Vote.{noneIsBlank};
-ghost use Rattle.codec.specs.Parts.{voteAt};
+ghost use Rattle.codec.specs.Parts.{depsAt, voteAt};
 ghost use Rattle.record.specs.Layout.{votesAt, votesBytes, recordAt, frontBytes, recordBytes};
 ghost use Rattle.record.specs.Part.{opFits, commandFits, frontOk, plainOk, replyPart, noReplies, isIdle, idleOk, soundPart};
 
@@ -131,6 +132,18 @@ fn none_ok(b: &[u8]) -> bool
     none_is_blank(codec::read_vote(b, 4))
 }
 
+// With seven copies every entry has the same limit: said as a number, it is compared with as it stands.
+fn deps_fit(b: &[u8], n: usize, s: usize) -> bool
+    requires { ⌜ 263 ≤ length (now b) ⌝ }
+    ensures { λ r. ⌜ r ≡ depsOk n s (depsAt (now (b .entry)) 22) ⌝ }
+{
+    let d = codec::read_deps(b, 22);
+    if 7 <= n {
+        return deps_ok(7, s, d);
+    }
+    deps_ok(n, s, d)
+}
+
 // What holds in any phase of all that stands before the phase. Each field is read where it is asked.
 fn front_ok(b: &[u8], n: usize, s: usize) -> bool
     requires { ⌜ 263 ≤ length (now b) ⌝ }
@@ -148,7 +161,7 @@ fn front_ok(b: &[u8], n: usize, s: usize) -> bool
     if !none_ok(b) {
         return false;
     }
-    deps_ok(n, s, codec::read_deps(b, 22))
+    deps_fit(b, n, s)
 }
 
 // What holds in any phase.

@@ -1,4 +1,5 @@
 // Whether a record is sound, by value and a part at a time: each line is a clause of the paper, in the order of paper/specs/Sound.
+// Ranges and votes are asked field by field, as specs/Asked has them.
 use nouns::ballot::ballot_ok;
 use nouns::ballot::lead_of;
 use nouns::command::is_noop;

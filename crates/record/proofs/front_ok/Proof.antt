@@ -1,81 +1,52 @@
 use borrow.Author.Needs.{needs}
 use Rattle.record.proofs.front_ok.Statement.{statement}
 use Rattle.record.proofs.front_ok.Tie as tie
-use Rattle.record.proofs.front_ok.Reads as reads
-use Rattle.record.proofs.front_ok.Lts as lts
-use Rattle.codec.proofs.read_deps.Reads as read-deps-reads
-use Rattle.nouns.proofs.deps.deps_ok.Reads as deps-ok-reads
-use Rattle.num.proofs.get_u32.Reads as get-u32-reads
-use Rattle.num.proofs.get_u8.Reads as get-u8-reads
-use Rattle.record.proofs.command_fits.Reads as command-fits-reads
-use Rattle.record.proofs.none_ok.Reads as none-ok-reads
-use Rattle.sound.proofs.ballots_ok.Reads as ballots-ok-reads
-use Rattle.sound.proofs.marked_ok.Reads as marked-ok-reads
 use mathlib.Core.Path.{_≡_, refl, sym, ap, ap₂, _∙_}
 use borrow.Author.Tests.{not-true, not-false}
-use Rattle.paper.specs.Deps.{depsOk}
 use Rattle.sound.specs.Asked.{ballotsOk, markedOk}
 use Rattle.record.proofs.Front.{front-ballots, front-command, front-mark, front-none, front-deps}
 
--- src/lib.rt:139:23
 get-u32-requires : tie.Need-get-u32-requires
 get-u32-requires c κs = search needs
 
--- src/lib.rt:139:43
 get-u32-requires-2 : tie.Need-get-u32-requires-2
 get-u32-requires-2 c κs = search needs
 
--- src/lib.rt:139:9
 ballots-ok-requires : tie.Need-ballots-ok-requires
 ballots-ok-requires c κs = search needs
 
--- src/lib.rt:140:9
 returns : tie.Need-returns
 returns c = front-ballots _ _ _ (sym (c .before .ballots-ok .ensures ∙ ap₂ (ballotsOk (c .before .before .before .before .before .args .n)) (c .before .before .before .get-u32 .ensures) (c .before .before .get-u322 .ensures)) ∙ not-true _ (c .if1 .taken))
 
--- src/lib.rt:142:9
 command-fits-requires : tie.Need-command-fits-requires
 command-fits-requires c κs = search needs
 
--- src/lib.rt:143:9
 returns-2 : tie.Need-returns-2
 returns-2 c = front-command _ _ _ (sym (c .before .before .before .ballots-ok .ensures ∙ ap₂ (ballotsOk (c .before .before .before .before .before .before .before .args .n)) (c .before .before .before .before .before .get-u32 .ensures) (c .before .before .before .before .get-u322 .ensures)) ∙ not-false _ (c .before .before .if1 .left)) (sym (c .before .command-fits .ensures) ∙ not-true _ (c .if2 .taken))
 
--- src/lib.rt:145:19
 get-u8-requires : tie.Need-get-u8-requires
 get-u8-requires c κs = search needs
 
--- src/lib.rt:145:38
 get-u8-requires-2 : tie.Need-get-u8-requires-2
 get-u8-requires-2 c κs = search needs
 
--- src/lib.rt:145:9
 marked-ok-requires : tie.Need-marked-ok-requires
 marked-ok-requires c κs = search needs
 
--- src/lib.rt:146:9
 returns-3 : tie.Need-returns-3
 returns-3 c = front-mark _ _ _ (sym (c .before .before .before .before .before .before .before .ballots-ok .ensures ∙ ap₂ (ballotsOk (c .before .before .before .before .before .before .before .before .before .before .before .args .n)) (c .before .before .before .before .before .before .before .before .before .get-u32 .ensures) (c .before .before .before .before .before .before .before .before .get-u322 .ensures)) ∙ not-false _ (c .before .before .before .before .before .before .if1 .left)) (sym (c .before .before .before .before .before .command-fits .ensures) ∙ not-false _ (c .before .before .before .before .if2 .left)) (sym (c .before .marked-ok .ensures ∙ ap₂ markedOk (c .before .before .before .get-u8 .ensures) (c .before .before .get-u82 .ensures)) ∙ not-true _ (c .if3 .taken))
 
--- src/lib.rt:148:9
 none-ok-requires : tie.Need-none-ok-requires
 none-ok-requires c κs = search needs
 
--- src/lib.rt:149:9
 returns-4 : tie.Need-returns-4
 returns-4 c = front-none _ _ _ (sym (c .before .before .before .before .before .before .before .before .before .ballots-ok .ensures ∙ ap₂ (ballotsOk (c .before .before .before .before .before .before .before .before .before .before .before .before .before .args .n)) (c .before .before .before .before .before .before .before .before .before .before .before .get-u32 .ensures) (c .before .before .before .before .before .before .before .before .before .before .get-u322 .ensures)) ∙ not-false _ (c .before .before .before .before .before .before .before .before .if1 .left)) (sym (c .before .before .before .before .before .before .before .command-fits .ensures) ∙ not-false _ (c .before .before .before .before .before .before .if2 .left)) (sym (c .before .before .before .marked-ok .ensures ∙ ap₂ markedOk (c .before .before .before .before .before .get-u8 .ensures) (c .before .before .before .before .get-u82 .ensures)) ∙ not-false _ (c .before .before .if3 .left)) (sym (c .before .none-ok .ensures) ∙ not-true _ (c .if4 .taken))
 
--- src/lib.rt:151:19
-read-deps-requires : tie.Need-read-deps-requires
-read-deps-requires c κs = search needs
+deps-fit-requires : tie.Need-deps-fit-requires
+deps-fit-requires c κs = search needs
 
--- src/lib.rt:151:5
-deps-ok-requires : tie.Need-deps-ok-requires
-deps-ok-requires c κs = search needs
-
--- src/lib.rt:135:1
 returns-5 : tie.Need-returns-5
-returns-5 c = c .deps-ok .ensures ∙ ap (depsOk (c .before .before .before .before .before .before .before .before .before .before .before .before .before .before .before .args .n) (c .before .before .before .before .before .before .before .before .before .before .before .before .before .before .before .args .s)) (c .before .read-deps .ensures) ∙ front-deps _ _ _ (sym (c .before .before .before .before .before .before .before .before .before .before .before .ballots-ok .ensures ∙ ap₂ (ballotsOk (c .before .before .before .before .before .before .before .before .before .before .before .before .before .before .before .args .n)) (c .before .before .before .before .before .before .before .before .before .before .before .before .before .get-u32 .ensures) (c .before .before .before .before .before .before .before .before .before .before .before .before .get-u322 .ensures)) ∙ not-false _ (c .before .before .before .before .before .before .before .before .before .before .if1 .left)) (sym (c .before .before .before .before .before .before .before .before .before .command-fits .ensures) ∙ not-false _ (c .before .before .before .before .before .before .before .before .if2 .left)) (sym (c .before .before .before .before .before .marked-ok .ensures ∙ ap₂ markedOk (c .before .before .before .before .before .before .before .get-u8 .ensures) (c .before .before .before .before .before .before .get-u82 .ensures)) ∙ not-false _ (c .before .before .before .before .if3 .left)) (sym (c .before .before .before .none-ok .ensures) ∙ not-false _ (c .before .before .if4 .left))
+returns-5 c = c .deps-fit .ensures ∙ front-deps _ _ _ (sym (c .before .before .before .before .before .before .before .before .before .before .ballots-ok .ensures ∙ ap₂ (ballotsOk (c .before .before .before .before .before .before .before .before .before .before .before .before .before .before .args .n)) (c .before .before .before .before .before .before .before .before .before .before .before .before .get-u32 .ensures) (c .before .before .before .before .before .before .before .before .before .before .before .get-u322 .ensures)) ∙ not-false _ (c .before .before .before .before .before .before .before .before .before .if1 .left)) (sym (c .before .before .before .before .before .before .before .before .command-fits .ensures) ∙ not-false _ (c .before .before .before .before .before .before .before .if2 .left)) (sym (c .before .before .before .before .marked-ok .ensures ∙ ap₂ markedOk (c .before .before .before .before .before .before .get-u8 .ensures) (c .before .before .before .before .before .get-u82 .ensures)) ∙ not-false _ (c .before .before .before .if3 .left)) (sym (c .before .before .none-ok .ensures) ∙ not-false _ (c .before .if4 .left))
 
 pub front-ok-spec : {M : Type 1} → statement M
 front-ok-spec =
@@ -93,6 +64,5 @@ front-ok-spec =
     returns-3
     none-ok-requires
     returns-4
-    read-deps-requires
-    deps-ok-requires
+    deps-fit-requires
     returns-5)

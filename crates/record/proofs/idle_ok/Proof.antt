@@ -1,27 +1,19 @@
 use borrow.Author.Needs.{needs}
 use Rattle.record.proofs.idle_ok.Statement.{statement}
 use Rattle.record.proofs.idle_ok.Tie as tie
-use Rattle.record.proofs.idle_ok.Reads as reads
-use Rattle.record.proofs.idle_ok.Lts as lts
-use Rattle.record.proofs.front_ok.Reads as front-ok-reads
-use Rattle.record.proofs.is_idle.Reads as is-idle-reads
 use mathlib.Core.Path.{_≡_, refl, sym, ap, ap₂, _∙_}
 use borrow.Author.Tests.{not-true, not-false}
 use Rattle.record.proofs.Front.{idle-not, idle-front}
 
--- src/lib.rt:244:9
 is-idle-requires : tie.Need-is-idle-requires
 is-idle-requires c κs = search needs
 
--- src/lib.rt:245:9
 returns : tie.Need-returns
 returns c = idle-not _ _ _ (sym (c .before .is-idle .ensures) ∙ not-true _ (c .if1 .taken))
 
--- src/lib.rt:247:5
 front-ok-requires : tie.Need-front-ok-requires
 front-ok-requires c κs = search needs
 
--- src/lib.rt:240:1
 returns-2 : tie.Need-returns-2
 returns-2 c = c .front-ok .ensures ∙ idle-front _ _ _ (sym (c .before .before .is-idle .ensures) ∙ not-false _ (c .before .if1 .left))
 

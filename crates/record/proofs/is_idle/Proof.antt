@@ -1,34 +1,24 @@
 use borrow.Author.Needs.{needs}
 use Rattle.record.proofs.is_idle.Statement.{statement}
 use Rattle.record.proofs.is_idle.Tie as tie
-use Rattle.record.proofs.is_idle.Reads as reads
-use Rattle.record.proofs.is_idle.Lts as lts
-use Rattle.num.proofs.get_u8.Reads as get-u8-reads
-use Rattle.record.proofs.no_replies.Reads as no-replies-reads
 use mathlib.Core.Path.{_≡_, refl, sym, ap, ap₂, _∙_}
 use Rattle.record.proofs.Front.{in-phase, some-set, empty-set}
 
--- src/lib.rt:228:9
 get-u8-requires : tie.Need-get-u8-requires
 get-u8-requires c κs = search needs
 
--- src/lib.rt:230:9
 returns : tie.Need-returns
 returns c = in-phase _ (c .before .get-u8 .ensures) (c .if1 .taken)
 
--- src/lib.rt:232:9
 get-u8-requires-2 : tie.Need-get-u8-requires-2
 get-u8-requires-2 c κs = search needs
 
--- src/lib.rt:234:9
 returns-2 : tie.Need-returns-2
 returns-2 c = some-set _ (c .before .before .before .get-u8 .ensures) (c .before .before .if1 .left) (c .before .get-u82 .ensures) (c .if2 .taken)
 
--- src/lib.rt:236:5
 no-replies-requires : tie.Need-no-replies-requires
 no-replies-requires c κs = search needs
 
--- src/lib.rt:224:1
 returns-3 : tie.Need-returns-3
 returns-3 c = c .no-replies .ensures ∙ empty-set _ (c .before .before .before .before .get-u8 .ensures) (c .before .before .before .if1 .left) (c .before .before .get-u82 .ensures) (c .before .if2 .left)
 

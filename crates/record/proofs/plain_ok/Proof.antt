@@ -1,37 +1,26 @@
 use borrow.Author.Needs.{needs}
 use Rattle.record.proofs.plain_ok.Statement.{statement}
 use Rattle.record.proofs.plain_ok.Tie as tie
-use Rattle.record.proofs.plain_ok.Reads as reads
-use Rattle.record.proofs.plain_ok.Lts as lts
-use Rattle.num.proofs.get_u8.Reads as get-u8-reads
-use Rattle.record.proofs.front_ok.Reads as front-ok-reads
-use Rattle.sound.proofs.phased_ok.Reads as phased-ok-reads
 use mathlib.Core.Path.{_≡_, refl, sym, ap, ap₂, _∙_}
 use borrow.Author.Tests.{not-true, not-false}
 use Rattle.sound.specs.Asked.{phasedOk}
 use Rattle.record.proofs.Front.{plain-front, plain-phased}
 
--- src/lib.rt:159:9
 front-ok-requires : tie.Need-front-ok-requires
 front-ok-requires c κs = search needs
 
--- src/lib.rt:160:9
 returns : tie.Need-returns
 returns c = plain-front _ _ _ (sym (c .before .front-ok .ensures) ∙ not-true _ (c .if1 .taken))
 
--- src/lib.rt:162:18
 get-u8-requires : tie.Need-get-u8-requires
 get-u8-requires c κs = search needs
 
--- src/lib.rt:162:38
 get-u8-requires-2 : tie.Need-get-u8-requires-2
 get-u8-requires-2 c κs = search needs
 
--- src/lib.rt:162:5
 phased-ok-requires : tie.Need-phased-ok-requires
 phased-ok-requires c κs = search needs
 
--- src/lib.rt:155:1
 returns-2 : tie.Need-returns-2
 returns-2 c = c .phased-ok .ensures ∙ ap₂ (phasedOk (c .before .before .before .before .before .before .args .n)) (c .before .before .get-u8 .ensures) (c .before .get-u82 .ensures) ∙ plain-phased _ _ _ (sym (c .before .before .before .before .front-ok .ensures) ∙ not-false _ (c .before .before .before .if1 .left))
 

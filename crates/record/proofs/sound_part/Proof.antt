@@ -1,36 +1,25 @@
 use borrow.Author.Needs.{needs}
 use Rattle.record.proofs.sound_part.Statement.{statement}
 use Rattle.record.proofs.sound_part.Tie as tie
-use Rattle.record.proofs.sound_part.Reads as reads
-use Rattle.record.proofs.sound_part.Lts as lts
-use Rattle.record.proofs.phase_ok.Reads as phase-ok-reads
-use Rattle.record.proofs.plain_ok.Reads as plain-ok-reads
-use Rattle.record.proofs.replies_ok.Reads as replies-ok-reads
 use mathlib.Core.Path.{_≡_, refl, sym, ap, ap₂, _∙_}
 use borrow.Author.Tests.{not-true, not-false}
 use Rattle.record.proofs.Laws.{unsound-plain, unsound-phase, sound-replies}
 
--- src/lib.rt:255:9
 plain-ok-requires : tie.Need-plain-ok-requires
 plain-ok-requires c κs = search needs
 
--- src/lib.rt:256:9
 returns : tie.Need-returns
 returns c = unsound-plain _ _ _ _ _ (sym (c .before .plain-ok .ensures) ∙ not-true _ (c .if1 .taken))
 
--- src/lib.rt:258:9
 phase-ok-requires : tie.Need-phase-ok-requires
 phase-ok-requires c κs = search needs
 
--- src/lib.rt:259:9
 returns-2 : tie.Need-returns-2
 returns-2 c = unsound-phase _ _ _ _ _ (sym (c .before .before .before .plain-ok .ensures) ∙ not-false _ (c .before .before .if1 .left)) (sym (c .before .phase-ok .ensures) ∙ not-true _ (c .if2 .taken))
 
--- src/lib.rt:261:5
 replies-ok-requires : tie.Need-replies-ok-requires
 replies-ok-requires c κs = search needs
 
--- src/lib.rt:251:1
 returns-3 : tie.Need-returns-3
 returns-3 c = c .replies-ok .ensures ∙ sound-replies _ _ _ _ _ (sym (c .before .before .before .before .plain-ok .ensures) ∙ not-false _ (c .before .before .before .if1 .left)) (sym (c .before .before .phase-ok .ensures) ∙ not-false _ (c .before .if2 .left))
 
