@@ -1,4 +1,4 @@
-//! bench [quick | orders]: the library beside the second program, as Markdown for docs/BENCH.md. Every figure of a line was
+//! bench [quick | messages | orders]: the library beside the second program, as Markdown for docs/BENCH.md. Every figure of a line was
 //! measured in the same rounds, turn and turn about; times are medians.
 
 use compare::both::{library_side, second_side, Call, Lent, LIST, OUT};
@@ -20,8 +20,10 @@ fn main() {
         // Short turns and many of them: what another program takes of the processor then falls into few of them.
         _ => Rounds { rounds: 101, each: Duration::from_micros(200) },
     };
-    if word == "orders" {
-        return orders(&rounds);
+    match &word[..] {
+        "messages" => return messages(&rounds),
+        "orders" => return orders(&rounds),
+        _ => {}
     }
     limits(&rounds);
     largest(&rounds);
