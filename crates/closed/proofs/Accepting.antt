@@ -13,10 +13,11 @@ use Rattle.rules.specs.Sets.{others}
 use Rattle.rules.specs.Accepting.{joinAll, accepting, acceptingJoin}
 use Rattle.rules.specs.Afresh.{afresh}
 use Rattle.rules.specs.Committing.{committed, committing}
-use Rattle.closed.specs.Fits.{CommandFits, DepsFit}
+use Rattle.paper.specs.Fits.{CommandFits, DepsFit}
 use Rattle.closed.specs.Held.{Held, Closed}
 use Rattle.closed.proofs.Sound.{sound-is}
-use Rattle.closed.proofs.Deps.{joins-ok, joins-length, deps-fit}
+use Rattle.rules.proofs.Joins.{joins-seven}
+use Rattle.closed.proofs.Deps.{joins-ok, deps-fit}
 use Rattle.closed.proofs.Votes.{vote-in, vote-is, none-in, reply-is}
 use Rattle.closed.proofs.Shapes.{Spot, idle-held, preaccepting-held, accepting-held, unmarked}
 use Rattle.closed.proofs.Says.{to-others, preaccept-sent, accept-sent, commit-sent}
@@ -57,7 +58,7 @@ module _ (n s c o j : ℕ) (p : Spot n s c o j) where
         let d = joins-ok n s (r .vote .deps) (r .replies) (v .deps) (λ q. reply-is n s c r (f .own) (f .replies) (h .fits .seven) q .deps) in
         accepting-closed r (f .joined) (h .fits .joined) (f .leads (omega arith)) (unmarked n s c o r f (λ z. omega arith)) (r .vote .command) (v .command) (g .command)
         (joinAll (r .vote .deps) (r .replies)) d
-        (deps-fit n s (joinAll (r .vote .deps) (r .replies)) (p .numbers) (joins-length n s (r .vote .deps) (r .replies) (g .deps .seven)) d)
+        (deps-fit n s (joinAll (r .vote .deps) (r .replies)) (p .numbers) (joins-seven (r .vote .deps) (r .replies) (g .deps .seven)) d)
 
     -- committing keeps both ballots
     pub committed-held : (k : Command) → commandOk k ≡ true → CommandFits k → (d : List ℕ) → depsOk n s d ≡ true → DepsFit d → Held n s c o (committed r k d)

@@ -28,7 +28,7 @@ use Rattle.rules.specs.Events.{put, requestNumber, onRequest, onMessage, onReco
 use Rattle.rules.specs.declared.First.{First}
 use Rattle.rules.specs.declared.First.the-variants.{At, Nowhere}
 use Rattle.rules.specs.Order.{candidate, marked, mark, nextOut, found, handedOut}
-use Rattle.closed.specs.Fits.{CommandFits, MessageFits}
+use Rattle.paper.specs.Fits.{CommandFits, MessageFits}
 use Rattle.closed.specs.Held.{Held, Sent, Closed, SoundRecords}
 use Rattle.closed.proofs.Laws.{both, by-cond, two}
 use Rattle.closed.proofs.Deps.{seen-ok, seen-length, deps-fit}

@@ -2,21 +2,23 @@
 use Prim.Native.Nat.{ℕ, zero, suc, _+_, _^_, _≤_, _<_}
 use mathlib.Core.Path.{_≡_, refl}
 use mathlib.Core.Bool.{Bool, true, false, cond}
+use mathlib.Core.Logic.{⊎-elim}
 use mathlib.Core.List.{List, [], _∷_}
 use native.Mathlib.Omega.{arith}
 use native.Mathlib.Decide.{decLt}
 use lib.Dec.{ltb, eqb}
 use lib.ListN.{length, getD, getD-replicate, List·getD-eq-default}
 use borrow.Author.Tests.{leb-true, eqb-true, le-leb}
-use Rattle.paper.specs.Deps.{noDeps, entryLimit, entryOk, depsOk, sameDeps, larger, joinFrom, join}
+use Rattle.paper.specs.Deps.{noDeps, entryLimit, entryOk, depsOk, sameDeps, join}
 use Rattle.paper.specs.Vote.{noVote}
 use Rattle.paper.specs.declared.Command.{Command}
 use Rattle.paper.specs.declared.Vote.{Vote}
 use Rattle.paper.proofs.Laws.{allBelow-at}
+use Rattle.paper.proofs.Deps.{join-entry}
 use Rattle.rules.specs.Sets.{highest}
 use Rattle.rules.specs.Accepting.{joinAll}
 use Rattle.rules.specs.Seen.{Records, met, seenEntry, seenFrom, seen}
-use Rattle.closed.specs.Fits.{DepsFit}
+use Rattle.paper.specs.Fits.{DepsFit}
 use Rattle.closed.proofs.Laws.{by-cond, all-in}
 
 module _ (n s : ℕ) where
@@ -48,34 +50,16 @@ module _ (n s : ℕ) where
   same-ok d e h k =
       deps-in d (λ i l. let z = eqb-true (getD d i 0) (getD e i 0) (allBelow-at 7 (λ i. eqb (getD d i 0) (getD e i 0)) h i l) in omega (arith, deps-at e k i l))
 
-  larger-le : (a b m : ℕ) → a ≤ m → b ≤ m → larger a b ≤ m
-  larger-le a b m p q = by-cond (λ (x : ℕ). x ≤ m) (ltb a b) (λ e. q) (λ e. p)
-
-  join-at : (k i p : ℕ) (d e : List ℕ) → p < k → getD (joinFrom k d e i) p 0 ≡ larger (getD d (i + p) 0) (getD e (i + p) 0)
-  unfolding joinFrom
-  join-at zero i p d e l = absurd (omega arith)
-  join-at (suc k) i zero d e l = let z : i + 0 ≡ i = omega arith in rw z
-  join-at (suc k) i (suc p) d e l = let z : i + suc p ≡ i + 1 + p = omega arith in rw z (join-at k (i + 1) p d e (omega arith))
-
   pub join-ok : (d e : List ℕ) → depsOk n s d ≡ true → depsOk n s e ≡ true → depsOk n s (join d e) ≡ true
   join-ok d e p q =
       deps-in (join d e)
-      (λ i l. let z : 0 + i ≡ i = omega arith in rw (join-at 7 0 i d e l, z) (larger-le _ _ _ (deps-at d p i l) (deps-at e q i l)))
-
-  pub join-length : (d e : List ℕ) → length (join d e) ≡ 7
-  unfolding joinFrom
-  join-length d e = refl
+      (λ i l. ⊎-elim (λ (x : getD (join d e) i 0 ≡ getD d i 0). rw x (deps-at d p i l)) (λ (x : getD (join d e) i 0 ≡ getD e i 0). rw x (deps-at e q i l)) (join-entry d e i l .one))
 
   pub joins-ok : (d : List ℕ) (vs : List Vote) → depsOk n s d ≡ true → ((q : ℕ) → depsOk n s (getD vs q noVote .deps) ≡ true)
       → depsOk n s (joinAll d vs) ≡ true
   unfolding joinAll
   joins-ok d [] h k = h
   joins-ok d (v ∷ vs) h k = joins-ok (join d (v .deps)) vs (join-ok d (v .deps) h (k 0)) (λ q. k (suc q))
-
-  pub joins-length : (d : List ℕ) (vs : List Vote) → length d ≡ 7 → length (joinAll d vs) ≡ 7
-  unfolding joinAll
-  joins-length d [] l = l
-  joins-length d (v ∷ vs) l = joins-length (join d (v .deps)) vs (join-length d (v .deps))
 
   -- Seen
   highest-le : (k : ℕ) (f : ℕ → Bool) → highest k f ≤ k

@@ -16,7 +16,7 @@ use Rattle.paper.specs.declared.Record.{Record}
 use Rattle.paper.specs.declared.Body.{Body}
 use Rattle.paper.specs.declared.Message.{Message}
 use Rattle.rules.specs.Step.{awaited}
-use Rattle.closed.specs.Fits.{DepsFit, BodyFits, MessageFits}
+use Rattle.paper.specs.Fits.{DepsFit, BodyFits, MessageFits}
 use Rattle.closed.proofs.Laws.{two, three, four, five, both}
 
 -- of a message about an instance of owner o, with body x

@@ -15,11 +15,12 @@ use Rattle.paper.specs.declared.Message.{Message}
 use Rattle.rules.specs.Sets.{only}
 use Rattle.rules.specs.Step.{isCommitted}
 use Rattle.rules.specs.PreAccept.{votedAt, preAccepted, preAccept}
-use Rattle.closed.specs.Fits.{DepsFit}
+use Rattle.paper.specs.Fits.{DepsFit}
 use Rattle.closed.specs.Held.{Held, Closed}
 use Rattle.closed.proofs.Laws.{by-cond}
 use Rattle.closed.proofs.Sound.{sound-is}
-use Rattle.closed.proofs.Deps.{join-ok, join-length, deps-fit}
+use Rattle.paper.proofs.Deps.{join-seven}
+use Rattle.closed.proofs.Deps.{join-ok, deps-fit}
 use Rattle.closed.proofs.Votes.{vote-in, vote-is, none-in}
 use Rattle.closed.proofs.Shapes.{Spot, idle-held, unmarked}
 use Rattle.closed.proofs.Says.{back-to, preacceptok-sent}
@@ -47,7 +48,7 @@ module _ (n s c o j : ℕ) (p : Spot n s c o j) (r : Record) (h : Held n s c o r
       let back = back-to n s c o j p (m .from) (m .ballot) (t .from) (t .other) from-lead in
       let d = join (m .deps) seen in
       let hd = join-ok n s (m .deps) seen (t .deps) hs in
-      let fd = deps-fit n s d (p .numbers) (join-length n s (m .deps) seen) hd in
+      let fd = deps-fit n s d (p .numbers) (join-seven (m .deps) seen) hd in
       by-cond (Closed n s c o) (isCommitted r) (λ e. commit-back n s c o j p r h (m .from) (t .from) (t .other))
       (λ e. by-cond (Closed n s c o) (ltb (m .ballot) (r .joined))
       (λ l. nack-back n s c o j p r h m (t .from) (t .other) (t .ballot) (t .ballotFits) from-lead (ltb-true _ _ l))

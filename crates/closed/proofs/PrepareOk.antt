@@ -20,7 +20,7 @@ use Rattle.paper.specs.declared.Message.{Message}
 use Rattle.rules.specs.Sets.{those, lowest, with}
 use Rattle.rules.specs.Step.{collect, awaited}
 use Rattle.rules.specs.PrepareOk.{voter, topVoter, afreshCommand, acceptedFrom, decide, quorum, preparedBy, onPrepareOk}
-use Rattle.closed.specs.Fits.{CommandFits, DepsFit, VoteFits, VotesFit}
+use Rattle.paper.specs.Fits.{CommandFits, DepsFit, VoteFits, VotesFit}
 use Rattle.closed.specs.Held.{Held, Closed}
 use Rattle.closed.proofs.Laws.{by-cond}
 use Rattle.closed.proofs.Sound.{sound-is}

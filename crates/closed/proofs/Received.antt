@@ -13,7 +13,7 @@ use Rattle.paper.specs.declared.Body.{Body}
 use Rattle.paper.specs.declared.Body.the-variants.{PreAccept, PreAcceptOk, Accept, AcceptOk, Commit, Prepare, PrepareOk, Nack}
 use Rattle.paper.specs.declared.Message.{Message}
 use Rattle.rules.specs.Received.{byKind}
-use Rattle.closed.specs.Fits.{DepsFit, VoteFits}
+use Rattle.paper.specs.Fits.{DepsFit, VoteFits}
 use Rattle.closed.specs.Held.{Held, Closed}
 use Rattle.closed.proofs.Shapes.{Spot}
 use Rattle.closed.proofs.Heard.{Heard}

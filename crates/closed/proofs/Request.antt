@@ -10,7 +10,7 @@ use Rattle.paper.specs.Ballot.{lead}
 use Rattle.paper.specs.Vote.{blank}
 use Rattle.paper.specs.declared.Command.{Command}
 use Rattle.rules.specs.Request.{request}
-use Rattle.closed.specs.Fits.{CommandFits, DepsFit}
+use Rattle.paper.specs.Fits.{CommandFits, DepsFit}
 use Rattle.closed.specs.Held.{Closed}
 use Rattle.closed.proofs.Votes.{ballot-0}
 use Rattle.closed.proofs.Shapes.{Spot}

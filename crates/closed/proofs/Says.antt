@@ -24,11 +24,11 @@ use Rattle.paper.specs.declared.Message.{Message}
 use Rattle.rules.specs.Sets.{only, others, absent}
 use Rattle.rules.specs.Step.{say, silent, sending}
 use Rattle.rules.specs.Events.{addressed, messagesFrom}
-use Rattle.closed.specs.Fits.{CommandFits, DepsFit, VoteFits, BodyFits, MessageFits}
+use Rattle.paper.specs.Fits.{CommandFits, DepsFit, VoteFits, BodyFits, MessageFits}
 use Rattle.closed.specs.Held.{Taken, Sent}
 use Rattle.closed.proofs.Laws.{eqb-self, two, both, imp-in, not-in, is-false, tf}
 use Rattle.closed.proofs.Sets.{member-none, member-only-is, member-others, member-absent}
-use Rattle.closed.proofs.Votes.{no-deps-fit}
+use Rattle.paper.proofs.Deps.{none-fits}
 use Rattle.closed.proofs.Deps.{no-deps}
 use Rattle.closed.proofs.Shapes.{Spot}
 
@@ -167,7 +167,7 @@ module _ (n s c o j : ℕ) (p : Spot n s c o j) where
         record {
           each = λ q e. let (l, f) = away q e in taken q b Prepare noDeps l f hb (le-leb 8 b l8) (eq-eqb c (lead o b) (sym leads)) refl (rw (no-deps n s) refl);
           single = λ e. absurd (omega arith);
-          fits = fits b Prepare noDeps lb tt no-deps-fit;
+          fits = fits b Prepare noDeps lb tt none-fits;
         }
 
     -- kinds 2, 4, 7, 8 back to the lead
@@ -187,7 +187,7 @@ module _ (n s c o j : ℕ) (p : Spot n s c o j) where
           record {
             each = λ q e. let (l, f, g) = back q e in taken q b AcceptOk noDeps l f hb refl refl (eq-eqb q (lead o b) g) (rw (no-deps n s) refl);
             single = λ e. absurd (omega arith);
-            fits = fits b AcceptOk noDeps lb tt no-deps-fit;
+            fits = fits b AcceptOk noDeps lb tt none-fits;
           }
 
       pub nack-sent : (x : ℕ) → ballotOk n x ≡ true → x < 256 ^ 4 → b < x → Sent n s c (sending r to (say c o j b (Nack x) noDeps))
@@ -196,7 +196,7 @@ module _ (n s c o j : ℕ) (p : Spot n s c o j) where
           record {
             each = λ q e. let (l, f, g) = back q e in taken q b (Nack x) noDeps l f hb refl refl (eq-eqb q (lead o b) g) (rw (no-deps n s, hx, lt-ltb b x above) refl);
             single = λ e. absurd (omega arith);
-            fits = fits b (Nack x) noDeps lb lx no-deps-fit;
+            fits = fits b (Nack x) noDeps lb lx none-fits;
           }
 
   -- a PrepareOK goes to one copy
@@ -218,5 +218,5 @@ silent-sent n s c r =
     record {
       each = λ q e. absurd (tf _ e (member-none q));
       single = λ e. absurd (omega arith);
-      fits = record { from = omega arith; to = omega arith; owner = omega arith; number = omega arith; ballot = omega arith; body = tt; deps = no-deps-fit };
+      fits = record { from = omega arith; to = omega arith; owner = omega arith; number = omega arith; ballot = omega arith; body = tt; deps = none-fits };
     }

@@ -22,7 +22,7 @@ use Rattle.paper.specs.declared.Record.{Record}
 use Rattle.paper.proofs.Laws.{allBelow-at}
 use Rattle.rules.specs.Sets.{with}
 use Rattle.rules.specs.Step.{idle, begun, collect}
-use Rattle.closed.specs.Fits.{VoteFits}
+use Rattle.paper.specs.Fits.{VoteFits}
 use Rattle.closed.specs.Held.{Held}
 use Rattle.closed.proofs.Laws.{eqb-self, two, three, or-cases, all-in}
 use Rattle.closed.proofs.Sound.{Sound, sound-is, sound-in}

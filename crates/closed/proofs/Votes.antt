@@ -19,7 +19,8 @@ use Rattle.paper.specs.declared.Vote.{Vote}
 use Rattle.paper.specs.declared.Record.{Record}
 use Rattle.paper.proofs.Laws.{allBelow-at, sameCommand-eq}
 use Rattle.rules.specs.Step.{noReplies}
-use Rattle.closed.specs.Fits.{CommandFits, DepsFit, VoteFits, VotesFit}
+use Rattle.paper.proofs.Deps.{none-fits}
+use Rattle.paper.specs.Fits.{CommandFits, DepsFit, VoteFits, VotesFit}
 use Rattle.closed.proofs.Laws.{eqb-self, three, four, both, imp-in, all-in}
 use Rattle.closed.proofs.Deps.{no-deps, same-ok}
 
@@ -34,21 +35,8 @@ noop-ok = refl
 pub noop-fits : CommandFits noop
 noop-fits = omega arith
 
-pub no-deps-fit : DepsFit noDeps
-no-deps-fit = record { seven = refl; each = go }
-  where
-    go : (i : ℕ) → getD noDeps i 0 < 256 ^ 2
-    go zero = omega arith
-    go (suc zero) = omega arith
-    go (suc (suc zero)) = omega arith
-    go (suc (suc (suc zero))) = omega arith
-    go (suc (suc (suc (suc zero)))) = omega arith
-    go (suc (suc (suc (suc (suc zero))))) = omega arith
-    go (suc (suc (suc (suc (suc (suc zero)))))) = omega arith
-    go (suc (suc (suc (suc (suc (suc (suc i))))))) = omega arith
-
 pub no-vote-fits : VoteFits noVote
-no-vote-fits = record { voted = omega arith; status = omega arith; command = noop-fits; deps = no-deps-fit }
+no-vote-fits = record { voted = omega arith; status = omega arith; command = noop-fits; deps = none-fits }
 
 -- equal votes are the same
 same-command-refl : (k : Command) → sameCommand k k ≡ true

@@ -14,7 +14,7 @@ use Rattle.paper.specs.declared.Message.{Message}
 use Rattle.rules.specs.declared.Step.{Step}
 use Rattle.rules.specs.Seen.{Records}
 use Rattle.rules.specs.Events.{addressed, messages}
-use Rattle.closed.specs.Fits.{RecordFits, MessageFits}
+use Rattle.paper.specs.Fits.{RecordFits, MessageFits}
 
 -- sound, and writable in its fields; soundness needs the width too: the join goes over all replies, and an eighth is not judged
 pub record Held (n s c o : ℕ) (r : Record) : Type 0 where

@@ -6,13 +6,15 @@ use native.Mathlib.Omega.{arith}
 use lib.ListN.{length, getD, take, drop}
 use Rattle.num.specs.Num.{numAt}
 use Rattle.num.specs.Fields.{sizeOf, fieldsAt, fieldsBytes, FieldsFit, entries}
+use Rattle.num.proofs.Laws.{numAt-small}
 use Rattle.num.proofs.Fields.{fieldsAt-fieldsBytes, fieldsBytes-fieldsAt, entries-all}
 use Rattle.paper.specs.Command.{opNumber}
+use Rattle.paper.specs.Fits.{DepsFit, VoteFits}
 use Rattle.paper.specs.declared.Op.{Op}
 use Rattle.paper.specs.declared.Op.the-variants.{Noop, Read, Write}
 use Rattle.paper.specs.declared.Command.{Command}
 use Rattle.paper.specs.declared.Vote.{Vote}
-use Rattle.codec.specs.Parts.{opOf, commandOf, commandNumbers, depsNumbers, voteOf, voteNumbers, voteWidths, voteAt, voteBytes}
+use Rattle.codec.specs.Parts.{opOf, commandOf, commandNumbers, depsNumbers, voteOf, voteNumbers, voteWidths, depsAt, voteAt, voteBytes}
 
 pub op-other : (b : ℕ) → (b ≡ 0 → ⊥) → (b ≡ 1 → ⊥) → Write ≡ opOf b
 op-other zero p q = absurd (p refl)
@@ -35,20 +37,29 @@ op-small Noop = omega arith
 op-small Read = omega arith
 op-small Write = omega arith
 
--- what every command, list of dependencies and vote of the language's types satisfies
-pub record CommandFits (c : Command) : Type 0 where
-  pub key : c .key < 256 ^ 4
-  pub edit : c .edit < 256 ^ 8
+-- what is read from bytes fits
+pub depsAt-fits : (b : List ℕ) (at : ℕ) → ((i : ℕ) → getD b i 0 < 256) → DepsFit (depsAt b at)
+unfolding depsAt
+depsAt-fits b at h = record { seven = refl; each = each }
+  where
+    two : (i : ℕ) → numAt 2 b i < 256 ^ 2
+    two i = numAt-small 2 b i h
 
-pub record DepsFit (d : List ℕ) : Type 0 where
-  pub seven : length d ≡ 7
-  pub each : (i : ℕ) → getD d i 0 < 256 ^ 2
+    each : (i : ℕ) → getD (depsAt b at) i 0 < 256 ^ 2
+    each zero = two _
+    each (suc zero) = two _
+    each (suc (suc zero)) = two _
+    each (suc (suc (suc zero))) = two _
+    each (suc (suc (suc (suc zero)))) = two _
+    each (suc (suc (suc (suc (suc zero))))) = two _
+    each (suc (suc (suc (suc (suc (suc zero)))))) = two _
+    each (suc (suc (suc (suc (suc (suc (suc i))))))) = omega arith
 
-pub record VoteFits (v : Vote) : Type 0 where
-  pub voted : v .voted < 256 ^ 4
-  pub status : v .status < 256
-  pub command : CommandFits (v .command)
-  pub deps : DepsFit (v .deps)
+pub voteAt-fits : (b : List ℕ) (at : ℕ) → ((i : ℕ) → getD b i 0 < 256) → VoteFits (voteAt b at)
+unfolding voteAt depsAt
+voteAt-fits b at h =
+    let n : (w i : ℕ) → numAt w b i < 256 ^ w = λ w i. numAt-small w b i h in
+    record { voted = n 4 _; status = omega (arith, n 1 (at + 4)); command = record { key = n 4 _; edit = n 8 _ }; deps = depsAt-fits b _ h }
 
 -- a command is made of its numbers, and so are a list of dependencies and a vote
 pub command-is : (c : Command) → commandOf (commandNumbers c) ≡ c

@@ -30,7 +30,7 @@ use Rattle.rules.specs.Order.{candidate, nextOut, codeOf, found, handOut}
 use Rattle.wire.specs.Wire.{messageAt, messageBytes}
 use Rattle.table.specs.Table.{recordIn}
 use Rattle.seen.specs.Records.{recordsIn}
-use Rattle.closed.specs.Fits.{CommandFits, MessageFits}
+use Rattle.paper.specs.Fits.{CommandFits, MessageFits}
 use Rattle.closed.proofs.Heard.{valid-instance}
 use Rattle.closed.proofs.Mark.{Found, nextOut-found}
 use Rattle.log.specs.Out.{outBytes}

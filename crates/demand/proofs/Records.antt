@@ -24,7 +24,6 @@ use Rattle.closed.proofs.Laws.{two, both, clash, eqb-self}
 use Rattle.closed.proofs.Shapes.{blank-held}
 use Rattle.log.proofs.Held.{sound-records}
 use Rattle.safety.specs.Run.{Setup}
-use Rattle.demand.proofs.Fits.{record-fits}
 use Rattle.demand.proofs.Saved.{Kept, blank-kept, blank-part}
 use Rattle.demand.proofs.Range.{Alike}
 
@@ -62,7 +61,7 @@ module _ (n s : ℕ) where
       go o j true e =
           let k = blank-kept n s 0 (setup-at h 0 (some-copy (h .copies))) in
           let a : Names n s o j = names n s 0 (blankTable n s 0) o j (k .setup) e in
-          ap recordAt (blank-part n s c o j a) ∙ recordAt-recordBytes blank (record-fits blank (blank-held n s c o .fits))
+          ap recordAt (blank-part n s c o j a) ∙ recordAt-recordBytes blank (blank-held n s c o .fits)
 
   -- a record that holds is put into a table
   module _ (c : ℕ) (t : List ℕ) (k : Kept n s c t) where
@@ -83,6 +82,6 @@ module _ (n s : ℕ) where
             → cond (instanceOk n s p q) (recordIn s (putRecord s t o j r) p q) blank ≡ cond b r (cond (instanceOk n s p q) (recordIn s t p q) blank)
         go p q true e =
             let (x, y) = two _ _ e in
-            rw (eqb-true p o x, eqb-true q j y, i) (get-put n s t (sizes n s c t (k .setup) .long) o j (names n s c t o j (k .setup) i) r (h .fits .seven) (record-fits r (h .fits)))
+            rw (eqb-true p o x, eqb-true q j y, i) (get-put n s t (sizes n s c t (k .setup) .long) o j (names n s c t o j (k .setup) i) r (h .fits .seven) (h .fits))
         go p q false e =
             other p q (λ (x, y). let z : (eqb p o && eqb q j) ≡ true = rw (← x, ← y) (both _ _ (eqb-self o) (eqb-self j)) in clash (cc)) (instanceOk n s p q) refl

@@ -34,7 +34,6 @@ use Rattle.closed.specs.Held.{Held}
 use Rattle.closed.proofs.Laws.{two, both, all-in}
 use Rattle.closed.proofs.Shapes.{blank-held}
 use Rattle.log.proofs.Held.{Bytes}
-use Rattle.demand.proofs.Fits.{record-fits}
 
 -- a table that no call refuses 1 or 11
 pub record Kept (n s c : ℕ) (t : List ℕ) : Type 0 where
@@ -130,7 +129,7 @@ ops-written r seven =
 part-sound : (n s c o : ℕ) (r : Record) → Held n s c o r → soundPart n s c o (recordBytes r) ≡ true
 unfolding soundPart
 part-sound n s c o r h =
-    both _ _ (ops-written r (h .fits .seven)) (rw (recordAt-recordBytes r (record-fits r (h .fits))) (h .sound))
+    both _ _ (ops-written r (h .fits .seven)) (rw (recordAt-recordBytes r (h .fits)) (h .sound))
 
 -- a table's soundness from that of its parts
 sound-in : (n s c : ℕ) (t : List ℕ) → headOk n s c t ≡ true

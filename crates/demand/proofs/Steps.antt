@@ -31,7 +31,7 @@ use Rattle.rules.proofs.Rests.{blank-above}
 use Rattle.wire.specs.Wire.{messageAt, validBytes, framed, opFits}
 use Rattle.table.specs.Table.{fits, recordIn}
 use Rattle.seen.specs.Records.{recordsIn}
-use Rattle.closed.specs.Fits.{CommandFits}
+use Rattle.paper.specs.Fits.{CommandFits}
 use Rattle.closed.specs.Held.{Closed}
 use Rattle.closed.proofs.Heard.{valid-instance}
 use Rattle.closed.proofs.Closed.{request-event, message-event, recover-event, nudge-event}

@@ -25,13 +25,12 @@ use Rattle.wire.specs.declared.Reading.{Reading}
 use Rattle.wire.specs.declared.Reading.the-variants as reading
 use Rattle.wire.proofs.Laws.{ten, length-messageBytes}
 use Rattle.wire.proofs.Round.{written-reads-back}
-use Rattle.closed.specs.Fits.{MessageFits}
+use Rattle.paper.specs.Fits.{MessageFits}
 use Rattle.closed.specs.Held.{Sent}
 use Rattle.closed.proofs.Laws.{clash}
 use Rattle.closed.proofs.Closed.{addressed-fits}
 use Rattle.log.specs.Out.{allBytes, outBytes}
 use Rattle.demand.specs.Run.{messagesIn, written}
-use Rattle.demand.proofs.Fits.{message-fits}
 
 kind-small : (b : Body) → kindOf b ≤ 8
 kind-small (PreAccept k) = omega arith
@@ -86,7 +85,7 @@ unfolding received
 reads n s c m f p v = go (validBytes n s c (messageBytes m)) refl
   where
     read : received n s c (messageBytes m) ≡ record { answer = reading.Valid; message = m }
-    read = written-reads-back n s c m (message-fits m f) p v
+    read = written-reads-back n s c m f p v
 
     number : Reading → ℕ
     number reading.Valid = 0

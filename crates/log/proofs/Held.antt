@@ -4,19 +4,19 @@ use mathlib.Core.Bool.{Bool, true, false}
 use mathlib.Core.List.{List, [], _∷_, _++_}
 use Prim.Native.Nat.{ℕ, zero, suc, _+_, _*_, _^_, _≤_, _<_}
 use native.Mathlib.Omega.{arith}
-use native.Mathlib.Nat.{pow-succ'}
 use lib.Dec.{eqb}
 use lib.ListN.{length, getD, length-append}
 use borrow.Author.Tests.{ne-eqb}
 use Rattle.num.specs.Num.{numAt}
-use Rattle.num.specs.Fields.{fieldsAt}
-use Rattle.codec.specs.Parts.{depsWidths, voteAt}
-use Rattle.paper.specs.Deps.{noDeps}
+use Rattle.num.proofs.Laws.{numAt-small}
+use Rattle.codec.specs.Parts.{depsAt, voteAt}
+use Rattle.codec.proofs.Laws.{depsAt-fits, voteAt-fits}
 use Rattle.paper.specs.Setup.{setupOk}
 use Rattle.paper.specs.Message.{kindOf}
 use Rattle.paper.specs.Sound.{soundRecord}
 use Rattle.paper.specs.Vote.{member}
 use Rattle.paper.proofs.Laws.{and-true}
+use Rattle.paper.proofs.Deps.{none-fits}
 use Rattle.paper.specs.declared.Message.{Message}
 use Rattle.record.specs.Layout.{votesAt, recordAt}
 use Rattle.record.specs.Part.{opsFit, soundPart}
@@ -29,7 +29,7 @@ use Rattle.table.proofs.Round.{sound-at, part-bytes}
 use Rattle.wire.specs.Wire.{isProposal, lengthOf, restWidths, bodyOf, depsOf, bodyAt, besideAt, kindAt, messageAt, messageBytes}
 use Rattle.wire.proofs.Laws.{length-messageBytes, Framed}
 use Rattle.seen.specs.Records.{recordsIn}
-use Rattle.closed.specs.Fits.{DepsFit, VoteFits, VotesFit, RecordFits, BodyFits, MessageFits}
+use Rattle.paper.specs.Fits.{DepsFit, VoteFits, VotesFit, RecordFits, BodyFits, MessageFits}
 use Rattle.closed.specs.Held.{Sent, SoundRecords}
 use Rattle.closed.proofs.Closed.{room}
 use Rattle.log.specs.Out.{allBytes, outBytes}
@@ -37,40 +37,6 @@ use Rattle.log.specs.Out.{allBytes, outBytes}
 -- bytes
 abbrev pub Bytes : List ℕ → Type 0
 Bytes b = (i : ℕ) → getD b i 0 < 256
-
--- a number of w bytes is below 256 ^ w
-numAt-small : (w : ℕ) (b : List ℕ) (at : ℕ) → Bytes b → numAt w b at < 256 ^ w
-numAt-small zero b at h = omega arith
-numAt-small (suc w) b at h =
-    let x = h at in
-    let y = numAt-small w b (at + 1) h in
-    rw (pow-succ' 256 w) (omega arith)
-
--- seven numbers that fit two bytes are dependencies that fit
-seven-fit : (a b c d e f g : ℕ) → a < 256 ^ 2 → b < 256 ^ 2 → c < 256 ^ 2 → d < 256 ^ 2 → e < 256 ^ 2 → f < 256 ^ 2 → g < 256 ^ 2
-    → DepsFit (a ∷ b ∷ c ∷ d ∷ e ∷ f ∷ g ∷ [])
-seven-fit a b c d e f g pa pb pc pd pe pf pg = record { seven = refl; each = at }
-  where
-    at : (i : ℕ) → getD (a ∷ b ∷ c ∷ d ∷ e ∷ f ∷ g ∷ []) i 0 < 256 ^ 2
-    at zero = pa
-    at (suc zero) = pb
-    at (suc (suc zero)) = pc
-    at (suc (suc (suc zero))) = pd
-    at (suc (suc (suc (suc zero)))) = pe
-    at (suc (suc (suc (suc (suc zero))))) = pf
-    at (suc (suc (suc (suc (suc (suc zero)))))) = pg
-    at (suc (suc (suc (suc (suc (suc (suc i))))))) = omega arith
-
-voteAt-fits : (b : List ℕ) (at : ℕ) → Bytes b → VoteFits (voteAt b at)
-unfolding voteAt
-voteAt-fits b at h =
-    let n : (w i : ℕ) → numAt w b i < 256 ^ w = λ w i. numAt-small w b i h in
-    record {
-      voted = n 4 _;
-      status = omega (arith, n 1 (at + 4));
-      command = record { key = n 4 _; edit = n 8 _ };
-      deps = seven-fit _ _ _ _ _ _ _ (n 2 _) (n 2 _) (n 2 _) (n 2 _) (n 2 _) (n 2 _) (n 2 _);
-    }
 
 votesAt-fit : (k : ℕ) (b : List ℕ) (at : ℕ) → Bytes b → VotesFit (votesAt k b at)
 unfolding votesAt
@@ -116,25 +82,17 @@ body-fits (suc (suc (suc (suc (suc (suc (suc zero))))))) b h l u =
 body-fits (suc (suc (suc (suc (suc (suc (suc (suc zero)))))))) b h l u = numAt-small 4 b 10 h
 body-fits (suc (suc (suc (suc (suc (suc (suc (suc (suc k))))))))) b h l u = absurd (omega arith)
 
-deps-from : (b : List ℕ) (at : ℕ) → Bytes b → DepsFit (fieldsAt depsWidths b at)
-deps-from b at h =
-    let n : (i : ℕ) → numAt 2 b i < 256 ^ 2 = λ i. numAt-small 2 b i h in
-    seven-fit _ _ _ _ _ _ _ (n _) (n _) (n _) (n _) (n _) (n _) (n _)
-
-no-deps-fit : DepsFit noDeps
-no-deps-fit = seven-fit 0 0 0 0 0 0 0 (omega arith) (omega arith) (omega arith) (omega arith) (omega arith) (omega arith) (omega arith)
-
 beside-fits : (k : ℕ) (b : List ℕ) → Bytes b → 1 ≤ k → k ≤ 8 → DepsFit (besideAt k b)
-unfolding depsOf restWidths
+unfolding depsOf restWidths depsAt
 beside-fits zero b h l u = absurd (omega arith)
-beside-fits (suc zero) b h l u = deps-from b 23 h
-beside-fits (suc (suc zero)) b h l u = deps-from b 10 h
-beside-fits (suc (suc (suc zero))) b h l u = deps-from b 23 h
-beside-fits (suc (suc (suc (suc zero)))) b h l u = no-deps-fit
-beside-fits (suc (suc (suc (suc (suc zero))))) b h l u = deps-from b 23 h
-beside-fits (suc (suc (suc (suc (suc (suc zero)))))) b h l u = no-deps-fit
-beside-fits (suc (suc (suc (suc (suc (suc (suc zero))))))) b h l u = deps-from b 28 h
-beside-fits (suc (suc (suc (suc (suc (suc (suc (suc zero)))))))) b h l u = no-deps-fit
+beside-fits (suc zero) b h l u = depsAt-fits b 23 h
+beside-fits (suc (suc zero)) b h l u = depsAt-fits b 10 h
+beside-fits (suc (suc (suc zero))) b h l u = depsAt-fits b 23 h
+beside-fits (suc (suc (suc (suc zero)))) b h l u = none-fits
+beside-fits (suc (suc (suc (suc (suc zero))))) b h l u = depsAt-fits b 23 h
+beside-fits (suc (suc (suc (suc (suc (suc zero)))))) b h l u = none-fits
+beside-fits (suc (suc (suc (suc (suc (suc (suc zero))))))) b h l u = depsAt-fits b 28 h
+beside-fits (suc (suc (suc (suc (suc (suc (suc (suc zero)))))))) b h l u = none-fits
 beside-fits (suc (suc (suc (suc (suc (suc (suc (suc (suc k))))))))) b h l u = absurd (omega arith)
 
 -- a message that was read fits its fields

@@ -13,6 +13,14 @@ pub length-bytesOf : (w x : ℕ) → length (bytesOf w x) ≡ w
 length-bytesOf zero x = refl
 length-bytesOf (suc w) x = ap suc (length-bytesOf w (x / 256))
 
+-- a number of w bytes is below 256 ^ w
+pub numAt-small : (w : ℕ) (b : List ℕ) (at : ℕ) → ((i : ℕ) → getD b i 0 < 256) → numAt w b at < 256 ^ w
+numAt-small zero b at h = omega arith
+numAt-small (suc w) b at h =
+    let x = h at in
+    let y = numAt-small w b (at + 1) h in
+    rw (pow-succ' 256 w) (omega arith)
+
 -- a number read out of the middle of a list is the number at the place that the middle has in the whole
 pub numAt-part : (w : ℕ) (s : List ℕ) (a k i : ℕ) → i + w ≤ k → numAt w (take k (drop a s)) i ≡ numAt w s (a + i)
 numAt-part zero s a k i h = refl

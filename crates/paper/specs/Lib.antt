@@ -9,3 +9,4 @@ pub mod Sound
 pub mod Message
 pub mod Valid
 pub mod Refusal
+pub mod Fits

@@ -11,7 +11,7 @@ use Rattle.rules.specs.Events.{onMessage}
 use Rattle.table.specs.Table.{recordIn}
 use Rattle.table.specs.Sizes.{Sizes}
 use Rattle.seen.specs.Records.{recordsIn}
-use Rattle.closed.specs.Fits.{MessageFits}
+use Rattle.paper.specs.Fits.{MessageFits}
 use Rattle.log.specs.Events.{Outcome, refuse, acted, Passed}
 
 -- 10, then the step

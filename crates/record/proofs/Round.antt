@@ -11,7 +11,8 @@ use borrow.Author.Tests.{leb-true}
 use Rattle.num.specs.Num.{numAt, bytesOf}
 use Rattle.num.proofs.Laws.{numAt-bytesOf, bytesOf-numAt}
 use Rattle.codec.specs.Parts.{voteAt, voteBytes}
-use Rattle.codec.proofs.Laws.{VoteFits, voteAt-voteBytes, voteBytes-voteAt}
+use Rattle.codec.proofs.Laws.{voteAt-voteBytes, voteBytes-voteAt}
+use Rattle.paper.specs.Fits.{VotesFit, RecordFits}
 use Rattle.paper.specs.Logic.{allBelow}
 use Rattle.paper.proofs.Laws.{and-true, allBelow-at}
 use Rattle.paper.specs.declared.Vote.{Vote}
@@ -19,20 +20,6 @@ use Rattle.paper.specs.declared.Record.{Record}
 use Rattle.record.specs.Layout.{votesAt, votesBytes, recordAt, frontBytes, recordBytes}
 use Rattle.record.specs.Part.{opFits, opsFit, replyPlace}
 use Rattle.record.proofs.Laws.{length-voteBytes, length-votesBytes, length-frontBytes}
-
--- what every vote of a list, and every record, of the language's types satisfies
-abbrev pub VotesFit : List Vote → Type 0
-VotesFit [] = Unit {0}
-VotesFit (v ∷ vs) = VoteFits v × VotesFit vs
-
-pub record RecordFits (r : Record) : Type 0 where
-  pub joined : r .joined < 256 ^ 4
-  pub vote : VoteFits (r .vote)
-  pub mark : r .mark < 256
-  pub phase : r .phase < 256
-  pub set : r .set < 256
-  pub seven : length (r .replies) ≡ 7
-  pub replies : VotesFit (r .replies)
 
 votesAt-votesBytes : (vs : List Vote) (p : List ℕ) (at : ℕ) → length p ≡ at → VotesFit vs → votesAt (length vs) (p ++ votesBytes vs) at ≡ vs
 unfolding votesAt votesBytes

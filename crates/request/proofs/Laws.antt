@@ -22,7 +22,7 @@ use Rattle.rules.specs.Seen.{seen}
 use Rattle.table.specs.Sizes.{Names}
 use Rattle.table.proofs.Laws.{sizes}
 use Rattle.seen.specs.Records.{recordsIn}
-use Rattle.closed.specs.Fits.{CommandFits}
+use Rattle.paper.specs.Fits.{CommandFits}
 use Rattle.closed.proofs.Closed.{request-event}
 use Rattle.log.specs.Out.{outBytes}
 use Rattle.log.specs.Events.{Outcome, refuse, acted, Passed, requestOpen}

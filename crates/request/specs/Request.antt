@@ -11,7 +11,7 @@ use Rattle.paper.specs.declared.Refusal.the-variants as why
 use Rattle.rules.specs.Events.{requestNumber, onRequest}
 use Rattle.table.specs.Table.{fits, soundTable}
 use Rattle.seen.specs.Records.{recordsIn}
-use Rattle.closed.specs.Fits.{CommandFits}
+use Rattle.paper.specs.Fits.{CommandFits}
 use Rattle.log.specs.Events.{Outcome, refuse, acted, Passed}
 
 -- no ballot joined, no vote, no phase

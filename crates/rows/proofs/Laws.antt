@@ -10,7 +10,8 @@ use Rattle.num.specs.Fields.{fieldsAt, fieldsBytes, entries}
 use Rattle.num.proofs.Laws.{numAt-part, length-splice, splice-same, splice-before, splice-after}
 use Rattle.num.proofs.Fields.{fieldsAt-fieldsBytes}
 use Rattle.codec.specs.Parts.{depsAt, depsBytes, depsWidths, depsNumbers}
-use Rattle.codec.proofs.Laws.{DepsFit, deps-are}
+use Rattle.codec.proofs.Laws.{deps-are, depsAt-fits}
+use Rattle.paper.specs.Fits.{DepsFit}
 use Rattle.rows.specs.Rows.{rowOf, markIn, putRow, Within}
 
 -- one mark alone
@@ -29,26 +30,9 @@ pub row-seven : (h : List ℕ) (x : ℕ) → length (rowOf h x) ≡ 7
 unfolding depsAt
 row-seven h x = refl
 
--- entries and marks are numbers of two bytes
-pub deps-fit : (b : List ℕ) (at : ℕ) → ((i : ℕ) → getD b i 0 < 256) → DepsFit (depsAt b at)
-unfolding depsAt
-deps-fit b at h = record { seven = refl; each = each }
-  where
-    two : (i : ℕ) → numAt 2 b i < 256 ^ 2
-    two i = omega (arith, h i, h (i + 1))
-
-    each : (i : ℕ) → getD (depsAt b at) i 0 < 256 ^ 2
-    each zero = two _
-    each (suc zero) = two _
-    each (suc (suc zero)) = two _
-    each (suc (suc (suc zero))) = two _
-    each (suc (suc (suc (suc zero)))) = two _
-    each (suc (suc (suc (suc (suc zero))))) = two _
-    each (suc (suc (suc (suc (suc (suc zero)))))) = two _
-    each (suc (suc (suc (suc (suc (suc (suc i))))))) = omega arith
-
+-- marks are numbers of two bytes
 pub row-fits : (h : List ℕ) (x : ℕ) → ((i : ℕ) → getD h i 0 < 256) → DepsFit (rowOf h x)
-row-fits h x b = deps-fit h (14 * x) b
+row-fits h x b = depsAt-fits h (14 * x) b
 
 -- a row depends on its own bytes
 part : (h : List ℕ) (x : ℕ) → rowOf h x ≡ depsAt (take 14 (drop (14 * x) h)) 0

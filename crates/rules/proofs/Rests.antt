@@ -12,10 +12,11 @@ use borrow.Author.Tests.{leb-true, ltb-true, ltb-false, eqb-true, lt-ltb, not-tr
 use Rattle.paper.specs.Logic.{implies, allBelow}
 use Rattle.paper.specs.Setup.{faults}
 use Rattle.paper.specs.Command.{noop, sameCommand, interfere}
-use Rattle.paper.specs.Deps.{sameDeps, larger, joinFrom}
+use Rattle.paper.specs.Deps.{sameDeps}
 use Rattle.paper.specs.Vote.{member, count}
 use Rattle.paper.specs.Message.{voteIn}
 use Rattle.paper.proofs.Laws.{and-true, allBelow-at}
+use Rattle.paper.proofs.Deps.{join-entry}
 use Rattle.paper.specs.declared.Command.{Command}
 use Rattle.paper.specs.declared.Record.{Record}
 use Rattle.paper.specs.declared.Body.{Body}
@@ -149,20 +150,11 @@ pub seen-covers : (n s : ℕ) (t : Records) (o j : ℕ) (k : Command) (p i : ℕ
 unfolding seenEntry met
 seen-covers n s t o j k p i lp a b ne st it = rw (lt-ltb p n lp) (highest-above s (met t o j k p) i a b (both _ _ (both _ _ (ap not ne) st) it))
 
-pub join-above : (k : ℕ) (d e : List ℕ) (i q : ℕ) → q < k → (getD d (i + q) 0 ≤ getD (joinFrom k d e i) q 0) × (getD e (i + q) 0 ≤ getD (joinFrom k d e i) q 0)
-unfolding joinFrom
-join-above zero d e i q h = absurd (omega arith)
-join-above (suc k) d e i zero h = let z : i + 0 ≡ i = omega arith in rw z (wide (getD d i 0) (getD e i 0))
-  where
-    wide : (a b : ℕ) → (a ≤ larger a b) × (b ≤ larger a b)
-    wide a b = by-cond (λ (x : ℕ). (a ≤ x) × (b ≤ x)) (ltb a b) (λ l. (omega (arith, ltb-true a b l), omega arith)) (λ l. (omega arith, ltb-false a b l))
-join-above (suc k) d e i (suc q) h = let z : i + suc q ≡ i + 1 + q = omega arith in rw z (join-above k d e (i + 1) q (omega arith))
-
 -- a first vote for a PreAccept holds its dependencies and Seen
 pub vote-covers : (c o j : ℕ) (r : Record) (m : Message) (k : Command) (seen : List ℕ) → isCommitted r ≡ false → ltb (m .ballot) (r .joined) ≡ false → votedAt r (m .ballot) ≡ false
     → (q : ℕ) → q < 7 → (getD (m .deps) q 0 ≤ getD (preAccept c o j r m k seen .entry .vote .deps) q 0) × (getD seen q 0 ≤ getD (preAccept c o j r m k seen .entry .vote .deps) q 0)
 unfolding preAccept
-vote-covers c o j r m k seen p b v q l = rw (p, b, v) (let z : 0 + q ≡ q = omega arith in rw z at (join-above 7 (m .deps) seen 0 q l))
+vote-covers c o j r m k seen p b v q l = let w = join-entry (m .deps) seen q l in rw (p, b, v) (w .left, w .right)
 
 -- 4: copies that have saved two interfering committed commands as handed out saved them in the same order
 module _ (n s : ℕ) (t : Records) (p k : ℕ) (h : candidate n s t p k ≡ true) (o i : ℕ) (lo : o < n) (li : i < s) where

@@ -9,13 +9,14 @@ use lib.ListN.{getD, length}
 use lib.Seq.{ext-getD}
 use Rattle.paper.specs.Logic.{allBelow}
 use Rattle.paper.specs.Command.{sameCommand, opNumber}
-use Rattle.paper.specs.Deps.{noDeps, sameDeps, joinFrom, join}
+use Rattle.paper.specs.Deps.{noDeps, sameDeps, join}
 use Rattle.paper.specs.Vote.{noVote}
 use Rattle.paper.specs.declared.Command.{Command}
 use Rattle.paper.specs.declared.Vote.{Vote}
 use Rattle.rules.specs.Accepting.{joinAll}
 use Rattle.rules.specs.Seen.{Records, met, seenEntry, seenFrom, seen}
-use Rattle.rules.proofs.Rests.{highest-above, join-above}
+use Rattle.paper.proofs.Deps.{join-entry}
+use Rattle.rules.proofs.Rests.{highest-above}
 use Rattle.reach.proofs.Tests.{and-in, eqb-eq, eqb-same, ltb-in}
 use Rattle.safety.proofs.Sets.{all-at}
 use Rattle.reach.proofs.Instances.{all-in}
@@ -30,10 +31,6 @@ under-refl d i l = omega arith
 pub under-trans : (d e f : List ℕ) → Under d e → Under e f → Under d f
 under-trans d e f p q i l = omega (arith, p i l, q i l)
 
-pub same-deps : (d e : List ℕ) → length d ≡ 7 → length e ≡ 7 → sameDeps d e ≡ true → d ≡ e
-unfolding sameDeps
-same-deps d e ld le h = ext-getD 0 d e (ld ∙ sym le) (λ i l. eqb-eq _ _ (all-at 7 (λ i. eqb (getD d i 0) (getD e i 0)) h i (omega arith)))
-
 pub same-deps-refl : (d e : List ℕ) → d ≡ e → sameDeps d e ≡ true
 unfolding sameDeps
 same-deps-refl d e q = rw q (all-in 7 (λ i. eqb (getD e i 0) (getD e i 0)) (λ i l. eqb-same (getD e i 0) (getD e i 0) refl))
@@ -42,20 +39,11 @@ pub same-command-refl : (a b : Command) → a ≡ b → sameCommand a b ≡ true
 unfolding sameCommand
 same-command-refl a b q = rw q (and-in _ _ (and-in _ _ (eqb-same (opNumber (b .op)) (opNumber (b .op)) refl) (eqb-same (b .key) (b .key) refl)) (eqb-same (b .edit) (b .edit) refl))
 
-pub join-length : (d e : List ℕ) → length (join d e) ≡ 7
-unfolding joinFrom
-join-length d e = refl
-
 pub join-l : (d e : List ℕ) → Under d (join d e)
-join-l d e i l = let z : 0 + i ≡ i = omega arith in rw z at (join-above 7 d e 0 i l .0)
+join-l d e i l = join-entry d e i l .left
 
 pub join-r : (d e : List ℕ) → Under e (join d e)
-join-r d e i l = let z : 0 + i ≡ i = omega arith in rw z at (join-above 7 d e 0 i l .1)
-
-pub joins-length : (d : List ℕ) (vs : List Vote) → length d ≡ 7 → length (joinAll d vs) ≡ 7
-unfolding joinAll
-joins-length d [] l = l
-joins-length d (v ∷ vs) l = joins-length (join d (v .deps)) vs (join-length d (v .deps))
+join-r d e i l = join-entry d e i l .right
 
 pub joins-own : (d : List ℕ) (vs : List Vote) → Under d (joinAll d vs)
 unfolding joinAll

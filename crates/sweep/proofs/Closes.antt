@@ -8,10 +8,10 @@ use native.Mathlib.Omega.{arith}
 use native.Mathlib.Nat.{eq-or-lt-of-le}
 use native.Mathlib.Decide.{decLt}
 use lib.Dec.{eqb}
-use lib.ListN.{length, getD}
+use lib.ListN.{length, getD, List·getD-eq-default}
 use Rattle.paper.specs.Deps.{sameDeps}
 use Rattle.paper.proofs.Laws.{allBelow-at}
-use Rattle.codec.proofs.Laws.{DepsFit}
+use Rattle.paper.specs.Fits.{DepsFit}
 use Rattle.record.specs.Layout.{recordAt}
 use Rattle.table.specs.Place.{placeOf, partAt}
 use Rattle.seen.specs.Records.{recordsIn}
@@ -23,7 +23,6 @@ use Rattle.reach.proofs.Beginnings.{comers-own}
 use Rattle.rows.specs.Rows.{slotOf, rowOf, putRow, Within}
 use Rattle.rows.proofs.Laws.{row-seven, row-fits, put-long, put-own, put-other}
 use Rattle.sweep.specs.Sweeping.{Sized, Taking, beyondIn, marksOf, Found, Opened, Closed, Wrote, Closing}
-use Rattle.sweep.proofs.Joins.{past}
 use Rattle.sweep.proofs.Named.{wrote-same, wrote-on, deps-fits, deps-are, beyond-seven, beyond-few, beyond-old, beyond-held, beyond-comers}
 
 -- a sum of marks
@@ -68,7 +67,7 @@ module _ (row more : List ℕ) (lr : length row ≡ 7) (lm : length more ≡ 7) 
     where
       go : Dec (i < 7) → getD more i 0 ≡ getD row i 0
       go (yes l) = eqb-eq _ _ (allBelow-at 7 (λ i. eqb (getD more i 0) (getD row i 0)) e i l)
-      go (no l) = past more i (omega (arith, lm)) ∙ sym (past row i (omega (arith, lr)))
+      go (no l) = List·getD-eq-default more 0 {n = i} (omega (arith, lm)) ∙ sym (List·getD-eq-default row 0 {n = i} (omega (arith, lr)))
 
   more-marks : sameDeps more row ≡ false → marks row < marks more
   unfolding sameDeps

@@ -1,4 +1,3 @@
-pub mod Joins
 pub mod Named
 pub mod Rises
 pub mod Sweeps

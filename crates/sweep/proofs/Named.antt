@@ -8,7 +8,8 @@ use native.Mathlib.Omega.{arith}
 use lib.Dec.{leb, ltb}
 use lib.ListN.{length, getD}
 use Rattle.codec.specs.Parts.{depsAt, voteAt}
-use Rattle.codec.proofs.Laws.{DepsFit}
+use Rattle.codec.proofs.Laws.{depsAt-fits}
+use Rattle.paper.specs.Fits.{DepsFit}
 use Rattle.paper.specs.Deps.{noDeps, join}
 use Rattle.record.specs.Layout.{recordAt}
 use Rattle.table.specs.Place.{placeOf, partAt}
@@ -16,12 +17,12 @@ use Rattle.table.proofs.Round.{part-bytes}
 use Rattle.rules.specs.Seen.{Records}
 use Rattle.seen.specs.Records.{recordsIn}
 use Rattle.rows.specs.Rows.{slotOf, rowOf, putRow, Within}
-use Rattle.rows.proofs.Laws.{row-seven, deps-fit, row-fits, put-long, put-own, put-other}
+use Rattle.rows.proofs.Laws.{row-seven, row-fits, put-long, put-own, put-other}
 use Rattle.reach.specs.High.{Inst, Comes, From}
 use Rattle.reach.proofs.Tests.{and-l, and-r, and-in, leb-le, leb-in, ltb-lt, ltb-in, not-true}
 use Rattle.reach.proofs.Beginnings.{Comers, comers-named}
 use Rattle.sweep.specs.Sweeping.{Naming, Taking, Wrote, withNamed, beyondIn, beforeIn, marksOf}
-use Rattle.sweep.proofs.Joins.{join-seven, join-at, join-fits}
+use Rattle.paper.proofs.Deps.{join-seven, join-at, join-fits}
 
 -- one row is written
 pub wrote-same : (h : List ℕ) (x : ℕ) → length h ≡ 6272 → Wrote h h x
@@ -44,7 +45,7 @@ deps-seven s t o j = refl
 
 pub deps-fits : (s : ℕ) (t : List ℕ) (o j : ℕ) → ((i : ℕ) → getD t i 0 < 256) → DepsFit (recordsIn s t o j .vote .deps)
 unfolding recordAt voteAt depsAt
-deps-fits s t o j b = deps-fit (partAt t (placeOf s o j)) 22 (part-bytes t (placeOf s o j) b)
+deps-fits s t o j b = depsAt-fits (partAt t (placeOf s o j)) 22 (part-bytes t (placeOf s o j) b)
 
 pub deps-are : (s : ℕ) (t : List ℕ) (o j : ℕ) {at : ℕ} {d : List ℕ} → at ≡ placeOf s o j → d ≡ recordAt (partAt t at) .vote .deps → d ≡ recordsIn s t o j .vote .deps
 deps-are s t o j ea ed = rw (ed, ea)

@@ -6,9 +6,9 @@ use mathlib.Core.List.{List}
 use native.Mathlib.Omega.{arith}
 use native.Mathlib.Nat.{eq-or-lt-of-le}
 use native.Mathlib.Decide.{ℕ-discrete, decLt}
-use lib.ListN.{length, getD, getD-replicate}
+use lib.ListN.{length, getD}
 use Rattle.paper.specs.Deps.{noDeps, join}
-use Rattle.codec.proofs.Laws.{DepsFit}
+use Rattle.paper.specs.Fits.{DepsFit}
 use Rattle.record.specs.Layout.{recordAt}
 use Rattle.table.specs.Place.{placeOf, partAt}
 use Rattle.rules.specs.Seen.{Records}
@@ -18,18 +18,8 @@ use Rattle.reach.proofs.Beginnings.{comers-own}
 use Rattle.rows.specs.Rows.{slotOf, rowOf, putRow, Within}
 use Rattle.rows.proofs.Laws.{row-seven, row-fits, put-long, put-own, put-other}
 use Rattle.sweep.specs.Sweeping.{Sized, Taking, beyondIn, beforeIn, marksOf, Rows, Kept, Raised}
-use Rattle.sweep.proofs.Joins.{Larger, past, join-seven, join-at, join-fits}
+use Rattle.paper.proofs.Deps.{none-at, none-fits, Larger, join-seven, join-at, join-fits}
 use Rattle.sweep.proofs.Named.{deps-seven, deps-fits, deps-are, beyond-seven, beyond-few, beyond-old, beyond-comers, before-first, before-later}
-
-zeros-at : (i : ℕ) → getD noDeps i 0 ≡ 0
-zeros-at i = go (decLt i 7)
-  where
-    go : Dec (i < 7) → getD noDeps i 0 ≡ 0
-    go (yes l) = getD-replicate 7 i 0 0 l
-    go (no l) = past noDeps i (omega arith)
-
-zeros : DepsFit noDeps
-zeros = record { seven = refl; each = λ i. rw (zeros-at i) (omega arith) }
 
 -- a row is written and read back
 pub put-first : (h : List ℕ) (x : ℕ) (d : List ℕ) {h₁ : List ℕ} → Within h x → DepsFit d → h₁ ≡ putRow h x d → (rowOf h₁ x ≡ d) × Within h₁ x
@@ -125,7 +115,7 @@ module _ (n s : ℕ) (t g : List ℕ) (z : Sized n s t) (r : Rows n s (recordsIn
 
     fits : DepsFit row
     fits = join-fits (join old more) before (join-fits old more (row-fits g x bytes) reached)
-        (before-by DepsFit zeros (λ l. row-fits g (slotOf o (j - 1)) bytes))
+        (before-by DepsFit none-fits (λ l. row-fits g (slotOf o (j - 1)) bytes))
 
     own : rowOf g′ x ≡ row
     own = put-own g x row at-place fits
@@ -147,7 +137,7 @@ module _ (n s : ℕ) (t g : List ℕ) (z : Sized n s t) (r : Rows n s (recordsIn
     one P m a b c d =
         ⊎-elim (λ (f : getD row m 0 ≡ getD old m 0). rw f a)
         (⊎-elim (λ (f : getD row m 0 ≡ getD more m 0). rw f b)
-        (λ (f : getD row m 0 ≡ getD before m 0). rw f (before-by (λ v. P (getD v m 0)) (rw (zeros-at m) c) d)))
+        (λ (f : getD row m 0 ≡ getD before m 0). rw f (before-by (λ v. P (getD v m 0)) (rw (none-at m) c) d)))
         (new-one old more before (row-seven g x) seven-more seven-before m)
 
     few : (q i : ℕ) → Inst n s q i → (m : ℕ) → m < n → marksOf g′ q i m ≤ s

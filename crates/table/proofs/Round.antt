@@ -19,7 +19,8 @@ use Rattle.paper.specs.declared.Record.{Record}
 use Rattle.record.specs.Layout.{recordAt, recordBytes, frontBytes, votesBytes}
 use Rattle.record.specs.Part.{soundPart, opsFit}
 use Rattle.record.proofs.Laws.{length-frontBytes, length-votesBytes}
-use Rattle.record.proofs.Round.{RecordFits, recordAt-recordBytes, recordBytes-recordAt}
+use Rattle.record.proofs.Round.{recordAt-recordBytes, recordBytes-recordAt}
+use Rattle.paper.specs.Fits.{RecordFits}
 use Rattle.table.specs.Place.{tableLength, placeAt, placeOf, partAt}
 use Rattle.table.specs.Table.{headOk, soundRow, soundTable, recordIn, putRecord}
 use Rattle.table.specs.Sizes.{Sizes, Names}

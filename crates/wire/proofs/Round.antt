@@ -13,10 +13,11 @@ use Rattle.num.specs.Fields.{sizeOf, fieldsAt, fieldsBytes, FieldsFit}
 use Rattle.num.proofs.Laws.{splice-same}
 use Rattle.num.proofs.Fields.{fieldsAt-fieldsBytes, fieldsBytes-fieldsAt}
 use Rattle.codec.specs.Parts.{opOf, commandOf, commandNumbers, depsNumbers}
-use Rattle.codec.proofs.Laws.{CommandFits, DepsFit, op-small, opNumber-opOf, command-is, deps-are}
+use Rattle.codec.proofs.Laws.{op-small, opNumber-opOf, command-is, deps-are}
 use Rattle.paper.specs.Command.{opNumber}
 use Rattle.paper.specs.Deps.{noDeps, sameDeps}
 use Rattle.paper.specs.Setup.{setupOk}
+use Rattle.paper.specs.Fits.{CommandFits, DepsFit, BodyFits, MessageFits}
 use Rattle.paper.specs.Message.{kindOf, carriesDeps}
 use Rattle.paper.specs.Valid.{valid, headOk, wayOk, bodyOk, depsCarried, toHere, fromAnother, fromLead, toLead, commandRange, depsRange, joinedRange, freshOp, told, joinedAbove}
 use Rattle.paper.proofs.Laws.{and-true, sameDeps-eq}
@@ -30,26 +31,6 @@ use Rattle.wire.specs.declared.Writing.the-variants as writing
 use Rattle.wire.specs.Wire.{isProposal, headWidths, headNumbers, restWidths, restNumbers, lengthOf, headBytes, restBytes, messageBytes, bodyOf, depsOf, kindAt, bodyAt, besideAt, messageAt, framed, opAt, opFits, validBytes}
 use Rattle.wire.specs.Calls.{received, Wrote, wrote}
 use Rattle.wire.proofs.Laws.{ten, Framed, framed-is, length-headBytes, length-restBytes, length-messageBytes, rest-short, received-ok, wrote-ok}
-
--- what every body and message of the language's types satisfies
-abbrev pub BodyFits : Body → Type 0
-BodyFits (PreAccept k) = CommandFits k
-BodyFits PreAcceptOk = Unit {0}
-BodyFits (Accept k) = CommandFits k
-BodyFits AcceptOk = Unit {0}
-BodyFits (Commit k) = CommandFits k
-BodyFits Prepare = Unit {0}
-BodyFits (PrepareOk v t k) = (v < 256 ^ 4) × (t < 256) × CommandFits k
-BodyFits (Nack x) = x < 256 ^ 4
-
-pub record MessageFits (m : Message) : Type 0 where
-  pub from : m .from < 256
-  pub to : m .to < 256
-  pub owner : m .owner < 256
-  pub number : m .number < 256 ^ 2
-  pub ballot : m .ballot < 256 ^ 4
-  pub body : BodyFits (m .body)
-  pub deps : DepsFit (m .deps)
 
 kind-small : (b : Body) → kindOf b < 256
 kind-small (PreAccept k) = omega arith

@@ -25,7 +25,9 @@ use Rattle.rules.specs.Nudge.{nothingToNudge, again, nudge}
 use Rattle.reach.proofs.Tests.{clash, tf, and-l, and-r, or-cases, not-not, eqb-eq, eqb-same, eqb-ne, leb-le, leb-in, ltb-lt, by-cond, not-true}
 use Rattle.reach.proofs.Count.{cnt}
 use Rattle.safety.proofs.Sets.{ones-cnt, ones-those}
-use Rattle.safety.proofs.Deps.{same-deps, joins-length, joins-own, joins-each}
+use Rattle.paper.proofs.Laws.{sameDeps-eq}
+use Rattle.rules.proofs.Joins.{joins-seven}
+use Rattle.safety.proofs.Deps.{joins-own, joins-each}
 use Rattle.safety.proofs.Value.{Value, cmd, Sub, lead-0}
 use Rattle.safety.proofs.Hist.{s1, s2, s3, s4, Reply}
 use Rattle.safety.proofs.Sys.{idle, preparing, prephase, accphase, Rec, mk, mPre, mPreOK, mAcc, mAccOK, mCommit, upd, upd-cases, upd-same, nobody, Sent, say-pre, say-acc, HasPre, HasAcc, repeat, collect-pre, fast-commit, to-accept, collect-acc, slow-commit}
@@ -82,7 +84,7 @@ module _ (p : Spot) where
           w = val (r' .vote .command) d
 
           lw : length d ≡ 7
-          lw = joins-length (r' .vote .deps) (r' .replies) (rel' .len)
+          lw = joins-seven (r' .vote .deps) (r' .replies) (rel' .len)
 
           each : (i : ℕ) → upd (within F fit (λ i. member i (r' .set))) c true i ≡ true → ((i ≡ c) × Sub (A .val) w) ⊎ ((v : Value) × HasPre S A i v × Sub v w)
           each i t = ⊎-elim (λ e. inl (e, λ p lp. rw (rel' .value) (joins-own (r' .vote .deps) (r' .replies) p lp)))
@@ -114,7 +116,7 @@ module _ (p : Spot) where
           each : (i : ℕ) → i < 7 → match i ≡ true → HasPre S A i (A .val)
           each i li t =
               let m : member i (r' .set) ≡ true = and-l _ (sameDeps (added r' i) (r' .vote .deps)) t in
-              let d : added r' i ≡ r' .vote .deps = same-deps (added r' i) (r' .vote .deps) (rel' .lens i) (rel' .len) (and-r (member i (r' .set)) _ t) in
+              let d : added r' i ≡ r' .vote .deps = sameDeps-eq (added r' i) (r' .vote .deps) (rel' .lens i) (rel' .len) (and-r (member i (r' .set)) _ t) in
               let p : a i .val .deps ≡ A .val .deps = rel' .added ph i li m ∙ d ∙ sym (ap (λ (v : Value). v .deps) (rel' .value)) in
               let e : a i .val ≡ A .val = (λ k. record { command = agreed i li m k; deps = p k }) in
               rw e at (has i li m)

@@ -29,7 +29,9 @@ use Rattle.rules.specs.Request.{isBlank, request}
 use Rattle.rules.specs.Afresh.{afresh}
 use Rattle.reach.proofs.Tests.{clash, tf, and-l, and-r, not-not, eqb-eq, eqb-same, eqb-ne, leb-le, leb-gt, ltb-ge, not-true, by-cond}
 use Rattle.safety.proofs.Sets.{member-only, only-small}
-use Rattle.safety.proofs.Deps.{Under, same-deps, same-deps-refl, join-length, join-r}
+use Rattle.paper.proofs.Laws.{sameDeps-eq}
+use Rattle.paper.proofs.Deps.{join-seven}
+use Rattle.safety.proofs.Deps.{Under, same-deps-refl, join-r}
 use Rattle.safety.proofs.Value.{Value}
 use Rattle.safety.proofs.Hist.{St, s0, s1, s2, s3, s4}
 use Rattle.safety.proofs.Sys.{idle, preparing, prephase, Rec, mk, reply-of, mPre, mPreOK, mAcc, mAccOK, mCommit, mPrepOK, upd, upd-cases, upd-same, nobody, Sent, Fresh, Says, say-ok1, say-ok2, repeat}
@@ -126,17 +128,17 @@ module _ (p : Spot) where
         new : isCommitted r ≡ false → A .joined ≤ m .ballot → votedAt r (m .ballot) ≡ false → (b : Bool) → sameDeps d (m .deps) ≡ b
             → Goal (preAcceptOk c o j m (Rattle.rules.specs.Step.idle (m .ballot) (record { voted = m .ballot; status = cond b 2 1; command = k; deps = d }) (r .mark)))
         new e l v true q =
-            let de : m .deps ≡ d = sym (same-deps d (m .deps) (join-length (m .deps) seen) ml q) in
+            let de : m .deps ≡ d = sym (sameDeps-eq d (m .deps) (join-seven (m .deps) seen) ml q) in
             moved (mk (m .ballot) (m .ballot) s2 (val k d) idle nobody (A .reps)) (mPreOK c (m .ballot) (val k d) ∷ [])
             (pre-same (m .ballot) (val k d) (Memᴰ·cast (ap (λ (x : List ℕ). mPre (m .ballot) (val k x)) (sym de)) se) nl (open-st rel e) l (fresh v l))
-            (rel-begun F c (seven p) (m .ballot) _ (r .mark) 0 _ refl refl refl refl (join-length (m .deps) seen) refl (λ f. clash (cc)) refl)
-            refl (counts (cov d (join-r (m .deps) seen))) (spoken refl refl (join-length (m .deps) seen, (k, List·Memᴰ·head refl)))
+            (rel-begun F c (seven p) (m .ballot) _ (r .mark) 0 _ refl refl refl refl (join-seven (m .deps) seen) refl (λ f. clash (cc)) refl)
+            refl (counts (cov d (join-r (m .deps) seen))) (spoken refl refl (join-seven (m .deps) seen, (k, List·Memᴰ·head refl)))
         new e l v false q =
             moved (mk (m .ballot) (m .ballot) s1 (val k d) idle nobody (A .reps)) (mPreOK c (m .ballot) (val k d) ∷ [])
             (pre-more (m .ballot) (val k (m .deps)) (val k d) se nl (open-st rel e) l (fresh v l) refl
             (λ f. tf (sameDeps d (m .deps)) (same-deps-refl d (m .deps) (ap (λ (x : Value). x .deps) f)) q))
-            (rel-begun F c (seven p) (m .ballot) _ (r .mark) 0 _ refl refl refl refl (join-length (m .deps) seen) refl (λ f. clash (cc)) refl)
-            refl (counts (cov d (join-r (m .deps) seen))) (spoken refl refl (join-length (m .deps) seen, (k, List·Memᴰ·head refl)))
+            (rel-begun F c (seven p) (m .ballot) _ (r .mark) 0 _ refl refl refl refl (join-seven (m .deps) seen) refl (λ f. clash (cc)) refl)
+            refl (counts (cov d (join-r (m .deps) seen))) (spoken refl refl (join-seven (m .deps) seen, (k, List·Memᴰ·head refl)))
 
     pub on-accept : Sent S (mAcc (m .ballot) (val k (m .deps))) → Goal (accept c o j r m k)
     unfolding accept
