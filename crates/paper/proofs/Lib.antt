@@ -2,3 +2,4 @@ pub mod Laws
 pub mod Numbers
 pub mod Clauses
 pub mod Deps
+pub mod Widest
