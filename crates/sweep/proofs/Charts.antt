@@ -1,6 +1,6 @@
 -- The rows of all instances, closed place by place. Assumes nothing.
 use Prim.Native.Nat.{ℕ, _+_, _*_, _/_, _%_, _≤_, _<_}
-use mathlib.Core.Path.{_≡_, _∙_}
+use mathlib.Core.Path.{_≡_}
 use mathlib.Core.Logic.{⊎-elim}
 use mathlib.Core.List.{List}
 use native.Mathlib.Omega.{arith}
@@ -11,7 +11,7 @@ use Rattle.seen.specs.Records.{recordsIn}
 use Rattle.reach.specs.High.{Inst}
 use Rattle.reach.proofs.Beginnings.{named-highs, named-closed}
 use Rattle.rows.specs.Rows.{slotOf, rowOf}
-use Rattle.sweep.specs.Sweeping.{Sized, Row, Charted, Charting, marksOf, Sweeping, Found, Closed, Wrote, Closing, Reaching}
+use Rattle.sweep.specs.Sweeping.{Sized, Row, Charted, Charting, marksOf, Sweeping, Found, Closed, Wrote, Closing}
 
 -- nothing is marked yet
 pub rows-blank : (n s : ℕ) (t g h : List ℕ) → Charting n s t g h → Sweeping n s t g h

@@ -1,6 +1,6 @@
 -- An instance's row takes in what it names until nothing changes. Assumes nothing.
 use Prim.Native.Nat.{ℕ, zero, suc, _+_, _-_, _≤_, _<_}
-use mathlib.Core.Path.{_≡_, refl, sym, ap, _∙_}
+use mathlib.Core.Path.{_≡_, refl, sym, _∙_}
 use mathlib.Core.Logic.{_⊎_, inl, inr, ⊎-elim}
 use mathlib.Core.Bool.{Bool, true, false, not}
 use mathlib.Core.List.{List}
@@ -15,14 +15,13 @@ use Rattle.paper.specs.Fits.{DepsFit}
 use Rattle.record.specs.Layout.{recordAt}
 use Rattle.table.specs.Place.{placeOf, partAt}
 use Rattle.seen.specs.Records.{recordsIn}
-use Rattle.reach.specs.High.{Inst, entryOf}
 use Rattle.reach.proofs.Tests.{tf, clash, eqb-eq, eqb-same}
 use Rattle.reach.proofs.Count.{one-if}
 use Rattle.reach.proofs.Instances.{all-in}
 use Rattle.reach.proofs.Beginnings.{comers-own}
 use Rattle.rows.specs.Rows.{slotOf, rowOf, putRow, Within}
 use Rattle.rows.proofs.Laws.{row-seven, row-fits, put-long, put-own, put-other}
-use Rattle.sweep.specs.Sweeping.{Sized, Taking, beyondIn, marksOf, Found, Opened, Closed, Wrote, Closing}
+use Rattle.sweep.specs.Sweeping.{Taking, beyondIn, marksOf, Opened, Closed, Wrote, Closing}
 use Rattle.sweep.proofs.Named.{wrote-same, wrote-on, deps-fits, deps-are, beyond-seven, beyond-few, beyond-old, beyond-held, beyond-comers}
 
 -- a sum of marks

@@ -1,6 +1,6 @@
 -- A row that takes in the beginnings that it names. Assumes nothing.
 use Prim.Native.Nat.{ℕ, zero, suc, _+_, _-_, _≤_, _<_}
-use mathlib.Core.Path.{_≡_, refl, sym, ap, _∙_}
+use mathlib.Core.Path.{_≡_, refl, _∙_}
 use mathlib.Core.Logic.{⊎-elim}
 use mathlib.Core.Bool.{Bool, true, false, _&&_, cond}
 use mathlib.Core.List.{List}
@@ -18,7 +18,7 @@ use Rattle.rules.specs.Seen.{Records}
 use Rattle.seen.specs.Records.{recordsIn}
 use Rattle.rows.specs.Rows.{slotOf, rowOf, putRow, Within}
 use Rattle.rows.proofs.Laws.{row-seven, row-fits, put-long, put-own, put-other}
-use Rattle.reach.specs.High.{Inst, Comes, From}
+use Rattle.reach.specs.High.{Inst, From}
 use Rattle.reach.proofs.Tests.{and-l, and-r, and-in, leb-le, leb-in, ltb-lt, ltb-in, not-true}
 use Rattle.reach.proofs.Beginnings.{Comers, comers-named}
 use Rattle.sweep.specs.Sweeping.{Naming, Taking, Wrote, withNamed, beyondIn, beforeIn, marksOf}

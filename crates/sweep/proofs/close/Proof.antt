@@ -1,6 +1,5 @@
 use Rattle.sweep.proofs.close.Statement.{statement}
 use Rattle.sweep.proofs.close.Tie as tie
-use Prim.Native.Nat.{ℕ, _<_}
 use mathlib.Core.Path.{_≡_, sym, _∙_}
 use native.Mathlib.Omega.{arith}
 use Rattle.rows.specs.Rows.{slotOf, rowOf}

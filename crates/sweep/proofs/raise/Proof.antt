@@ -1,7 +1,6 @@
 use borrow.Author.Needs.{needs}
 use Rattle.sweep.proofs.raise.Statement.{statement}
 use Rattle.sweep.proofs.raise.Tie as tie
-use mathlib.Core.Path.{_≡_, sym, _∙_}
 use native.Mathlib.Omega.{arith}
 use Rattle.sweep.proofs.Rises.{at-place, raise-taking, raise-first, raise-read, read-fits, raise-raised}
 

@@ -1,7 +1,6 @@
 use borrow.Author.Needs.{needs}
 use Rattle.sweep.proofs.reach_one.Statement.{statement}
 use Rattle.sweep.proofs.reach_one.Tie as tie
-use mathlib.Core.Path.{sym}
 use native.Mathlib.Omega.{arith}
 use Rattle.sweep.proofs.Closes.{first-opened, first-wrote, first-made, close-next}
 use Rattle.sweep.proofs.Named.{wrote-on}

@@ -1,7 +1,6 @@
 use borrow.Author.Needs.{needs}
 use Rattle.sweep.proofs.take_named.Statement.{statement}
 use Rattle.sweep.proofs.take_named.Tie as tie
-use mathlib.Core.Path.{_≡_}
 use native.Mathlib.Omega.{arith}
 use Rattle.sweep.proofs.Named.{wrote-same, named-none, named-taken}
 
