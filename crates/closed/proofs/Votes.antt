@@ -1,5 +1,5 @@
 -- Votes and lists of them: ranges, widths, and what a collected reply holds. Assumes nothing.
-use Prim.Native.Nat.{ℕ, zero, suc, _^_, _≤_, _<_}
+use Prim.Native.Nat.{ℕ, zero, suc, _≤_, _<_}
 use mathlib.Core.Path.{_≡_, refl}
 use mathlib.Core.Bool.{Bool, true, false, cond}
 use mathlib.Core.List.{List, [], _∷_}
@@ -10,7 +10,7 @@ use lib.ListN.{length, getD, set, List·getD-eq-default}
 use borrow.Author.Tests.{leb-true, eqb-true, le-leb}
 use Rattle.paper.specs.Logic.{allBelow}
 use Rattle.paper.specs.Command.{noop, opNumber, sameCommand, commandOk}
-use Rattle.paper.specs.Deps.{noDeps, depsOk, sameDeps}
+use Rattle.paper.specs.Deps.{depsOk, sameDeps}
 use Rattle.paper.specs.Ballot.{ballotOk}
 use Rattle.paper.specs.Vote.{noVote, sameVote, noneIsBlank, voteOk, toldOk, addedOk, member}
 use Rattle.paper.specs.Sound.{collectedOk, replyOk, repliesOk}
@@ -20,7 +20,7 @@ use Rattle.paper.specs.declared.Record.{Record}
 use Rattle.paper.proofs.Laws.{allBelow-at, sameCommand-eq}
 use Rattle.rules.specs.Step.{noReplies}
 use Rattle.paper.proofs.Deps.{none-fits}
-use Rattle.paper.specs.Fits.{CommandFits, DepsFit, VoteFits, VotesFit}
+use Rattle.paper.specs.Fits.{CommandFits, VoteFits, VotesFit}
 use Rattle.closed.proofs.Laws.{eqb-self, three, four, both, imp-in, all-in}
 use Rattle.closed.proofs.Deps.{no-deps, same-ok}
 

@@ -1,11 +1,11 @@
 -- Commands, dependencies and votes: what is written is read back, and what is read is written back. Assumes nothing.
-use mathlib.Core.Path.{_≡_, refl, sym, ap, _∙_}
-use mathlib.Core.List.{List, [], _∷_, _++_}
+use mathlib.Core.Path.{_≡_, refl, ap, _∙_}
+use mathlib.Core.List.{List, _++_}
 use Prim.Native.Nat.{ℕ, zero, suc, _+_, _^_, _≤_, _<_}
 use native.Mathlib.Omega.{arith}
 use lib.ListN.{length, getD, take, drop}
 use Rattle.num.specs.Num.{numAt}
-use Rattle.num.specs.Fields.{sizeOf, fieldsAt, fieldsBytes, FieldsFit, entries}
+use Rattle.num.specs.Fields.{FieldsFit}
 use Rattle.num.proofs.Laws.{numAt-small}
 use Rattle.num.proofs.Fields.{fieldsAt-fieldsBytes, fieldsBytes-fieldsAt, entries-all}
 use Rattle.paper.specs.Command.{opNumber}

@@ -1,22 +1,20 @@
 -- What the decision's definitions come to on seven replies. Assumes nothing.
-use mathlib.Core.Path.{_≡_, refl, sym, ap, _∙_}
-use mathlib.Core.Bool.{Bool, true, false, _&&_, not, cond}
+use mathlib.Core.Path.{_≡_, refl, sym, ap}
+use mathlib.Core.Bool.{true, false}
 use mathlib.Core.List.{List, [], _∷_}
 use Prim.Native.Nat.{ℕ, zero, suc, _<_, _≤_}
 use native.Mathlib.Omega.{arith}
-use lib.Dec.{leb, ltb, eqb}
 use lib.ListN.{length, getD}
 use borrow.Author.Tests.{lt-ltb, le-ltb, eq-eqb, ne-eqb}
 use Rattle.paper.specs.Command.{noop}
 use Rattle.paper.specs.Deps.{larger}
-use Rattle.paper.specs.Vote.{noVote, member}
-use Rattle.paper.specs.declared.Command.{Command}
+use Rattle.paper.specs.Vote.{noVote}
 use Rattle.paper.specs.declared.Vote.{Vote}
 use Rattle.paper.specs.declared.Record.{Record}
 use Rattle.rules.specs.Sets.{those, lowest, largestBelow}
 use Rattle.rules.specs.Accepting.{accepting}
 use Rattle.rules.specs.Afresh.{afresh}
-use Rattle.rules.specs.PrepareOk.{toldBy, voter, topVoter, topAccepter, sameVoter, maybeFast, afreshCommand, acceptedFrom, decide}
+use Rattle.rules.specs.PrepareOk.{voter, topVoter, topAccepter, sameVoter, maybeFast, afreshCommand, acceptedFrom, decide}
 use Rattle.step.proofs.Laws.{at-same}
 
 -- no vote stands past the seven

@@ -18,7 +18,7 @@ use Rattle.rules.specs.Seen.{Records, met, seenEntry, seenFrom, seen}
 use Rattle.rules.specs.Request.{lowestBlank}
 use Rattle.rules.specs.Events.{put, requestNumber, onRequest, onMessage, onRecover, onNudge}
 use Rattle.rules.specs.Order.{everywhere, somewhere, firstOwner, firstNumber, coversIn, reachesIn, reaches, waitsFor, isSettled, isMarked, candidate, marked, mark, nextOut, codeOf, found, handOut}
-use Rattle.closed.proofs.Laws.{two, both}
+use Rattle.closed.proofs.Laws.{both}
 use Rattle.closed.proofs.Mark.{Found, nextOut-found}
 
 -- an instance in range

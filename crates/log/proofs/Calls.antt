@@ -1,12 +1,12 @@
 -- The outcomes of each call, one law each, and what its step needs. Assumes nothing.
 use mathlib.Core.Path.{_≡_, refl, sym, ap, _∙_}
-use mathlib.Core.Bool.{Bool, true, false, _&&_, _||_, not}
+use mathlib.Core.Bool.{Bool, true, false, _&&_, _||_}
 use mathlib.Core.List.{List}
-use Prim.Native.Nat.{ℕ, _+_, _≤_, _<_}
+use Prim.Native.Nat.{ℕ, _≤_, _<_}
 use native.Mathlib.Omega.{arith}
 use lib.Dec.{ltb, eqb}
 use lib.ListN.{length}
-use borrow.Author.Tests.{lt-ltb, le-ltb, le-leb, lt-leb, ltb-true, ltb-false, eqb-true}
+use borrow.Author.Tests.{lt-ltb, le-ltb, ltb-true, ltb-false, eqb-true}
 use Rattle.paper.specs.Setup.{setupOk, copiesOk, numbersOk, copyOk}
 use Rattle.paper.specs.Instance.{instanceOk}
 use Rattle.paper.proofs.Laws.{and-true}
@@ -26,7 +26,6 @@ use Rattle.seen.specs.Records.{recordsIn}
 use Rattle.closed.proofs.Closed.{recover-event, nudge-event}
 use Rattle.log.specs.declared.Answer.{Answer}
 use Rattle.log.specs.declared.Answer.the-variants.{Event, Refused}
-use Rattle.log.specs.declared.Gate.{Gate}
 use Rattle.log.specs.declared.Gate.the-variants.{Open, Shut}
 use Rattle.log.specs.Out.{outBytes}
 use Rattle.log.specs.Events.{Outcome, refuse, acted, gateOf, gated, Passed, recoverOpen, nudgeOpen}

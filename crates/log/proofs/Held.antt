@@ -1,7 +1,7 @@
 -- From a sound table's bytes to the records that the rules keep sound, and from what they send to the room. Assumes nothing.
-use mathlib.Core.Path.{_≡_, refl, sym, ap, _∙_}
+use mathlib.Core.Path.{_≡_, refl, sym, _∙_}
 use mathlib.Core.Bool.{Bool, true, false}
-use mathlib.Core.List.{List, [], _∷_, _++_}
+use mathlib.Core.List.{List}
 use Prim.Native.Nat.{ℕ, zero, suc, _+_, _*_, _^_, _≤_, _<_}
 use native.Mathlib.Omega.{arith}
 use lib.Dec.{eqb}
@@ -9,7 +9,7 @@ use lib.ListN.{length, getD, length-append}
 use borrow.Author.Tests.{ne-eqb}
 use Rattle.num.specs.Num.{numAt}
 use Rattle.num.proofs.Laws.{numAt-small}
-use Rattle.codec.specs.Parts.{depsAt, voteAt}
+use Rattle.codec.specs.Parts.{depsAt}
 use Rattle.codec.proofs.Laws.{depsAt-fits, voteAt-fits}
 use Rattle.paper.specs.Setup.{setupOk}
 use Rattle.paper.specs.Message.{kindOf}
@@ -21,7 +21,7 @@ use Rattle.paper.specs.declared.Message.{Message}
 use Rattle.record.specs.Layout.{votesAt, recordAt}
 use Rattle.record.specs.Part.{opsFit, soundPart}
 use Rattle.rules.specs.declared.Step.{Step}
-use Rattle.rules.specs.Events.{addressed, messagesFrom, messages}
+use Rattle.rules.specs.Events.{addressed, messagesFrom}
 use Rattle.table.specs.Place.{placeOf, partAt}
 use Rattle.table.specs.Table.{fits, soundTable}
 use Rattle.table.proofs.Laws.{names}
@@ -29,7 +29,7 @@ use Rattle.table.proofs.Round.{sound-at, part-bytes}
 use Rattle.wire.specs.Wire.{isProposal, lengthOf, restWidths, bodyOf, depsOf, bodyAt, besideAt, kindAt, messageAt, messageBytes}
 use Rattle.wire.proofs.Laws.{length-messageBytes, Framed}
 use Rattle.seen.specs.Records.{recordsIn}
-use Rattle.paper.specs.Fits.{DepsFit, VoteFits, VotesFit, RecordFits, BodyFits, MessageFits}
+use Rattle.paper.specs.Fits.{DepsFit, VotesFit, RecordFits, BodyFits, MessageFits}
 use Rattle.closed.specs.Held.{Sent, SoundRecords}
 use Rattle.closed.proofs.Closed.{room}
 use Rattle.log.specs.Out.{allBytes, outBytes}

@@ -1,11 +1,11 @@
 -- W1 to W10 hold of the definitions: W1's bytes by computation, the rest as the rules have them. Assumes nothing.
-use mathlib.Core.Path.{_≡_, refl, ap, _∙_}
+use mathlib.Core.Path.{ap}
 use lib.ListN.{length}
 use Rattle.codec.specs.Parts.{commandBytes, depsBytes}
 use Rattle.rules.proofs.Worked.{worked}
 use Rattle.wire.specs.Wire.{restWidths, restNumbers, headBytes, restBytes, messageBytes}
-use Rattle.log.specs.Out.{outBytes, allBytes}
-use Rattle.log.specs.Examples.{bytesTo, Examples}
+use Rattle.log.specs.Out.{allBytes}
+use Rattle.log.specs.Examples.{Examples}
 
 pub examples : Examples
 unfolding commandBytes depsBytes restWidths restNumbers headBytes restBytes messageBytes allBytes

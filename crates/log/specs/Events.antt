@@ -2,7 +2,7 @@
 -- n, s: the setup; c: this copy; t: the table's bytes; out: the room for outgoing bytes.
 use Prim.Native.Nat.{ℕ, _≤_}
 use mathlib.Core.Path.{_≡_}
-use mathlib.Core.Bool.{Bool, true, _||_, not, cond}
+use mathlib.Core.Bool.{true, _||_, not, cond}
 use mathlib.Core.List.{List}
 use lib.Dec.{ltb, eqb}
 use lib.ListN.{length}
@@ -10,7 +10,6 @@ use Rattle.num.specs.Num.{splice}
 use Rattle.codec.specs.Parts.{opOf}
 use Rattle.paper.specs.Instance.{instanceOk}
 use Rattle.paper.specs.Refusal.{numberOf}
-use Rattle.paper.specs.declared.Command.{Command}
 use Rattle.paper.specs.declared.Message.{Message}
 use Rattle.paper.specs.declared.Refusal.{Refusal}
 use Rattle.paper.specs.declared.Refusal.the-variants as why

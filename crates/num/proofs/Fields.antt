@@ -1,11 +1,11 @@
 -- Fields of fixed widths: reading after writing, and writing after reading, once for every list of widths. Assumes nothing.
-use mathlib.Core.Path.{_≡_, refl, sym, ap, _∙_}
-use mathlib.Core.List.{List, [], _∷_, _++_, append-assoc, append-nil}
-use Prim.Native.Nat.{ℕ, zero, suc, _+_, _*_, _^_, _≤_, _<_}
+use mathlib.Core.Path.{_≡_, refl, sym, ap}
+use mathlib.Core.List.{List, [], _∷_, _++_, append-assoc}
+use Prim.Native.Nat.{ℕ, zero, suc, _+_, _≤_, _<_}
 use native.Mathlib.Omega.{arith}
 use native.Mathlib.Numerals.{add-one}
 use lib.ListN.{length, getD, take, drop, length-append}
-use lib.Seq.{take-add, drop-drop, getD-drop, drop-cons, ext-getD}
+use lib.Seq.{take-add, drop-drop, drop-cons}
 use Rattle.num.specs.Num.{numAt, bytesOf}
 use Rattle.num.specs.Fields.{sizeOf, fieldsAt, fieldsBytes, FieldsFit, entries}
 use Rattle.num.proofs.Laws.{length-bytesOf, numAt-bytesOf, bytesOf-numAt}

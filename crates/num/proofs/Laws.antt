@@ -4,9 +4,9 @@ use mathlib.Core.List.{List, [], _∷_, _++_, append-assoc, append-nil}
 use Prim.Native.Nat.{ℕ, zero, suc, _+_, _*_, _/_, _%_, _^_, _≤_, _<_, _-_}
 use native.Mathlib.Omega.{arith}
 use native.Mathlib.Numerals.{add-one}
-use native.Mathlib.Nat.{pow-succ', mod-add-div, div-lt-iff-lt-mul, add-assoc, zero-add, add-zero, add-suc}
+use native.Mathlib.Nat.{pow-succ', add-zero}
 use lib.ListN.{take-append-drop, length, getD, take, drop, length-append, length-take, length-drop, drop-of-length-le, List·getD-append}
-use lib.Seq.{getD-at, getD-take, getD-drop, drop-cons, ext-getD, append-snoc, take-at, drop-at, take-all, take-append-le, drop-append-le, drop-drop, length-take-le, take-add}
+use lib.Seq.{getD-at, getD-take, getD-drop, drop-cons, ext-getD, append-snoc, take-at, drop-at, drop-drop, length-take-le, take-add}
 use Rattle.num.specs.Num.{numAt, bytesOf, splice}
 
 pub length-bytesOf : (w x : ℕ) → length (bytesOf w x) ≡ w

@@ -1,6 +1,6 @@
 // Little-endian numbers in lent bytes, at an offset. A number is read as one sum over its bytes: the compiler makes one load of it.
 ghost use mathlib.Core.Path.{_≡_};
-ghost use Prim.Native.Nat.{ℕ, _+_, _≤_, _<_};
+ghost use Prim.Native.Nat.{_+_, _≤_, _<_};
 ghost use lib.ListN.{length};
 ghost use Rattle.num.specs.Num.{numAt, bytesOf, splice};
 

@@ -1,6 +1,6 @@
 -- Tests joined to tests. Assumes nothing.
 use Prim.Native.Nat.{ℕ, zero, suc}
-use mathlib.Core.Bool.{Bool, true, false, _&&_, _||_, not}
+use mathlib.Core.Bool.{Bool, true, _&&_, _||_, not}
 
 -- b is asked only where a holds
 abbrev pub implies : Bool → Bool → Bool

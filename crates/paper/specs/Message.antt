@@ -1,7 +1,6 @@
 -- "Messages": the kinds and what each body holds. Assumes nothing.
 use Prim.Native.Nat.{ℕ}
-use mathlib.Core.Bool.{Bool, true, false, _||_}
-use mathlib.Core.List.{List}
+use mathlib.Core.Bool.{Bool, _||_}
 use lib.Dec.{eqb}
 use Rattle.paper.specs.Command.{noop}
 use Rattle.paper.specs.Deps.{noDeps}

@@ -1,5 +1,5 @@
 -- "Sizes and names": the setup. Assumes nothing.
-use Prim.Native.Nat.{ℕ, _+_, _*_, _-_, _/_}
+use Prim.Native.Nat.{ℕ, _-_, _/_}
 use mathlib.Core.Bool.{Bool, _&&_, _||_}
 use lib.Dec.{leb, ltb, eqb}
 

@@ -2,7 +2,6 @@
 -- n, s: the setup; c: this copy; o: the instance's owner; r: its record.
 use Prim.Native.Nat.{ℕ, _^_}
 use mathlib.Core.Bool.{Bool, _&&_, _||_, not, cond}
-use mathlib.Core.List.{List}
 use lib.Dec.{leb, ltb, eqb}
 use lib.ListN.{getD}
 use Rattle.paper.specs.Logic.{implies, allBelow}

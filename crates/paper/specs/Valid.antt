@@ -3,7 +3,6 @@
 -- n, s: the setup; c: the copy that receives; m: the message.
 use Prim.Native.Nat.{ℕ}
 use mathlib.Core.Bool.{Bool, _&&_, _||_, not}
-use mathlib.Core.List.{List}
 use lib.Dec.{leb, ltb, eqb}
 use Rattle.paper.specs.Logic.{implies}
 use Rattle.paper.specs.Instance.{ownerOk, numberOk}

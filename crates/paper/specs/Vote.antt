@@ -1,7 +1,6 @@
 -- "The record of one instance": votes, the set of copies that replied, the blank record. Assumes nothing.
-use Prim.Native.Nat.{ℕ, _+_, _/_, _%_, _^_}
+use Prim.Native.Nat.{ℕ, _/_, _%_, _^_}
 use mathlib.Core.Bool.{Bool, _&&_}
-use mathlib.Core.List.{List}
 use lib.Count.{ones}
 use lib.Dec.{leb, ltb, eqb}
 use lib.ListN.{replicate}
@@ -9,7 +8,6 @@ use Rattle.paper.specs.Logic.{implies}
 use Rattle.paper.specs.Command.{isNoop, noop, sameCommand, commandOk}
 use Rattle.paper.specs.Deps.{noDeps, sameDeps, depsOk}
 use Rattle.paper.specs.Ballot.{ballotOk}
-use Rattle.paper.specs.declared.Command.{Command}
 use Rattle.paper.specs.declared.Vote.{Vote}
 use Rattle.paper.specs.declared.Record.{Record}
 

@@ -15,7 +15,6 @@ use Rattle.paper.specs.declared.Body.the-variants.{PreAccept, PreAcceptOk, Acce
 use Rattle.paper.specs.declared.Message.{Message}
 use Rattle.wire.specs.declared.Reading.{Reading}
 use Rattle.wire.specs.declared.Reading.the-variants as reading
-use Rattle.wire.specs.declared.Received.{Received}
 
 -- voted, or joined in a Nack
 unfoldable pub otherBallot : Body → ℕ

@@ -12,8 +12,6 @@ use paper::Command;
 use paper::Message;
 ghost use mathlib.Core.Path.{_≡_};
 ghost use Prim.Native.Nat.{_%_, _<_};
-ghost use lib.ListN.{getD};
-ghost use Rattle.paper.specs.Message.{noMessage};
 ghost use Rattle.pumxaqert.specs.Fields.{otherBallot, fieldsOf, commandFrom, bodyFrom, depsFrom, messageFrom, sameFields, messageOf};
 
 fn from8(x: u8) -> u64

@@ -1,14 +1,12 @@
 -- What a received message's step rests on, and the outcomes of the call, one law each. Assumes nothing.
 use mathlib.Core.Path.{_≡_, refl, sym, ap, _∙_}
-use mathlib.Core.Bool.{Bool, true, false, _&&_, not}
+use mathlib.Core.Bool.{Bool, true, false, _&&_}
 use mathlib.Core.List.{List}
-use Prim.Native.Nat.{ℕ, zero, suc, _+_, _^_, _≤_, _<_}
+use Prim.Native.Nat.{ℕ, zero, suc, _^_, _≤_, _<_}
 use native.Mathlib.Omega.{arith}
 use lib.Dec.{eqb}
 use lib.ListN.{length}
-use borrow.Author.Tests.{not-true, not-false}
 use Rattle.paper.specs.Setup.{setupOk}
-use Rattle.paper.specs.Instance.{instanceOk}
 use Rattle.paper.specs.Message.{kindOf, commandIn, voteIn}
 use Rattle.paper.specs.Valid.{valid}
 use Rattle.paper.proofs.Laws.{and-true}
@@ -24,7 +22,7 @@ use Rattle.rules.specs.declared.Step.{Step}
 use Rattle.rules.specs.Step.{silent, collect, awaited}
 use Rattle.rules.specs.Commit.{differs}
 use Rattle.rules.specs.PrepareOk.{afreshCommand, decide, quorum, preparedBy, onPrepareOk}
-use Rattle.rules.specs.Received.{byKind, conflict, refused10, received}
+use Rattle.rules.specs.Received.{conflict, refused10, received}
 use Rattle.rules.specs.Events.{onMessage}
 use Rattle.rules.specs.Seen.{seen}
 use Rattle.record.specs.Layout.{recordAt}
@@ -44,7 +42,7 @@ use Rattle.closed.proofs.Heard.{heard, valid-instance}
 use Rattle.closed.proofs.Sound.{sound-is}
 use Rattle.closed.proofs.Shapes.{setup-is}
 use Rattle.log.specs.Out.{outBytes}
-use Rattle.log.specs.Events.{Outcome, refuse, acted, Passed, receiveOpen}
+use Rattle.log.specs.Events.{refuse, acted, Passed, receiveOpen}
 use Rattle.log.proofs.Held.{Bytes, sound-records, messageAt-fits, out-short}
 use Rattle.log.proofs.Calls.{setup-of, three}
 use Rattle.receive.specs.Message as specs

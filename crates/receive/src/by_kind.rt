@@ -30,7 +30,7 @@ use step::made::collected;
 use step::made::is_awaited;
 use step::made::silently;
 ghost use mathlib.Core.Path.{_≡_};
-ghost use Prim.Native.Nat.{_<_, _≤_};
+ghost use Prim.Native.Nat.{_<_};
 ghost use Rattle.paper.specs.Message.{voteIn};
 ghost use Rattle.rules.specs.PreAccept.{preAccept};
 ghost use Rattle.rules.specs.PrepareOk.{onPrepareOk, preparedBy};

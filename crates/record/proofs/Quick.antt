@@ -4,8 +4,8 @@ use mathlib.Core.Bool.{Bool, true, false, _&&_}
 use mathlib.Core.List.{List, [], _∷_}
 use Prim.Native.Nat.{ℕ, zero, suc, _+_, _*_, _-_, _^_, _≤_, _<_}
 use native.Mathlib.Omega.{arith}
-use lib.Bits.{bitOr, bitAnd, or-add-and, and-le-l, and-le-r, or-zero-l}
-use lib.Dec.{leb, eqb}
+use lib.Bits.{bitOr, bitAnd, or-add-and, and-le-l, and-le-r}
+use lib.Dec.{eqb}
 use lib.Pow.{pow-pos}
 use lib.ListN.{length, getD, replicate}
 use borrow.Author.Tests.{eqb-true, eqb-false, eq-eqb, ne-eqb, lt-ltb, le-leb}
@@ -21,7 +21,7 @@ use Rattle.paper.specs.declared.Vote.{Vote}
 use Rattle.paper.specs.Sound.{phasesOk, busyOk, preparingOk, proposingOk}
 use Rattle.record.specs.Layout.{recordAt}
 use Rattle.sound.specs.Asked.{phasedOk}
-use Rattle.record.specs.Part.{opFits, replyPlace, replyPart, noReplies, isIdle, idleOk, frontOk, plainOk, soundPart}
+use Rattle.record.specs.Part.{replyPlace, replyPart, noReplies, isIdle, idleOk, frontOk, plainOk, soundPart}
 use Rattle.record.proofs.Laws.{replyPart-out, sound-replies}
 
 -- bits of either number

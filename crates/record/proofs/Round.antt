@@ -1,14 +1,13 @@
 -- Both round trips of a record: what was written is read back, and what was read from sound bytes is written back. Assumes nothing.
-use mathlib.Core.Path.{_≡_, refl, sym, ap, ap₂, _∙_}
-use mathlib.Core.Bool.{Bool, true, _&&_}
-use mathlib.Core.List.{List, [], _∷_, _++_, append-assoc, append-nil}
-use Prim.Native.Nat.{ℕ, zero, suc, _+_, _*_, _^_, _≤_, _<_}
+use mathlib.Core.Path.{_≡_, refl, sym, ap, _∙_}
+use mathlib.Core.Bool.{true}
+use mathlib.Core.List.{List, [], _∷_, _++_, append-assoc}
+use Prim.Native.Nat.{ℕ, zero, suc, _+_, _*_, _≤_, _<_}
 use native.Mathlib.Omega.{arith}
-use lib.Dec.{leb}
 use lib.ListN.{length, getD, take, drop, length-append}
 use lib.Seq.{take-all, take-add, drop-drop}
 use borrow.Author.Tests.{leb-true}
-use Rattle.num.specs.Num.{numAt, bytesOf}
+use Rattle.num.specs.Num.{numAt}
 use Rattle.num.proofs.Laws.{numAt-bytesOf, bytesOf-numAt}
 use Rattle.codec.specs.Parts.{voteAt, voteBytes}
 use Rattle.codec.proofs.Laws.{voteAt-voteBytes, voteBytes-voteAt}
@@ -19,7 +18,7 @@ use Rattle.paper.specs.declared.Vote.{Vote}
 use Rattle.paper.specs.declared.Record.{Record}
 use Rattle.record.specs.Layout.{votesAt, votesBytes, recordAt, frontBytes, recordBytes}
 use Rattle.record.specs.Part.{opFits, opsFit, replyPlace}
-use Rattle.record.proofs.Laws.{length-voteBytes, length-votesBytes, length-frontBytes}
+use Rattle.record.proofs.Laws.{length-voteBytes, length-frontBytes}
 
 votesAt-votesBytes : (vs : List Vote) (p : List ℕ) (at : ℕ) → length p ≡ at → VotesFit vs → votesAt (length vs) (p ++ votesBytes vs) at ≡ vs
 unfolding votesAt votesBytes

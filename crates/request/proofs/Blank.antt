@@ -2,29 +2,26 @@
 use mathlib.Core.Path.{_≡_, refl, sym, ap, _∙_}
 use mathlib.Core.Bool.{Bool, true, false, _&&_}
 use mathlib.Core.List.{List}
-use Prim.Native.Nat.{ℕ, zero, suc, _+_, _*_, _-_, _≤_, _<_}
+use Prim.Native.Nat.{ℕ, suc, _+_, _*_, _-_, _≤_, _<_}
 use native.Mathlib.Omega.{arith}
 use native.Mathlib.Nat.{mul-le-mul}
-use lib.Dec.{eqb, leb}
+use lib.Dec.{eqb}
 use lib.ListN.{length, getD, take, drop}
-use borrow.Author.Tests.{eqb-true, eq-eqb, lt-ltb, le-leb}
+use borrow.Author.Tests.{eqb-true, eq-eqb}
 use Rattle.paper.specs.Logic.{allBelow}
-use Rattle.paper.specs.Instance.{instanceOk}
 use Rattle.paper.specs.Command.{isNoop, noop, sameCommand, commandOk}
 use Rattle.paper.specs.Deps.{noDeps, sameDeps, depsOk}
 use Rattle.paper.specs.Vote.{noVote, sameVote, noneIsBlank, votedOk, statusOk, voteOk, member}
 use Rattle.paper.specs.Sound.{soundRecord, replyOk, repliesOk}
 use Rattle.paper.proofs.Laws.{and-true, allBelow-at}
-use Rattle.paper.specs.declared.Command.{Command}
 use Rattle.paper.specs.declared.Vote.{Vote}
 use Rattle.paper.specs.declared.Record.{Record}
 use Rattle.record.specs.Layout.{recordAt}
 use Rattle.record.specs.Part.{opsFit, soundPart}
 use Rattle.rules.specs.Request.{isBlank, lowestBlank}
 use Rattle.rules.specs.Events.{requestNumber}
-use Rattle.table.specs.Place.{placeAt, placeOf, partAt, tableLength}
+use Rattle.table.specs.Place.{placeAt, placeOf, partAt}
 use Rattle.table.specs.Sizes.{Sizes, Names}
-use Rattle.table.specs.Table.{recordIn}
 use Rattle.table.proofs.Laws.{sizes, place-end}
 use Rattle.table.proofs.Round.{sound-at}
 use Rattle.seen.specs.Records.{recordsIn}

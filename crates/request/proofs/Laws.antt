@@ -1,20 +1,19 @@
 -- What a request's step rests on, and the outcomes of the call, one law each. Assumes nothing.
-use mathlib.Core.Path.{_≡_, refl, sym, ap, _∙_}
+use mathlib.Core.Path.{_≡_, refl}
 use mathlib.Core.Bool.{Bool, true, false, _||_}
 use mathlib.Core.List.{List}
-use Prim.Native.Nat.{ℕ, _+_, _^_, _≤_, _<_}
+use Prim.Native.Nat.{ℕ, _^_, _≤_, _<_}
 use native.Mathlib.Omega.{arith}
 use lib.Dec.{eqb}
 use lib.ListN.{length}
 use borrow.Author.Tests.{lt-ltb, le-ltb, eqb-true}
 use Rattle.codec.specs.Parts.{opOf}
-use Rattle.paper.specs.Command.{isNoop, commandOk}
+use Rattle.paper.specs.Command.{commandOk}
 use Rattle.paper.specs.Vote.{blank}
 use Rattle.paper.specs.declared.Command.{Command}
 use Rattle.paper.specs.declared.Op.{Op}
 use Rattle.paper.specs.declared.Record.{Record}
 use Rattle.paper.specs.declared.Refusal.the-variants as why
-use Rattle.rules.specs.declared.Step.{Step}
 use Rattle.rules.specs.Afresh.{afresh}
 use Rattle.rules.specs.Request.{request}
 use Rattle.rules.specs.Events.{requestNumber, onRequest}
@@ -22,10 +21,9 @@ use Rattle.rules.specs.Seen.{seen}
 use Rattle.table.specs.Sizes.{Names}
 use Rattle.table.proofs.Laws.{sizes}
 use Rattle.seen.specs.Records.{recordsIn}
-use Rattle.paper.specs.Fits.{CommandFits}
 use Rattle.closed.proofs.Closed.{request-event}
 use Rattle.log.specs.Out.{outBytes}
-use Rattle.log.specs.Events.{Outcome, refuse, acted, Passed, requestOpen}
+use Rattle.log.specs.Events.{refuse, acted, Passed, requestOpen}
 use Rattle.log.proofs.Held.{Bytes, sound-records, out-short}
 use Rattle.log.proofs.Calls.{setup-of}
 use Rattle.request.specs.Request.{Asking, asked}

@@ -1,12 +1,12 @@
 -- Rows that are read and written. Assumes nothing.
-use Prim.Native.Nat.{ℕ, zero, suc, _+_, _*_, _^_, _≤_, _<_}
+use Prim.Native.Nat.{ℕ, zero, suc, _+_, _*_, _≤_, _<_}
 use mathlib.Core.Path.{_≡_, refl, sym, ap, _∙_}
-use mathlib.Core.List.{List, [], _∷_, _++_}
+use mathlib.Core.List.{List, [], _∷_}
 use native.Mathlib.Omega.{arith}
 use native.Mathlib.Decide.{decLt}
 use lib.ListN.{length, getD, take, drop}
-use Rattle.num.specs.Num.{numAt, bytesOf, splice}
-use Rattle.num.specs.Fields.{fieldsAt, fieldsBytes, entries}
+use Rattle.num.specs.Num.{numAt, splice}
+use Rattle.num.specs.Fields.{fieldsAt}
 use Rattle.num.proofs.Laws.{numAt-part, length-splice, splice-same, splice-before, splice-after}
 use Rattle.num.proofs.Fields.{fieldsAt-fieldsBytes}
 use Rattle.codec.specs.Parts.{depsAt, depsBytes, depsWidths, depsNumbers}

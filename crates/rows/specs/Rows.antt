@@ -1,6 +1,6 @@
 -- Lists with a row of seven marks for each instance, kept as a table keeps dependencies. Assumes nothing.
 -- h: the list's bytes; x: a place; d: a row.
-use Prim.Native.Nat.{ℕ, _+_, _*_, _-_, _≤_, _<_}
+use Prim.Native.Nat.{ℕ, _+_, _*_, _-_, _<_}
 use mathlib.Core.Path.{_≡_}
 use mathlib.Core.List.{List}
 use lib.ListN.{length, getD}

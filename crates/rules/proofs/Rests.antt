@@ -8,7 +8,7 @@ use native.Mathlib.Omega.{arith}
 use native.Mathlib.Nat.{eq-or-lt-of-le}
 use lib.Dec.{leb, ltb, eqb}
 use lib.ListN.{getD}
-use borrow.Author.Tests.{leb-true, ltb-true, ltb-false, eqb-true, lt-ltb, not-true}
+use borrow.Author.Tests.{leb-true, eqb-true, lt-ltb, not-true}
 use Rattle.paper.specs.Logic.{implies, allBelow}
 use Rattle.paper.specs.Setup.{faults}
 use Rattle.paper.specs.Command.{noop, sameCommand, interfere}

@@ -1,5 +1,5 @@
 -- "Accepting". Assumes nothing.
-use Prim.Native.Nat.{ℕ, zero, suc, _+_}
+use Prim.Native.Nat.{ℕ}
 use mathlib.Core.List.{List, [], _∷_}
 use Rattle.paper.specs.Deps.{join}
 use Rattle.paper.specs.declared.Command.{Command}

@@ -1,5 +1,4 @@
 -- "Commit". Assumes nothing.
-use Prim.Native.Nat.{ℕ}
 use mathlib.Core.Bool.{Bool, _&&_, not, cond}
 use Rattle.paper.specs.Command.{sameCommand}
 use Rattle.paper.specs.Deps.{sameDeps}

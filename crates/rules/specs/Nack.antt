@@ -1,6 +1,6 @@
 -- "Nack b". Assumes nothing.
 use Prim.Native.Nat.{ℕ}
-use mathlib.Core.Bool.{Bool, _&&_, not, cond}
+use mathlib.Core.Bool.{_&&_, not, cond}
 use lib.Dec.{eqb}
 use Rattle.paper.specs.declared.Record.{Record}
 use Rattle.paper.specs.declared.Message.{Message}

@@ -1,7 +1,7 @@
 -- Sets of copies as bits, and searches over the seven places. Assumes nothing.
-use Prim.Native.Nat.{ℕ, zero, suc, _+_, _*_, _-_, _^_}
+use Prim.Native.Nat.{ℕ, zero, suc, _+_, _^_}
 use mathlib.Core.Bool.{Bool, _&&_, not, cond}
-use lib.Dec.{ltb, eqb, leb}
+use lib.Dec.{ltb, eqb}
 use Rattle.paper.specs.Deps.{larger}
 use Rattle.paper.specs.Vote.{member}
 

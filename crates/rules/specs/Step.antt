@@ -1,14 +1,13 @@
 -- "What each event does": what every event's result is made of. Assumes nothing.
 -- In all rules n, s is the setup, c this copy, o.j the instance and r its record.
-use Prim.Native.Nat.{ℕ, zero, suc, _+_}
-use mathlib.Core.Bool.{Bool, _&&_, not, cond}
-use mathlib.Core.List.{List, [], _∷_}
-use lib.Dec.{leb, eqb}
-use lib.ListN.{replicate, set, getD}
+use Prim.Native.Nat.{ℕ}
+use mathlib.Core.Bool.{Bool, _&&_, not}
+use mathlib.Core.List.{List}
+use lib.Dec.{eqb}
+use lib.ListN.{replicate, set}
 use Rattle.paper.specs.Vote.{noVote, member}
 use Rattle.paper.specs.Deps.{noDeps}
 use Rattle.paper.specs.Message.{noMessage}
-use Rattle.paper.specs.declared.Command.{Command}
 use Rattle.paper.specs.declared.Vote.{Vote}
 use Rattle.paper.specs.declared.Record.{Record}
 use Rattle.paper.specs.declared.Body.{Body}

@@ -1,12 +1,11 @@
 -- Lists of dependencies: the join is above both, and Seen counts each command that is met. Assumes nothing.
 use Prim.Native.Nat.{ℕ, zero, suc, _+_, _≤_, _<_}
-use mathlib.Core.Path.{_≡_, refl, sym, _∙_}
+use mathlib.Core.Path.{_≡_, refl}
 use mathlib.Core.Bool.{true}
 use mathlib.Core.List.{List, [], _∷_}
 use native.Mathlib.Omega.{arith}
 use lib.Dec.{eqb}
 use lib.ListN.{getD, length}
-use lib.Seq.{ext-getD}
 use Rattle.paper.specs.Logic.{allBelow}
 use Rattle.paper.specs.Command.{sameCommand, opNumber}
 use Rattle.paper.specs.Deps.{noDeps, sameDeps, join}

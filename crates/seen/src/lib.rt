@@ -12,7 +12,7 @@ ghost use lib.Dec.{leb, eqb};
 ghost use lib.ListN.{length};
 ghost use Rattle.paper.specs.Command.{interfere};
 ghost use Rattle.record.specs.Layout.{recordAt};
-ghost use Rattle.table.specs.Place.{partAt, placeAt};
+ghost use Rattle.table.specs.Place.{partAt};
 ghost use Rattle.table.specs.Sizes.{Sizes, Row};
 ghost use Rattle.rules.specs.Seen.{met, seenEntry, seen};
 ghost use Rattle.rules.specs.Sets.{highest};

@@ -14,10 +14,10 @@ use rules::Step;
 use sets::only_of;
 use sets::with_of;
 ghost use mathlib.Core.Path.{_≡_};
-ghost use Prim.Native.Nat.{_<_, _≤_};
+ghost use Prim.Native.Nat.{_<_};
 ghost use lib.ListN.{length};
 ghost use Rattle.paper.specs.Message.{noMessage};
-ghost use Rattle.rules.specs.Step.{isCommitted, begun, say, silent, sending, collect, awaited, commitBack, nackBack};
+ghost use Rattle.rules.specs.Step.{isCommitted, begun, say, silent, collect, awaited, commitBack, nackBack};
 
 pub fn is_committed(r: Record) -> bool
     ensures { λ x. ⌜ x ≡ isCommitted r ⌝ }

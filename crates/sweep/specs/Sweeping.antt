@@ -1,7 +1,7 @@
 -- What every instance reaches, found by sweeps over the table. Assumes nothing.
 -- n, s: the setup; t: the table's bytes; u: the records; g: a row for each beginning of an owner's row, what its instances
 -- reach; h: a row for each instance, what it reaches.
-use Prim.Native.Nat.{ℕ, zero, suc, _+_, _-_, _≤_, _<_}
+use Prim.Native.Nat.{ℕ, zero, suc, _-_, _≤_, _<_}
 use mathlib.Core.Path.{_≡_}
 use mathlib.Core.Bool.{Bool, false, _&&_, cond}
 use mathlib.Core.List.{List}

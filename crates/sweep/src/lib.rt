@@ -18,7 +18,7 @@ ghost use Rattle.reach.specs.High.{Inst};
 ghost use Rattle.paper.specs.Deps.{join};
 ghost use Rattle.rows.specs.Rows.{slotOf, rowOf, markIn, Within};
 ghost use Rattle.sweep.specs.Sweeping.{Charting, Charted, withNamed, beyondIn, beforeIn, turned, Raised, Numbered, Swept};
-ghost use Rattle.sweep.specs.Sweeping.{Sweeping, Naming, Taking, Found, Opened, Closed, Wrote, Closing, Reaching};
+ghost use Rattle.sweep.specs.Sweeping.{Sweeping, Naming, Taking, Opened, Closed, Wrote, Closing, Reaching};
 
 // The row at x of h takes in that at y of g.
 fn take_row(g: &[u8], y: usize, h: &mut [u8], x: usize)

@@ -1,14 +1,13 @@
 -- Sizes and places. Assumes nothing.
-use mathlib.Core.Path.{_≡_, refl, sym, ap, _∙_}
-use mathlib.Core.Bool.{Bool, true, false, _&&_, _||_, not}
-use mathlib.Core.List.{List, [], _∷_, _++_, append-assoc}
-use mathlib.Core.Logic.{⊎-elim}
-use Prim.Native.Nat.{ℕ, zero, suc, _+_, _*_, _-_, _≤_, _<_}
+use mathlib.Core.Path.{_≡_, refl, sym}
+use mathlib.Core.Bool.{Bool, true, false, _&&_, _||_}
+use mathlib.Core.List.{List, append-assoc}
+use Prim.Native.Nat.{ℕ, suc, _+_, _*_, _-_, _≤_, _<_}
 use native.Mathlib.Omega.{arith}
-use native.Mathlib.Nat.{mul-le-mul-right, suc-mul, add-sub-cancel-left}
-use lib.Dec.{leb, ltb, eqb}
+use native.Mathlib.Nat.{mul-le-mul-right, suc-mul}
+use lib.Dec.{leb, eqb}
 use lib.ListN.{length, take, drop}
-use borrow.Author.Tests.{leb-true, ltb-true, eqb-true, eqb-false}
+use borrow.Author.Tests.{leb-true, ltb-true, eqb-true}
 use borrow.Rule.Slice.PartMut.{putMid, post-is}
 use Rattle.num.specs.Num.{splice}
 use Rattle.paper.specs.Setup.{setupOk, copiesOk, numbersOk, copyOk}
@@ -16,7 +15,7 @@ use Rattle.paper.specs.Instance.{instanceOk, ownerOk, numberOk}
 use Rattle.paper.proofs.Laws.{and-true}
 use Rattle.table.specs.Place.{tableLength, placeAt, placeOf}
 use Rattle.table.specs.Table.{fits}
-use Rattle.table.specs.Sizes.{Sizes, Row, Names}
+use Rattle.table.specs.Sizes.{Sizes, Names}
 
 -- one of 3, 5 and 7
 copies-bound : (n : ℕ) → copiesOk n ≡ true → (1 ≤ n) × (n ≤ 7)

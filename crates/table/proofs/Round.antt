@@ -1,6 +1,6 @@
 -- One record in and out of a table: get after put, put after get, and every byte that a put leaves. Assumes nothing.
 use mathlib.Core.Path.{_≡_, refl, sym, ap, _∙_}
-use mathlib.Core.Bool.{Bool, true, false, _&&_}
+use mathlib.Core.Bool.{Bool, true, false}
 use mathlib.Core.List.{List, [], _∷_}
 use mathlib.Core.Logic.{_⊎_, inl, inr, ⊎-elim}
 use Prim.Native.Nat.{ℕ, zero, suc, _+_, _*_, _-_, _≤_, _<_}
@@ -9,21 +9,21 @@ use native.Mathlib.Nat.{mul-le-mul-right, suc-mul, eq-or-lt-of-le}
 use lib.Dec.{leb}
 use borrow.Author.Tests.{leb-true, leb-false}
 use lib.ListN.{length, getD, take, drop, length-take, length-drop, length-append}
-use lib.Seq.{getD-take, getD-drop, take-take, drop-drop}
+use lib.Seq.{getD-take, getD-drop}
 use Rattle.num.specs.Num.{splice}
 use Rattle.num.proofs.Laws.{splice-same, splice-before, splice-after, splice-own, length-splice}
 use Rattle.paper.specs.Logic.{allBelow}
 use Rattle.paper.specs.Sound.{soundRecord}
 use Rattle.paper.proofs.Laws.{and-true, allBelow-at}
 use Rattle.paper.specs.declared.Record.{Record}
-use Rattle.record.specs.Layout.{recordAt, recordBytes, frontBytes, votesBytes}
+use Rattle.record.specs.Layout.{recordAt, recordBytes, votesBytes}
 use Rattle.record.specs.Part.{soundPart, opsFit}
 use Rattle.record.proofs.Laws.{length-frontBytes, length-votesBytes}
 use Rattle.record.proofs.Round.{recordAt-recordBytes, recordBytes-recordAt}
 use Rattle.paper.specs.Fits.{RecordFits}
 use Rattle.table.specs.Place.{tableLength, placeAt, placeOf, partAt}
 use Rattle.table.specs.Table.{headOk, soundRow, soundTable, recordIn, putRecord}
-use Rattle.table.specs.Sizes.{Sizes, Names}
+use Rattle.table.specs.Sizes.{Names}
 use Rattle.table.proofs.Laws.{place-end}
 
 pub length-recordBytes : (r : Record) → length (r .replies) ≡ 7 → length (recordBytes r) ≡ 263

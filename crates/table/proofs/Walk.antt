@@ -11,7 +11,7 @@ use Rattle.record.proofs.Laws.{allBelow-step, allBelow-none}
 use Rattle.record.proofs.Quick.{idle-sound}
 use Rattle.table.specs.Place.{tableLength, placeAt, placeOf, partAt}
 use Rattle.table.specs.Table.{pastIdle, soundRow}
-use Rattle.table.specs.Sizes.{Sizes, Row, Names}
+use Rattle.table.specs.Sizes.{Row, Names}
 use Rattle.table.proofs.Laws.{row-end}
 
 -- the whole is what is left, for any test of each number below a bound

@@ -1,10 +1,9 @@
 -- What the calls on a whole table answer, and every lent byte after. Assumes nothing.
 use Prim.Native.Nat.{ℕ}
-use mathlib.Core.Bool.{Bool, _&&_, not, cond}
+use mathlib.Core.Bool.{_&&_, not, cond}
 use mathlib.Core.List.{List, []}
 use Rattle.paper.specs.Instance.{instanceOk}
 use Rattle.paper.specs.Refusal.{numberOf}
-use Rattle.paper.specs.declared.Refusal.{Refusal}
 use Rattle.paper.specs.declared.Refusal.the-variants.{Setup, Unsound}
 use Rattle.table.specs.declared.Blanking.{Blanking}
 use Rattle.table.specs.declared.Blanking.the-variants as blanking

@@ -1,12 +1,12 @@
 -- Lengths of messages, and the outcomes of the two calls, one law each. Assumes nothing.
-use mathlib.Core.Path.{_≡_, refl, sym, ap, _∙_}
-use mathlib.Core.Bool.{Bool, true, false, _&&_, not, and-eq-true-iff}
-use mathlib.Core.List.{List, [], _∷_, _++_}
+use mathlib.Core.Path.{_≡_, refl}
+use mathlib.Core.Bool.{true, false, _&&_, and-eq-true-iff}
+use mathlib.Core.List.{List, [], _∷_}
 use Prim.Native.Nat.{ℕ, _+_, _≤_, _<_}
 use native.Mathlib.Omega.{arith}
-use lib.Dec.{leb, ltb, eqb}
+use lib.Dec.{leb}
 use lib.ListN.{length}
-use borrow.Author.Tests.{leb-true, eqb-true, ne-eqb, lt-ltb, le-ltb}
+use borrow.Author.Tests.{leb-true, eqb-true, lt-ltb, le-ltb}
 use Rattle.num.specs.Num.{splice}
 use Rattle.paper.specs.Setup.{setupOk}
 use Rattle.paper.specs.Message.{kindOf}

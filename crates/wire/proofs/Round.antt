@@ -2,9 +2,9 @@
 use mathlib.Core.Path.{_≡_, refl, sym, ap, ap₂, _∙_}
 use mathlib.Core.Bool.{Bool, true, false, _&&_, _||_, cond}
 use mathlib.Core.List.{List, [], _∷_, _++_, append-nil}
-use Prim.Native.Nat.{ℕ, zero, suc, _+_, _^_, _≤_, _<_}
+use Prim.Native.Nat.{ℕ, zero, suc, _+_, _≤_, _<_}
 use native.Mathlib.Omega.{arith}
-use lib.Dec.{leb, eqb}
+use lib.Dec.{eqb}
 use lib.ListN.{length, getD, take, drop}
 use lib.Seq.{take-all, take-add}
 use borrow.Author.Tests.{leb-true, le-leb, eq-eqb, eqb-true}
@@ -12,25 +12,23 @@ use Rattle.num.specs.Num.{numAt, splice}
 use Rattle.num.specs.Fields.{sizeOf, fieldsAt, fieldsBytes, FieldsFit}
 use Rattle.num.proofs.Laws.{splice-same}
 use Rattle.num.proofs.Fields.{fieldsAt-fieldsBytes, fieldsBytes-fieldsAt}
-use Rattle.codec.specs.Parts.{opOf, commandOf, commandNumbers, depsNumbers}
+use Rattle.codec.specs.Parts.{commandNumbers, depsNumbers}
 use Rattle.codec.proofs.Laws.{op-small, opNumber-opOf, command-is, deps-are}
-use Rattle.paper.specs.Command.{opNumber}
 use Rattle.paper.specs.Deps.{noDeps, sameDeps}
 use Rattle.paper.specs.Setup.{setupOk}
 use Rattle.paper.specs.Fits.{CommandFits, DepsFit, BodyFits, MessageFits}
 use Rattle.paper.specs.Message.{kindOf, carriesDeps}
-use Rattle.paper.specs.Valid.{valid, headOk, wayOk, bodyOk, depsCarried, toHere, fromAnother, fromLead, toLead, commandRange, depsRange, joinedRange, freshOp, told, joinedAbove}
+use Rattle.paper.specs.Valid.{valid, headOk, wayOk, bodyOk, depsCarried, toHere, fromAnother, fromLead, toLead, commandRange, depsRange, joinedRange, freshOp, told}
 use Rattle.paper.proofs.Laws.{and-true, sameDeps-eq}
 use Rattle.paper.specs.declared.Command.{Command}
 use Rattle.paper.specs.declared.Body.{Body}
 use Rattle.paper.specs.declared.Body.the-variants.{PreAccept, PreAcceptOk, Accept, AcceptOk, Commit, Prepare, PrepareOk, Nack}
 use Rattle.paper.specs.declared.Message.{Message}
 use Rattle.wire.specs.declared.Reading.the-variants as reading
-use Rattle.wire.specs.declared.Received.{Received}
 use Rattle.wire.specs.declared.Writing.the-variants as writing
 use Rattle.wire.specs.Wire.{isProposal, headWidths, headNumbers, restWidths, restNumbers, lengthOf, headBytes, restBytes, messageBytes, bodyOf, depsOf, kindAt, bodyAt, besideAt, messageAt, framed, opAt, opFits, validBytes}
 use Rattle.wire.specs.Calls.{received, Wrote, wrote}
-use Rattle.wire.proofs.Laws.{ten, Framed, framed-is, length-headBytes, length-restBytes, length-messageBytes, rest-short, received-ok, wrote-ok}
+use Rattle.wire.proofs.Laws.{ten, Framed, framed-is, length-headBytes, length-messageBytes, rest-short, received-ok, wrote-ok}
 
 kind-small : (b : Body) → kindOf b < 256
 kind-small (PreAccept k) = omega arith

@@ -1,7 +1,7 @@
 -- No second result satisfies a contract of this crate's calls, and the answers' numbers tell them apart. Assumes nothing.
 use mathlib.Core.Path.{_≡_, refl, sym, ap, _∙_}
 use mathlib.Core.List.{List}
-use Prim.Native.Nat.{ℕ, _≤_}
+use Prim.Native.Nat.{ℕ}
 use native.Mathlib.Omega.{arith}
 use Rattle.paper.proofs.Numbers.{numberOf-apart, numberOf-pos}
 use Rattle.paper.specs.declared.Message.{Message}

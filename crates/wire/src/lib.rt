@@ -20,7 +20,7 @@ ghost use mathlib.Core.List.{_++_};
 ghost use lib.ListN.{length};
 ghost use Rattle.num.specs.Num.{splice};
 ghost use Rattle.codec.specs.Parts.{commandBytes, depsBytes};
-ghost use Rattle.paper.specs.Message.{kindOf, noMessage};
+ghost use Rattle.paper.specs.Message.{noMessage};
 ghost use Rattle.wire.specs.Wire.{isProposal, lengthOf, kindAt, bodyAt, besideAt, messageAt, framed, opAt, headBytes, restBytes, messageBytes};
 ghost use Rattle.wire.specs.Calls.{unread, received, wrote};
 

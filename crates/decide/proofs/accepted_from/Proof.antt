@@ -1,7 +1,5 @@
-use mathlib.Core.Path.{_≡_, refl, sym, ap, _∙_}
-use Prim.Native.Nat.{ℕ}
-use Rattle.rules.specs.Sets.{those}
-use Rattle.rules.specs.PrepareOk.{voter, topAccepter, sameVoter}
+use mathlib.Core.Path.{sym, _∙_}
+use Rattle.rules.specs.PrepareOk.{topAccepter, sameVoter}
 use Rattle.sets.proofs.Laws.{lowest-those}
 use Rattle.decide.proofs.Laws.{from-none, from-accepter, from-same, from-afresh}
 use borrow.Author.Needs.{needs}

@@ -1,4 +1,3 @@
-use mathlib.Core.Path.{_≡_, refl, sym, ap, _∙_}
 use borrow.Author.Needs.{needs}
 use Rattle.decide.proofs.voted_or_none.Statement.{statement}
 use Rattle.decide.proofs.voted_or_none.Tie as tie

@@ -1,7 +1,6 @@
 use borrow.Author.Needs.{needs}
 use Rattle.record.proofs.command_fits.Statement.{statement}
 use Rattle.record.proofs.command_fits.Tie as tie
-use mathlib.Core.Path.{_≡_, refl, sym, ap, ap₂, _∙_}
 use Rattle.record.proofs.Front.{command-some, command-key, command-edit}
 
 get-u8-requires : tie.Need-get-u8-requires

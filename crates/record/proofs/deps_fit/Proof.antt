@@ -1,4 +1,4 @@
-use mathlib.Core.Path.{_≡_, ap, _∙_}
+use mathlib.Core.Path.{ap, _∙_}
 use Rattle.paper.specs.Deps.{depsOk}
 use Rattle.record.proofs.Front.{deps-seven}
 use borrow.Author.Needs.{needs}

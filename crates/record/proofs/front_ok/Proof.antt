@@ -1,7 +1,7 @@
 use borrow.Author.Needs.{needs}
 use Rattle.record.proofs.front_ok.Statement.{statement}
 use Rattle.record.proofs.front_ok.Tie as tie
-use mathlib.Core.Path.{_≡_, refl, sym, ap, ap₂, _∙_}
+use mathlib.Core.Path.{sym, ap₂, _∙_}
 use borrow.Author.Tests.{not-true, not-false}
 use Rattle.sound.specs.Asked.{ballotsOk, markedOk}
 use Rattle.record.proofs.Front.{front-ballots, front-command, front-mark, front-none, front-deps}

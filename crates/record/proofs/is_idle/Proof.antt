@@ -1,7 +1,7 @@
 use borrow.Author.Needs.{needs}
 use Rattle.record.proofs.is_idle.Statement.{statement}
 use Rattle.record.proofs.is_idle.Tie as tie
-use mathlib.Core.Path.{_≡_, refl, sym, ap, ap₂, _∙_}
+use mathlib.Core.Path.{_∙_}
 use Rattle.record.proofs.Front.{in-phase, some-set, empty-set}
 
 get-u8-requires : tie.Need-get-u8-requires

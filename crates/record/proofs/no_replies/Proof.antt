@@ -1,10 +1,9 @@
 use Rattle.record.proofs.no_replies.Statement.{statement}
 use Rattle.record.proofs.no_replies.Tie as tie
-use mathlib.Core.Path.{_≡_, refl, sym, ap, _∙_}
-use Prim.Native.Nat.{ℕ, _+_, _*_, _-_, _≤_, _<_}
+use mathlib.Core.Path.{refl}
+use Prim.Native.Nat.{_-_, _≤_}
 use native.Mathlib.Omega.{arith}
 use lib.ListN.{length}
-use borrow.Author.Tests.{not-true, not-false}
 use Rattle.record.proofs.Quick.{Clear, clear-start, clear-next, clear-all}
 
 abbrev Inv-loop : tie.InvT-loop

@@ -1,7 +1,7 @@
 use borrow.Author.Needs.{needs}
 use Rattle.record.proofs.none_ok.Statement.{statement}
 use Rattle.record.proofs.none_ok.Tie as tie
-use mathlib.Core.Path.{_≡_, refl, sym, ap, ap₂, _∙_}
+use mathlib.Core.Path.{ap, _∙_}
 use Rattle.paper.specs.Vote.{noneIsBlank}
 use Rattle.record.proofs.Front.{none-some}
 

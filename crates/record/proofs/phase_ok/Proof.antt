@@ -1,11 +1,7 @@
 use borrow.Author.Needs.{needs}
 use Rattle.record.proofs.phase_ok.Statement.{statement}
 use Rattle.record.proofs.phase_ok.Tie as tie
-use mathlib.Core.Path.{_≡_, refl, sym, ap, _∙_}
-use Prim.Native.Nat.{ℕ, _+_, _*_, _-_, _≤_, _<_}
-use native.Mathlib.Omega.{arith}
-use lib.ListN.{length}
-use borrow.Author.Tests.{not-true, not-false}
+use Prim.Native.Nat.{_-_}
 use Rattle.record.proofs.Laws.{phase-judged}
 
 get-u32-requires : tie.Need-get-u32-requires

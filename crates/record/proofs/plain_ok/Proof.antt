@@ -1,7 +1,7 @@
 use borrow.Author.Needs.{needs}
 use Rattle.record.proofs.plain_ok.Statement.{statement}
 use Rattle.record.proofs.plain_ok.Tie as tie
-use mathlib.Core.Path.{_≡_, refl, sym, ap, ap₂, _∙_}
+use mathlib.Core.Path.{sym, ap₂, _∙_}
 use borrow.Author.Tests.{not-true, not-false}
 use Rattle.sound.specs.Asked.{phasedOk}
 use Rattle.record.proofs.Front.{plain-front, plain-phased}

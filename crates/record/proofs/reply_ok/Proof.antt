@@ -1,4 +1,4 @@
-use mathlib.Core.Path.{_≡_, sym, ap, _∙_}
+use mathlib.Core.Path.{sym, ap, _∙_}
 use borrow.Author.Tests.{not-true, not-false}
 use Rattle.paper.specs.Vote.{member}
 use Rattle.record.proofs.Laws.{replyPart-op, replyPart-in, replyPart-out}

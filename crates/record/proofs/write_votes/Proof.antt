@@ -1,10 +1,9 @@
 use borrow.Author.Needs.{needs}
-use mathlib.Core.Path.{_≡_, refl, sym, ap, _∙_}
-use mathlib.Core.List.{List, [], _∷_, _++_}
-use Prim.Native.Nat.{ℕ, _+_, _*_, _-_, _≤_, _<_}
+use mathlib.Core.Path.{_≡_, refl}
+use Prim.Native.Nat.{_+_, _-_, _≤_}
 use native.Mathlib.Omega.{arith}
 use lib.Seq.{take-all}
-use lib.ListN.{length, take, length-append}
+use lib.ListN.{length, take}
 use Rattle.num.specs.Num.{splice}
 use Rattle.num.proofs.Laws.{splice-nil}
 use Rattle.record.specs.Layout.{votesBytes}

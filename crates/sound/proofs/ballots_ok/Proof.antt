@@ -1,4 +1,4 @@
-use mathlib.Core.Path.{_≡_, refl, sym, ap₂, _∙_}
+use mathlib.Core.Path.{ap₂, _∙_}
 use mathlib.Core.Bool.{_&&_}
 use Rattle.sound.proofs.Laws.{ballots-0, ballots-above, ballots-each}
 use borrow.Author.Needs.{needs}

@@ -1,4 +1,3 @@
-use mathlib.Core.Path.{_≡_, refl, sym, _∙_}
 use Rattle.sound.proofs.Laws.{marked-0, marked-1}
 use borrow.Author.Needs.{needs}
 use Rattle.sound.proofs.marked_ok.Statement.{statement}

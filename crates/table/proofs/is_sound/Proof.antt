@@ -1,6 +1,5 @@
 use mathlib.Core.Path.{_∙_, ap₂}
 use mathlib.Core.Bool.{_&&_}
-use native.Mathlib.Omega.{arith}
 use Rattle.table.specs.Table.{soundTable}
 use borrow.Author.Needs.{needs}
 use Rattle.table.proofs.is_sound.Statement.{statement}

@@ -1,5 +1,5 @@
-use mathlib.Core.Path.{_≡_, refl, sym, ap, _∙_}
-use Prim.Native.Nat.{ℕ, _+_, _*_, _-_, _≤_, _<_}
+use mathlib.Core.Path.{_≡_, ap}
+use Prim.Native.Nat.{ℕ, _+_, _*_, _-_}
 use Rattle.table.specs.Place.{placeAt, placeOf}
 use Rattle.table.proofs.Laws.{place-end}
 use borrow.Author.Needs.{needs}

@@ -1,11 +1,10 @@
-use borrow.Author.Needs.{needs}
-use mathlib.Core.Path.{_≡_, refl, sym, ap, _∙_}
-use Prim.Native.Nat.{ℕ, _+_, _*_, _-_, _≤_, _<_}
+use mathlib.Core.Path.{_≡_, refl, sym, _∙_}
+use Prim.Native.Nat.{_-_, _≤_}
 use native.Mathlib.Omega.{arith}
 use borrow.Author.Tests.{not-true, not-false}
 use Rattle.paper.specs.Logic.{allBelow}
 use Rattle.table.specs.Table.{soundRow}
-use Rattle.table.specs.Sizes.{Sizes, Row}
+use Rattle.table.specs.Sizes.{Sizes}
 use Rattle.table.proofs.Walk.{left-true, left-false, left-none}
 use Rattle.table.proofs.rows_sound.Statement.{statement}
 use Rattle.table.proofs.rows_sound.Tie as tie

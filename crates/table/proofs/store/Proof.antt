@@ -2,7 +2,7 @@ use mathlib.Core.Path.{ap, _∙_}
 use mathlib.Core.List.{List}
 use Prim.Native.Nat.{ℕ, _+_, _-_}
 use native.Mathlib.Omega.{arith}
-use lib.ListN.{length, take, drop}
+use lib.ListN.{length}
 use borrow.Rule.Slice.PartMut.{putMid}
 use Rattle.record.specs.Layout.{recordBytes}
 use Rattle.table.proofs.Laws.{put-splice}

@@ -1,4 +1,4 @@
-use mathlib.Core.Path.{_≡_, refl, sym, ap, ap₂, _∙_}
+use mathlib.Core.Path.{ap, _∙_}
 use Rattle.paper.specs.Deps.{sameDeps}
 use Rattle.paper.specs.Message.{carriesDeps}
 use Rattle.valid.proofs.Laws.{carried, not-carried}

@@ -1,4 +1,4 @@
-use mathlib.Core.Path.{_≡_, refl, sym, ap, ap₂, _∙_}
+use mathlib.Core.Path.{ap, _∙_}
 use Rattle.paper.specs.Vote.{toldOk}
 use Rattle.valid.proofs.Laws.{untold, told-7}
 use borrow.Author.Needs.{needs}

@@ -1,6 +1,5 @@
-use Prim.Native.Nat.{ℕ, _+_, _≤_}
 use native.Mathlib.Omega.{arith}
-use Rattle.wire.proofs.Laws.{Framed, framed-is, ten}
+use Rattle.wire.proofs.Laws.{framed-is, ten}
 use Rattle.wire.specs.Wire.{kindAt, messageAt}
 use borrow.Author.Needs.{needs}
 use Rattle.wire.proofs.decode.Statement.{statement}

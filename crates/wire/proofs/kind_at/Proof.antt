@@ -1,8 +1,3 @@
-use mathlib.Core.Path.{_≡_, refl, sym, ap, _∙_}
-use mathlib.Core.List.{List, [], _∷_, _++_}
-use Prim.Native.Nat.{ℕ}
-use native.Mathlib.Omega.{arith}
-use lib.ListN.{length}
 use Rattle.wire.proofs.Laws.{empty}
 use borrow.Author.Needs.{needs}
 use Rattle.wire.proofs.kind_at.Statement.{statement}

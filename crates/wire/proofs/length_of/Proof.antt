@@ -1,4 +1,4 @@
-use mathlib.Core.Path.{_≡_, refl, sym, ap, _∙_}
+use mathlib.Core.Path.{sym, ap}
 use borrow.Author.Tests.{ne-eqb}
 use Rattle.wire.specs.Wire.{restWidths, lengthOf}
 use Rattle.wire.proofs.length_of.Statement.{statement}

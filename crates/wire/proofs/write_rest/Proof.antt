@@ -1,4 +1,4 @@
-use mathlib.Core.Path.{_≡_, refl, sym, ap, _∙_}
+use mathlib.Core.Path.{sym, ap, _∙_}
 use Rattle.num.specs.Num.{splice}
 use Rattle.num.proofs.Laws.{splice-nil}
 use Rattle.codec.specs.Parts.{commandBytes, depsBytes, voteBytes}

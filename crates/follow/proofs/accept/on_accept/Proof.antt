@@ -1,5 +1,4 @@
-use mathlib.Core.Path.{_≡_, refl, sym, ap, _∙_}
-use Rattle.paper.specs.Deps.{noDeps}
+use mathlib.Core.Path.{sym, ap, _∙_}
 use Rattle.paper.specs.declared.Body.the-variants.{AcceptOk}
 use Rattle.rules.specs.Step.{say}
 use Rattle.step.proofs.Laws.{step-is}

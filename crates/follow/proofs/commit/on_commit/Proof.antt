@@ -1,4 +1,4 @@
-use mathlib.Core.Path.{_≡_, refl, sym, ap, _∙_}
+use mathlib.Core.Path.{sym, ap, _∙_}
 use Rattle.rules.specs.Step.{silent}
 use Rattle.follow.proofs.Outcomes.{commit-again, commit-taken}
 use borrow.Author.Needs.{needs}

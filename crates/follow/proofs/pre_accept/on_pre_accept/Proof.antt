@@ -1,8 +1,5 @@
-use mathlib.Core.Path.{_≡_, refl, sym, ap, _∙_}
-use mathlib.Core.List.{List}
-use Prim.Native.Nat.{ℕ}
+use mathlib.Core.Path.{sym, ap, _∙_}
 use Rattle.rules.specs.PreAccept.{preAcceptOk, preAccepted}
-use Rattle.paper.specs.declared.Record.{Record}
 use Rattle.follow.proofs.Outcomes.{preAccept-committed, preAccept-low, preAccept-again, preAccept-past, preAccept-taken}
 use borrow.Author.Needs.{needs}
 use Rattle.follow.proofs.pre_accept.on_pre_accept.Statement.{statement}

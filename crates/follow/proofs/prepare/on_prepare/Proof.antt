@@ -1,5 +1,4 @@
-use mathlib.Core.Path.{_≡_, refl, sym, ap, _∙_}
-use native.Mathlib.Omega.{arith}
+use mathlib.Core.Path.{sym, _∙_}
 use Rattle.step.proofs.Laws.{step-is}
 use Rattle.follow.proofs.Outcomes.{prepare-committed, prepare-low, prepare-voted, prepare-taken}
 use borrow.Author.Needs.{needs}

@@ -1,4 +1,4 @@
-use mathlib.Core.Path.{_≡_, refl, sym, ap, _∙_}
+use mathlib.Core.Path.{sym, _∙_}
 use Rattle.lead.proofs.Outcomes.{accepted-some, accepted-few}
 use borrow.Author.Needs.{needs}
 use Rattle.lead.proofs.accept_ok.accepted_by.Statement.{statement}

@@ -1,4 +1,4 @@
-use mathlib.Core.Path.{_≡_, refl, sym, ap, _∙_}
+use mathlib.Core.Path.{_≡_, sym, ap, _∙_}
 use mathlib.Core.Bool.{not, _&&_}
 use lib.Dec.{eqb}
 use Rattle.rules.specs.Step.{isCommitted, silent}

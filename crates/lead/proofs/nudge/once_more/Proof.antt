@@ -1,4 +1,4 @@
-use mathlib.Core.Path.{_≡_, refl, sym, ap, _∙_}
+use mathlib.Core.Path.{ap, _∙_}
 use mathlib.Core.List.{List}
 use Rattle.paper.specs.declared.Body.the-variants.{Prepare}
 use Rattle.rules.specs.Sets.{absent}

@@ -1,8 +1,6 @@
-use Prim.Native.Nat.{ℕ}
 use mathlib.Core.Bool.{_&&_, _||_, not}
 use Rattle.paper.specs.Deps.{sameDeps}
-use Rattle.paper.specs.Vote.{noVote, member}
-use Rattle.paper.specs.declared.Vote.{Vote}
+use Rattle.paper.specs.Vote.{member}
 use Rattle.step.proofs.Laws.{all-votes}
 use borrow.Author.Needs.{needs}
 use Rattle.lead.proofs.pre_accept_ok.agrees.Statement.{statement}

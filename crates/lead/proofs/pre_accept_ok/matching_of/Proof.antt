@@ -1,7 +1,6 @@
-use mathlib.Core.Path.{_≡_, refl, sym, ap, _∙_}
-use Prim.Native.Nat.{ℕ}
+use mathlib.Core.Path.{ap, _∙_}
 use mathlib.Core.List.{List}
-use mathlib.Core.Bool.{_&&_, _||_, not}
+use mathlib.Core.Bool.{_&&_}
 use lib.ListN.{getD}
 use Rattle.paper.specs.Deps.{sameDeps}
 use Rattle.paper.specs.Vote.{noVote, member}

@@ -1,4 +1,4 @@
-use mathlib.Core.Path.{_≡_, refl, sym, ap, _∙_}
+use mathlib.Core.Path.{sym, _∙_}
 use Rattle.lead.proofs.Outcomes.{preAccepted-fast, preAccepted-slow, preAccepted-wait, preAccepted-some, preAccepted-few}
 use borrow.Author.Needs.{needs}
 use Rattle.lead.proofs.pre_accept_ok.pre_accepted_by.Statement.{statement}

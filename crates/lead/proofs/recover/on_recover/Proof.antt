@@ -1,7 +1,6 @@
-use mathlib.Core.Path.{_≡_, ap, ap₂, _∙_}
+use mathlib.Core.Path.{ap, ap₂, _∙_}
 use mathlib.Core.List.{List}
 use Prim.Native.Nat.{ℕ}
-use Rattle.paper.specs.Deps.{noDeps}
 use Rattle.paper.specs.declared.Body.the-variants.{Prepare}
 use Rattle.rules.specs.Sets.{others}
 use Rattle.rules.specs.Step.{say}

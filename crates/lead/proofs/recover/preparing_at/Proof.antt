@@ -1,4 +1,3 @@
-use mathlib.Core.Path.{_≡_, refl, sym, ap, _∙_}
 use Rattle.lead.proofs.Laws.{preparing-is}
 use borrow.Author.Needs.{needs}
 use Rattle.lead.proofs.recover.preparing_at.Statement.{statement}

@@ -1,16 +1,11 @@
 use mathlib.Core.Path.{_≡_, sym, ap, _∙_}
-use mathlib.Core.Bool.{not, _&&_}
-use Prim.Native.Nat.{ℕ, _+_, _≤_, _<_}
+use Prim.Native.Nat.{ℕ}
 use native.Mathlib.Omega.{arith}
-use lib.Dec.{eqb}
-use lib.ListN.{length}
-use borrow.Author.Tests.{not-true, not-false, le-leb, lt-leb}
+use borrow.Author.Tests.{not-true, not-false}
 use Rattle.paper.specs.declared.Refusal.the-variants as why
 use Rattle.record.specs.Layout.{recordAt}
-use Rattle.rules.specs.Step.{isCommitted}
 use Rattle.table.specs.Place.{partAt}
 use Rattle.table.proofs.Laws.{sizes, names}
-use Rattle.log.specs.Out.{outBytes}
 use Rattle.log.proofs.Held.{Bytes}
 use Rattle.rules.specs.Nudge.{nothingToNudge}
 use Rattle.log.proofs.Calls.{three, met, refused, acted-is, nudge-6, nudge-9, nudge-ok, nudge-room, nudge-step}

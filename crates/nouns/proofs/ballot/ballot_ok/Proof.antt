@@ -1,11 +1,8 @@
 use borrow.Author.Needs.{needs}
 use Rattle.nouns.proofs.ballot.ballot_ok.Statement.{statement}
 use Rattle.nouns.proofs.ballot.ballot_ok.Tie as tie
-use mathlib.Core.Path.{_≡_, sym, ap, ap₂, _∙_}
+use mathlib.Core.Path.{ap₂, _∙_}
 use mathlib.Core.Bool.{_&&_}
-use Prim.Native.Nat.{ℕ}
-use lib.Dec.{leb}
-use borrow.Author.Tests.{not-true, not-false}
 use Rattle.nouns.proofs.Laws.{ballot-0, ballot-other}
 
 wide32-requires : tie.Need-wide32-requires

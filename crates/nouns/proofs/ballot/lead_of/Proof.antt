@@ -1,4 +1,3 @@
-use mathlib.Core.Path.{sym}
 use Rattle.paper.specs.Ballot.{lead}
 use borrow.Author.Tests.{eq-eqb, ne-eqb}
 use borrow.Author.Needs.{needs}

@@ -1,7 +1,6 @@
 use borrow.Author.Needs.{needs}
 use Rattle.nouns.proofs.vote.none_is_blank.Statement.{statement}
 use Rattle.nouns.proofs.vote.none_is_blank.Tie as tie
-use mathlib.Core.Path.{_≡_}
 use Rattle.nouns.proofs.Laws.{some-status, no-status}
 
 returns : tie.Need-returns

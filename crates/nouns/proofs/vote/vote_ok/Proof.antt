@@ -1,7 +1,7 @@
 use borrow.Author.Needs.{needs}
 use Rattle.nouns.proofs.vote.vote_ok.Statement.{statement}
 use Rattle.nouns.proofs.vote.vote_ok.Tie as tie
-use mathlib.Core.Path.{_≡_, sym, ap, ap₂, _∙_}
+use mathlib.Core.Path.{sym, ap, ap₂, _∙_}
 use mathlib.Core.Bool.{_&&_}
 use Prim.Native.Nat.{ℕ}
 use lib.Dec.{leb}

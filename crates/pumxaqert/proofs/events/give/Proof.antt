@@ -1,7 +1,7 @@
 use borrow.Author.Needs.{needs}
 use Rattle.pumxaqert.proofs.events.give.Statement.{statement}
 use Rattle.pumxaqert.proofs.events.give.Tie as tie
-use mathlib.Core.Path.{_≡_, refl, sym, ap, ap₂, _∙_}
+use mathlib.Core.Path.{_∙_}
 
 enum-known-a : tie.Need-enum-known-a
 enum-known-a c = search needs

@@ -1,7 +1,7 @@
 use borrow.Author.Needs.{needs}
 use Rattle.pumxaqert.proofs.events.pumxaqert_request.Statement.{statement}
 use Rattle.pumxaqert.proofs.events.pumxaqert_request.Tie as tie
-use mathlib.Core.Path.{_≡_, refl, sym, ap, ap₂, _∙_}
+use mathlib.Core.Path.{ap, _∙_}
 use Rattle.log.specs.Events.{answerNumber}
 use Rattle.pumxaqert.specs.Flat.{answerValues}
 

@@ -1,9 +1,7 @@
 use Rattle.pumxaqert.proofs.fields.body_from.Statement.{statement}
 use Rattle.pumxaqert.proofs.fields.body_from.Tie as tie
-use mathlib.Core.Path.{_≡_, refl, sym, ap, ap₂, _∙_}
-use Prim.Native.Nat.{ℕ, _+_, _-_, _≤_, _<_}
-use native.Mathlib.Omega.{arith}
-use borrow.Author.Tests.{not-true, not-false, eq-eqb, ne-eqb}
+use Prim.Native.Nat.{_-_}
+use borrow.Author.Tests.{ne-eqb}
 use Rattle.pumxaqert.specs.Fields.{bodyFrom}
 
 returns : tie.Need-returns

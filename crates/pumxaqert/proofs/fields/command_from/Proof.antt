@@ -1,7 +1,6 @@
 use borrow.Author.Needs.{needs}
 use Rattle.pumxaqert.proofs.fields.command_from.Statement.{statement}
 use Rattle.pumxaqert.proofs.fields.command_from.Tie as tie
-use mathlib.Core.Path.{_≡_, refl, sym, ap, ap₂, _∙_}
 use Rattle.pumxaqert.specs.Fields.{commandFrom}
 
 element-copy-out-low8 : tie.Need-element-copy-out-low8

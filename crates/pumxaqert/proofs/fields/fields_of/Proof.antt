@@ -1,7 +1,7 @@
 use borrow.Author.Needs.{needs}
 use Rattle.pumxaqert.proofs.fields.fields_of.Statement.{statement}
 use Rattle.pumxaqert.proofs.fields.fields_of.Tie as tie
-use mathlib.Core.Path.{_≡_, refl, sym, ap, ap₂, _∙_}
+use mathlib.Core.Path.{ap, _∙_}
 use mathlib.Core.List.{[], _∷_}
 use Rattle.paper.specs.Command.{opNumber}
 use Rattle.paper.specs.declared.Command.{Command}

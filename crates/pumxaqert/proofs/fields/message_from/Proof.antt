@@ -1,7 +1,6 @@
 use borrow.Author.Needs.{needs}
 use Rattle.pumxaqert.proofs.fields.message_from.Statement.{statement}
 use Rattle.pumxaqert.proofs.fields.message_from.Tie as tie
-use mathlib.Core.Path.{_≡_, refl, sym, ap, ap₂, _∙_}
 use Rattle.pumxaqert.specs.Fields.{messageFrom}
 
 command-from-requires : tie.Need-command-from-requires

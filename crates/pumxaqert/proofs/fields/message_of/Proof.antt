@@ -1,7 +1,7 @@
 use borrow.Author.Needs.{needs}
 use Rattle.pumxaqert.proofs.fields.message_of.Statement.{statement}
 use Rattle.pumxaqert.proofs.fields.message_of.Tie as tie
-use mathlib.Core.Path.{_≡_, refl, sym, ap, ap₂, _∙_}
+use mathlib.Core.Path.{sym, _∙_}
 use Rattle.pumxaqert.proofs.Laws.{message-is, message-none}
 
 message-from-requires : tie.Need-message-from-requires

@@ -1,10 +1,8 @@
 use borrow.Author.Needs.{needs}
 use Rattle.pumxaqert.proofs.fields.other_ballot.Statement.{statement}
 use Rattle.pumxaqert.proofs.fields.other_ballot.Tie as tie
-use mathlib.Core.Path.{_≡_, refl, sym, ap, ap₂, _∙_}
-use Prim.Native.Nat.{ℕ, _+_, _-_, _≤_, _<_}
-use native.Mathlib.Omega.{arith}
-use borrow.Author.Tests.{not-true, not-false, eq-eqb, ne-eqb}
+use mathlib.Core.Path.{sym, _∙_}
+use Prim.Native.Nat.{_-_}
 use Rattle.pumxaqert.proofs.Laws.{other-8, other-not}
 
 kind-of-requires : tie.Need-kind-of-requires

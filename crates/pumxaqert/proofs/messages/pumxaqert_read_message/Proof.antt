@@ -1,7 +1,7 @@
 use borrow.Author.Needs.{needs}
 use Rattle.pumxaqert.proofs.messages.pumxaqert_read_message.Statement.{statement}
 use Rattle.pumxaqert.proofs.messages.pumxaqert_read_message.Tie as tie
-use mathlib.Core.Path.{_≡_, refl, sym, ap, ap₂, _∙_}
+use mathlib.Core.Path.{refl}
 use Rattle.pumxaqert.proofs.Laws.{read-valid, read-refused}
 
 read-message-requires : tie.Need-read-message-requires

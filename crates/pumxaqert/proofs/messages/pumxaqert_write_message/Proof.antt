@@ -1,8 +1,7 @@
 use borrow.Author.Needs.{needs}
 use Rattle.pumxaqert.proofs.messages.pumxaqert_write_message.Statement.{statement}
 use Rattle.pumxaqert.proofs.messages.pumxaqert_write_message.Tie as tie
-use mathlib.Core.Path.{_≡_, refl, sym, ap, ap₂, _∙_}
-use Rattle.wire.specs.Calls.{writingNumber}
+use mathlib.Core.Path.{_∙_}
 use Rattle.pumxaqert.proofs.Laws.{wrote-as}
 
 message-of-requires : tie.Need-message-of-requires

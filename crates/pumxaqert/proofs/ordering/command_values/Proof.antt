@@ -1,7 +1,7 @@
 use borrow.Author.Needs.{needs}
 use Rattle.pumxaqert.proofs.ordering.command_values.Statement.{statement}
 use Rattle.pumxaqert.proofs.ordering.command_values.Tie as tie
-use mathlib.Core.Path.{_≡_, refl, sym, ap, ap₂, _∙_}
+use mathlib.Core.Path.{_∙_}
 use Rattle.pumxaqert.proofs.Laws.{settled-values}
 
 op-number-requires : tie.Need-op-number-requires

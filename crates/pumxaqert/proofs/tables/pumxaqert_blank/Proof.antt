@@ -1,7 +1,7 @@
 use borrow.Author.Needs.{needs}
 use Rattle.pumxaqert.proofs.tables.pumxaqert_blank.Statement.{statement}
 use Rattle.pumxaqert.proofs.tables.pumxaqert_blank.Tie as tie
-use mathlib.Core.Path.{_≡_, refl, sym, ap, ap₂, _∙_}
+use mathlib.Core.Path.{sym, ap, _∙_}
 use Rattle.table.specs.Calls.{blankingNumber}
 
 blank-table-requires : tie.Need-blank-table-requires

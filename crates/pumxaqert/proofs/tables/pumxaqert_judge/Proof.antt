@@ -1,7 +1,7 @@
 use borrow.Author.Needs.{needs}
 use Rattle.pumxaqert.proofs.tables.pumxaqert_judge.Statement.{statement}
 use Rattle.pumxaqert.proofs.tables.pumxaqert_judge.Tie as tie
-use mathlib.Core.Path.{_≡_, refl, sym, ap, ap₂, _∙_}
+use mathlib.Core.Path.{sym, ap, _∙_}
 use Rattle.table.specs.Calls.{judgingNumber}
 
 judge-table-requires : tie.Need-judge-table-requires

@@ -1,10 +1,9 @@
 use borrow.Author.Needs.{needs}
 use Rattle.pumxaqert.proofs.tables.pumxaqert_part.Statement.{statement}
 use Rattle.pumxaqert.proofs.tables.pumxaqert_part.Tie as tie
-use mathlib.Core.Path.{_≡_, refl, sym, ap, ap₂, _∙_}
-use Prim.Native.Nat.{ℕ, _+_, _-_, _≤_, _<_}
-use native.Mathlib.Omega.{arith}
-use borrow.Author.Tests.{not-true, not-false, eq-eqb, ne-eqb}
+use mathlib.Core.Path.{sym, ap₂, _∙_}
+use Prim.Native.Nat.{_-_}
+use borrow.Author.Tests.{not-true, not-false}
 use mathlib.Core.Bool.{_&&_}
 use Rattle.paper.proofs.Laws.{and-true}
 use Rattle.table.proofs.Laws.{names}

@@ -1,9 +1,7 @@
 use borrow.Author.Needs.{needs}
 use Rattle.receive.proofs.by_kind.is_refused10.Statement.{statement}
 use Rattle.receive.proofs.by_kind.is_refused10.Tie as tie
-use mathlib.Core.Path.{_≡_, _∙_}
-use mathlib.Core.Bool.{_&&_}
-use lib.Dec.{eqb}
+use mathlib.Core.Path.{_∙_}
 use Rattle.receive.proofs.Laws.{conflict-is}
 
 kind-of-requires : tie.Need-kind-of-requires

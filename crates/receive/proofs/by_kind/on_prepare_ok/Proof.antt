@@ -1,9 +1,7 @@
 use borrow.Author.Needs.{needs}
 use Rattle.receive.proofs.by_kind.on_prepare_ok.Statement.{statement}
 use Rattle.receive.proofs.by_kind.on_prepare_ok.Tie as tie
-use mathlib.Core.Path.{_≡_, refl, sym, ap, ap₂, _∙_}
-use Prim.Native.Nat.{ℕ, _+_, _≤_, _<_}
-use native.Mathlib.Omega.{arith}
+use mathlib.Core.Path.{sym, _∙_}
 use borrow.Author.Tests.{not-true, not-false}
 use Rattle.receive.proofs.Laws.{unawaited, awaits}
 

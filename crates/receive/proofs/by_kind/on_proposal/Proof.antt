@@ -1,10 +1,6 @@
 use borrow.Author.Needs.{needs}
 use Rattle.receive.proofs.by_kind.on_proposal.Statement.{statement}
 use Rattle.receive.proofs.by_kind.on_proposal.Tie as tie
-use mathlib.Core.Path.{_≡_, refl, sym, ap, ap₂, _∙_}
-use Prim.Native.Nat.{ℕ, _+_, _≤_, _<_}
-use native.Mathlib.Omega.{arith}
-use borrow.Author.Tests.{not-true, not-false}
 
 seen-for-requires : tie.Need-seen-for-requires
 seen-for-requires c κs = search needs

@@ -1,10 +1,7 @@
 use borrow.Author.Needs.{needs}
 use Rattle.receive.proofs.by_kind.received_as.Statement.{statement}
 use Rattle.receive.proofs.by_kind.received_as.Tie as tie
-use mathlib.Core.Path.{_≡_, refl, sym, ap, ap₂, _∙_}
-use Prim.Native.Nat.{ℕ, _+_, _≤_, _<_}
-use native.Mathlib.Omega.{arith}
-use borrow.Author.Tests.{not-true, not-false}
+use mathlib.Core.Path.{_∙_}
 use Rattle.rules.specs.Received.{byKind}
 
 byte-requires : tie.Need-byte-requires

@@ -1,7 +1,6 @@
 use borrow.Author.Needs.{needs}
 use Rattle.receive.proofs.by_kind.told.Statement.{statement}
 use Rattle.receive.proofs.by_kind.told.Tie as tie
-use mathlib.Core.Path.{_≡_}
 
 voted-in-requires : tie.Need-voted-in-requires
 voted-in-requires c κs = search needs

@@ -1,10 +1,9 @@
 use borrow.Author.Needs.{needs}
 use Rattle.receive.proofs.message.hear.Statement.{statement}
 use Rattle.receive.proofs.message.hear.Tie as tie
-use mathlib.Core.Path.{_≡_, refl, sym, ap, ap₂, _∙_}
-use Prim.Native.Nat.{ℕ, _+_, _≤_, _<_}
+use mathlib.Core.Path.{sym, ap₂, _∙_}
+use Prim.Native.Nat.{ℕ}
 use native.Mathlib.Omega.{arith}
-use borrow.Author.Tests.{not-true, not-false}
 use Rattle.paper.specs.declared.Refusal.the-variants as why
 use Rattle.table.proofs.Laws.{sizes}
 use Rattle.log.proofs.Held.{Bytes}

@@ -1,10 +1,7 @@
 use borrow.Author.Needs.{needs}
 use Rattle.receive.proofs.message.message_open.Statement.{statement}
 use Rattle.receive.proofs.message.message_open.Tie as tie
-use mathlib.Core.Path.{_≡_, refl, sym, ap, ap₂, _∙_}
-use Prim.Native.Nat.{ℕ, _+_, _≤_, _<_}
 use native.Mathlib.Omega.{arith}
-use borrow.Author.Tests.{not-true, not-false}
 use Rattle.paper.specs.declared.Refusal.the-variants as why
 use Rattle.log.proofs.Held.{Bytes}
 use Rattle.log.proofs.Calls.{met, refused, setup-of}

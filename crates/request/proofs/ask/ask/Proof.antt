@@ -1,10 +1,8 @@
 use borrow.Author.Needs.{needs}
 use Rattle.request.proofs.ask.ask.Statement.{statement}
 use Rattle.request.proofs.ask.ask.Tie as tie
-use mathlib.Core.Path.{_≡_, refl, sym, ap, ap₂, _∙_}
-use Prim.Native.Nat.{ℕ, _+_, _*_, _-_, _≤_, _<_}
+use Prim.Native.Nat.{_-_}
 use native.Mathlib.Omega.{arith}
-use borrow.Author.Tests.{not-true, not-false}
 use Rattle.paper.specs.declared.Refusal.the-variants as why
 use Rattle.table.proofs.Laws.{sizes}
 use Rattle.log.proofs.Held.{Bytes}

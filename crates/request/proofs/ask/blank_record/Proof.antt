@@ -1,7 +1,6 @@
 use borrow.Author.Needs.{needs}
 use Rattle.request.proofs.ask.blank_record.Statement.{statement}
 use Rattle.request.proofs.ask.blank_record.Tie as tie
-use mathlib.Core.Path.{_≡_}
 
 no-vote-requires : tie.Need-no-vote-requires
 no-vote-requires c κs = search needs

@@ -1,10 +1,8 @@
 use borrow.Author.Needs.{needs}
 use Rattle.request.proofs.ask.request_at.Statement.{statement}
 use Rattle.request.proofs.ask.request_at.Tie as tie
-use mathlib.Core.Path.{_≡_, refl, sym, ap, ap₂, _∙_}
-use Prim.Native.Nat.{ℕ, _+_, _*_, _-_, _≤_, _<_}
-use native.Mathlib.Omega.{arith}
-use borrow.Author.Tests.{not-true, not-false}
+use mathlib.Core.Path.{_∙_}
+use Prim.Native.Nat.{_-_}
 use Rattle.request.proofs.Laws.{request-step}
 
 seen-of-requires : tie.Need-seen-of-requires

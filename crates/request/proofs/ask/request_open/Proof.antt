@@ -1,8 +1,8 @@
 use borrow.Author.Needs.{needs}
 use Rattle.request.proofs.ask.request_open.Statement.{statement}
 use Rattle.request.proofs.ask.request_open.Tie as tie
-use mathlib.Core.Path.{_≡_, refl, sym, ap, ap₂, _∙_}
-use Prim.Native.Nat.{ℕ, _+_, _*_, _-_, _≤_, _<_}
+use mathlib.Core.Path.{sym, ap, ap₂, _∙_}
+use Prim.Native.Nat.{_-_}
 use native.Mathlib.Omega.{arith}
 use borrow.Author.Tests.{not-true, not-false}
 use mathlib.Core.Bool.{_||_}

@@ -1,7 +1,6 @@
 use borrow.Author.Needs.{needs}
 use Rattle.request.proofs.lowest.is_untouched.Statement.{statement}
 use Rattle.request.proofs.lowest.is_untouched.Tie as tie
-use mathlib.Core.Path.{_≡_}
 use Rattle.record.specs.Layout.{recordAt}
 use Rattle.codec.specs.Parts.{voteAt}
 use Rattle.request.specs.Request.{isUntouched}

@@ -1,9 +1,8 @@
 use Rattle.request.proofs.lowest.lowest_blank.Statement.{statement}
 use Rattle.request.proofs.lowest.lowest_blank.Tie as tie
-use mathlib.Core.Path.{_≡_, refl, sym, ap, ap₂, _∙_}
-use Prim.Native.Nat.{ℕ, _+_, _*_, _-_, _≤_, _<_}
+use mathlib.Core.Path.{_∙_}
+use Prim.Native.Nat.{_+_, _-_}
 use native.Mathlib.Omega.{arith}
-use borrow.Author.Tests.{not-true, not-false}
 use Rattle.request.proofs.Blank.{From, small-start, start, bounds, tested, here, next, full}
 
 abbrev Inv-loop : tie.InvT-loop
