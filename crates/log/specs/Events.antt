@@ -2,7 +2,7 @@
 -- n, s: the setup; c: this copy; t: the table's bytes; out: the room for outgoing bytes.
 use Prim.Native.Nat.{ℕ, _≤_}
 use mathlib.Core.Path.{_≡_}
-use mathlib.Core.Bool.{true, _||_, not, cond}
+use mathlib.Core.Bool.{Bool, true, _||_, not, cond}
 use mathlib.Core.List.{List}
 use lib.Dec.{ltb, eqb}
 use lib.ListN.{length}
@@ -10,6 +10,7 @@ use Rattle.num.specs.Num.{splice}
 use Rattle.codec.specs.Parts.{opOf}
 use Rattle.paper.specs.Instance.{instanceOk}
 use Rattle.paper.specs.Refusal.{numberOf}
+use Rattle.paper.specs.declared.Command.{Command}
 use Rattle.paper.specs.declared.Message.{Message}
 use Rattle.paper.specs.declared.Refusal.{Refusal}
 use Rattle.paper.specs.declared.Refusal.the-variants as why
@@ -58,13 +59,23 @@ through (Shut r) t out rest = refuse r t out
 unfoldable pub gated : ℕ → ℕ → ℕ → List ℕ → List ℕ → Outcome → Outcome
 gated n s c t out rest = through (gateOf n s c t (length out)) t out rest
 
--- Request: 4, then 5
+-- the command of a request
+abbrev pub commandOf : ℕ → ℕ → ℕ → Command
+commandOf op key edit = record { op = opOf op; key = key; edit = edit }
+
+-- the ops that the call takes
+abbrev pub opTaken : ℕ → Bool
+opTaken op = eqb op 1 || eqb op 2
+
+-- a request past that, of any command that is no no-op: 5, then the event
+unfoldable pub asked : ℕ → ℕ → ℕ → List ℕ → List ℕ → Command → Outcome
+asked n s c t out k =
+    cond (ltb s (requestNumber s c (recordsIn s t))) (refuse why.Full t out)
+    (acted s t out c (requestNumber s c (recordsIn s t)) (onRequest n s c (recordsIn s t) k))
+
+-- Request: 4, then the rest
 unfoldable pub requestOpen : ℕ → ℕ → ℕ → List ℕ → List ℕ → ℕ → ℕ → ℕ → Outcome
-requestOpen n s c t out op key edit =
-    cond (not (eqb op 1 || eqb op 2)) (refuse why.Op t out)
-    (cond (ltb s (requestNumber s c (recordsIn s t))) (refuse why.Full t out)
-    (acted s t out c (requestNumber s c (recordsIn s t))
-    (onRequest n s c (recordsIn s t) (record { op = opOf op; key = key; edit = edit }))))
+requestOpen n s c t out op key edit = cond (not (opTaken op)) (refuse why.Op t out) (asked n s c t out (commandOf op key edit))
 
 abbrev pub requested : ℕ → ℕ → ℕ → List ℕ → List ℕ → ℕ → ℕ → ℕ → Outcome
 requested n s c t out op key edit = gated n s c t out (requestOpen n s c t out op key edit)

@@ -23,10 +23,10 @@ use Rattle.table.proofs.Laws.{sizes}
 use Rattle.seen.specs.Records.{recordsIn}
 use Rattle.closed.proofs.Closed.{request-event}
 use Rattle.log.specs.Out.{outBytes}
-use Rattle.log.specs.Events.{refuse, acted, Passed, requestOpen}
+use Rattle.log.specs.Events.{refuse, acted, asked, commandOf, opTaken, Passed, requestOpen}
 use Rattle.log.proofs.Held.{Bytes, sound-records, out-short}
 use Rattle.log.proofs.Calls.{setup-of}
-use Rattle.request.specs.Request.{Asking, asked}
+use Rattle.request.specs.Request.{Asking}
 
 -- the step that was taken is the rule's
 pub request-step : (n s c : ℕ) (t : List ℕ) (k : Command) {j q i : ℕ} {r : Record} {d : List ℕ} → j ≡ requestNumber s c (recordsIn s t) → q ≡ c → i ≡ j → r ≡ blank
@@ -57,16 +57,16 @@ module _ (n s c : ℕ) (t out : List ℕ) where
       (request-event n s c setup (recordsIn s t) (sound-records n s c t b (h .passed .setup) (h .passed .sound)) k (h .ok) (h .fits) (h .edit) u .sent)
 
   module _ (op key edit : ℕ) where
-    pub request-4 : (eqb op 1 || eqb op 2) ≡ false → refuse why.Op t out ≡ requestOpen n s c t out op key edit
+    pub request-4 : opTaken op ≡ false → refuse why.Op t out ≡ requestOpen n s c t out op key edit
     unfolding requestOpen
     request-4 e = rw e
 
-    pub request-ok : {x : Op} → x ≡ opOf op → (eqb op 1 || eqb op 2) ≡ true
+    pub request-ok : {x : Op} → x ≡ opOf op → opTaken op ≡ true
         → asked n s c t out (record { op = x; key = key; edit = edit }) ≡ requestOpen n s c t out op key edit
     unfolding requestOpen asked
     request-ok ex e = rw (ex, e)
 
-    pub small-op : (eqb op 1 || eqb op 2) ≡ true → op < 256
+    pub small-op : opTaken op ≡ true → op < 256
     small-op e = go (eqb op 1) refl (eqb op 2) refl e
       where
         go : (a : Bool) → eqb op 1 ≡ a → (b : Bool) → eqb op 2 ≡ b → (a || b) ≡ true → op < 256
@@ -75,13 +75,13 @@ module _ (n s c : ℕ) (t out : List ℕ) where
         go false f false g q = let z : _≡_ {A = ℕ} 0 1 = cc in absurd (omega arith)
 
     -- a read or a write is a command that is taken
-    pub asking : Passed n s c t (length out) → key < 256 ^ 4 → edit < 256 ^ 8 → {x : Op} → x ≡ opOf op → (eqb op 1 || eqb op 2) ≡ true
+    pub asking : Passed n s c t (length out) → key < 256 ^ 4 → edit < 256 ^ 8 → {x : Op} → x ≡ opOf op → opTaken op ≡ true
         → Asking n s c t (length out) (record { op = x; key = key; edit = edit })
     unfolding commandOk
     asking p hk he ex e = rw ex (go (eqb op 1) refl (eqb op 2) refl e)
       where
         go : (a : Bool) → eqb op 1 ≡ a → (b : Bool) → eqb op 2 ≡ b → (a || b) ≡ true
-            → Asking n s c t (length out) (record { op = opOf op; key = key; edit = edit })
+            → Asking n s c t (length out) (commandOf op key edit)
         go true f b g q = rw (eqb-true op 1 f) (record { passed = p; ok = refl; fits = record { key = hk; edit = he }; edit = refl })
         go false f true g q = rw (eqb-true op 2 g) (record { passed = p; ok = refl; fits = record { key = hk; edit = he }; edit = refl })
         go false f false g q = let z : _≡_ {A = ℕ} 0 1 = cc in absurd (omega arith)

@@ -1,28 +1,20 @@
--- A request that is taken, at a table past the gate: what it does, and what its step rests on. Assumes nothing.
+-- A request that is taken, at a table past the gate: what its step rests on. Assumes nothing.
 use Prim.Native.Nat.{ℕ}
 use mathlib.Core.Path.{_≡_}
-use mathlib.Core.Bool.{Bool, true, false, _&&_, cond}
+use mathlib.Core.Bool.{Bool, true, false, _&&_}
 use mathlib.Core.List.{List}
-use lib.Dec.{ltb, eqb}
+use lib.Dec.{eqb}
 use Rattle.paper.specs.Command.{isNoop, commandOk}
 use Rattle.paper.specs.declared.Command.{Command}
 use Rattle.paper.specs.declared.Record.{Record}
 use Rattle.paper.specs.declared.Refusal.the-variants as why
-use Rattle.rules.specs.Events.{requestNumber, onRequest}
 use Rattle.table.specs.Table.{fits, soundTable}
-use Rattle.seen.specs.Records.{recordsIn}
 use Rattle.paper.specs.Fits.{CommandFits}
-use Rattle.log.specs.Events.{Outcome, refuse, acted, Passed}
+use Rattle.log.specs.Events.{Passed}
 
 -- no ballot joined, no vote, no phase
 unfoldable pub isUntouched : Record → Bool
 isUntouched r = eqb (r .joined) 0 && eqb (r .vote .status) 0 && eqb (r .phase) 0
-
--- 5, then the step
-unfoldable pub asked : ℕ → ℕ → ℕ → List ℕ → List ℕ → Command → Outcome
-asked n s c t out k =
-    cond (ltb s (requestNumber s c (recordsIn s t))) (refuse why.Full t out)
-    (acted s t out c (requestNumber s c (recordsIn s t)) (onRequest n s c (recordsIn s t) k))
 
 -- a table that was not refused
 pub record Judged (n s c : ℕ) (t : List ℕ) : Type 0 where

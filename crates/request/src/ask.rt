@@ -25,8 +25,8 @@ ghost use Rattle.paper.specs.Vote.{blank};
 ghost use Rattle.rules.specs.Events.{requestNumber, onRequest};
 ghost use Rattle.table.specs.Sizes.{Sizes};
 ghost use Rattle.seen.specs.Records.{recordsIn};
-ghost use Rattle.log.specs.Events.{Passed, requestOpen, requested};
-ghost use Rattle.request.specs.Request.{Asking, asked};
+ghost use Rattle.log.specs.Events.{Passed, asked, requestOpen, requested};
+ghost use Rattle.request.specs.Request.{Asking};
 
 fn blank_record() -> Record
     ensures { λ r. ⌜ r ≡ blank ⌝ }

@@ -1,4 +1,4 @@
--- The setting of a run of many instances: sizes, and what was requested by its end. Assumes nothing.
+-- The setting of a run of many instances: sizes, and what happened by its end. Assumes nothing.
 use Prim.Native.Nat.{ℕ, suc, _+_, _*_, _/_, _%_, _≤_, _<_}
 use mathlib.Core.Path.{_≡_, refl}
 use mathlib.Core.Bool.{true, cond}
@@ -8,7 +8,7 @@ use lib.Dec.{leb, ltb}
 use lib.ListN.{getD}
 use Rattle.paper.specs.Instance.{instanceOk, ownerOk, numberOk}
 use Rattle.paper.specs.declared.Command.{Command}
-use Rattle.safety.specs.Run.{Asked}
+use Rattle.safety.specs.Run.{Happening, requested, Settling}
 use Rattle.reach.proofs.Tests.{and-l, and-r, and-in, leb-le, leb-in, ltb-lt, ltb-in, by-cond}
 use Rattle.safety.proofs.Value.{Value, Sub}
 
@@ -18,7 +18,7 @@ pub record Case : Type 0 where
   pub s : ℕ
   pub fit : F ≤ 3
   pub pos : 0 < F
-  pub wanted : List Asked
+  pub past : List (Happening Settling)
 
 abbrev pub copies : Case → ℕ
 copies C = suc (2 * C .F)
@@ -47,7 +47,7 @@ own-code C o j l = rw (code-owner o j (omega arith), ltb-in o (copies C) l) refl
 
 -- what was requested of an instance
 abbrev pub Req : Case → ℕ → Command → Type 0
-Req C J k = List·Memᴰ (J % 8, J / 8, k) (C .wanted)
+Req C J k = List·Memᴰ (requested (J % 8) (J / 8) k) (C .past)
 
 -- the dependencies of v reach as far as J, an instance in range
 pub record Cover (C : Case) (v : Value) (J : ℕ) : Type 0 where

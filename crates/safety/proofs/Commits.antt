@@ -20,7 +20,7 @@ use Rattle.paper.specs.declared.Body.the-variants.{PreAccept, PreAcceptOk, Acce
 use Rattle.rules.specs.Step.{isCommitted}
 use Rattle.rules.specs.Commit.{differs}
 use Rattle.rules.specs.Received.{conflict}
-use Rattle.safety.specs.Run.{State}
+use Rattle.safety.specs.Run.{State, requested}
 use Rattle.safety.specs.Demand.{Committed}
 use Rattle.reach.proofs.Tests.{clash, tf, bool, and-l, and-r, and-in, not-true, eqb-eq, eqb-same, leb-in}
 use Rattle.safety.proofs.Deps.{same-deps-refl, same-command-refl}
@@ -93,11 +93,11 @@ module _ {C : Case} {z : State} (t : Tie C z) where
   pub one-value : (J : ℕ) (v w : Value) → Evidence J v → Evidence J w → v ≡ w
   one-value J v w p q = agree C (reached t) J v w p q
 
-  pub asked-for : (a o j : ℕ) (k : Command) (d : List ℕ) → Com C G a o j (val k d) → (isNoop k ≡ true) ⊎ List·Memᴰ (o, j, k) (C .wanted)
+  pub asked-for : (a o j : ℕ) (k : Command) (d : List ℕ) → Com C G a o j (val k d) → (isNoop k ≡ true) ⊎ List·Memᴰ (requested o j k) (C .past)
   asked-for a o j k d h = go (rw (h .value) at (all-valid F (own C (code o j)) (Req C (code o j)) pos (alone C (reached t) (code o j)) a (G (code o j) .now a)
       (now-in (inv t (code o j)) a (λ e. clash (cc (h .st)))) (λ e. clash (cc (h .st)))))
     where
-      go : (k ≡ noop) ⊎ Req C (code o j) k → (isNoop k ≡ true) ⊎ List·Memᴰ (o, j, k) (C .wanted)
+      go : (k ≡ noop) ⊎ Req C (code o j) k → (isNoop k ≡ true) ⊎ List·Memᴰ (requested o j k) (C .past)
       go (inl e) = inl (rw e refl)
       go (inr m) = let lo = range n s o j (h .inst) .0 in inr (rw (code-owner o j (omega arith), code-number o j (omega arith)) at m)
 

@@ -7,14 +7,14 @@ use mathlib.Core.List.{List}
 use native.Mathlib.Omega.{arith}
 use lib.Dec.{eqb}
 use Rattle.paper.specs.declared.Command.{Command}
-use Rattle.safety.specs.Run.{State, Setup, start, Run, stay}
+use Rattle.safety.specs.Run.{State, Setup, Start, Run, stay}
 use Rattle.safety.specs.Demand.{Committed, Agreement, Requested, Covering, Order, Lasting, Demand}
 use Rattle.reach.proofs.Tests.{or-cases, eqb-eq}
 use Rattle.safety.proofs.Value.{Value, cmd}
 use Rattle.safety.proofs.Case.{Case, copies, code}
 use Rattle.safety.proofs.Rel.{val}
 use Rattle.safety.proofs.Sim.{Next}
-use Rattle.safety.proofs.Runs.{requested-more, marks-more, begin, run-next}
+use Rattle.safety.proofs.Runs.{history-more, marks-more, begin, run-next}
 use Rattle.safety.proofs.Commits.{Com, com-in, in-com, com-stays, evidence, one-value, asked-for, one-covers, never-differs}
 use Rattle.safety.proofs.Ordered.{front, in-order}
 
@@ -24,12 +24,12 @@ module _ (F s : ℕ) (fit : F ≤ 3) (pos : 0 < F) where
   n = suc (2 * F)
 
   -- the model at a moment x and at a later one y
-  module _ (x y : State) (rx : Run n s start x) (ry : Run n s x y) where
+  module _ (x₀ x y : State) (st : Start n s x₀) (rx : Run n s x₀ x) (ry : Run n s x y) where
     abbrev C : Case
-    C = record { F = F; s = s; fit = fit; pos = pos; wanted = y .requested }
+    C = record { F = F; s = s; fit = fit; pos = pos; past = y .history }
 
-    atX : Next (begin C) x
-    atX = run-next C (begin C) rx (λ a h. requested-more ry a h)
+    atX : Next (begin C st) x
+    atX = run-next C (begin C st) rx (λ a h. history-more ry a h)
 
     atY : Next (atX .tie) y
     atY = run-next C (atX .tie) ry (λ a h. h)
@@ -48,15 +48,15 @@ module _ (F s : ℕ) (fit : F ≤ 3) (pos : 0 < F) where
 
   demand : Demand n s
   demand = record {
-    agreement = λ x y rx ry. agreed x y rx ry;
-    requested = λ x rx a o j k d h. asked-for (atY x x rx stay .tie) a o j k d (in-y x x rx stay a o j k d h);
-    covering = λ x y rx ry a b o j p i k l d e ne h g it. one-covers (atY x y rx ry .tie) a b o j p i k l d e ne (in-x x y rx ry a o j k d h) (in-y x y rx ry b p i l e g) it;
-    order = λ x y rx ry a b c e o j p i k l d f h g it bf. let (m, q) = marks-more ry a in
-        in-order (atY x y rx ry .tie) a b c e o j p i k l d f (in-y x y rx ry c o j k d h) (in-y x y rx ry e p i l f g) it (rw q (front m bf));
+    agreement = λ x₀ x y st rx ry. agreed x₀ x y st rx ry;
+    requested = λ x₀ x st rx a o j k d h. asked-for (atY x₀ x x st rx stay .tie) a o j k d (in-y x₀ x x st rx stay a o j k d h);
+    covering = λ x₀ x y st rx ry a b o j p i k l d e ne h g it. one-covers (atY x₀ x y st rx ry .tie) a b o j p i k l d e ne (in-x x₀ x y st rx ry a o j k d h) (in-y x₀ x y st rx ry b p i l e g) it;
+    order = λ x₀ x y st rx ry a b c e o j p i k l d f h g it bf. let (m, q) = marks-more ry a in
+        in-order (atY x₀ x y st rx ry .tie) a b c e o j p i k l d f (in-y x₀ x y st rx ry c o j k d h) (in-y x₀ x y st rx ry e p i l f g) it (rw q (front m bf));
     lasting = record {
-      commit = λ x y rx ry a o j k d h. in-com (atY x y rx ry .tie) a o j k d (in-x x y rx ry a o j k d h);
-      marks = λ x y rx ry a. marks-more ry a;
-      unrefused = λ x rx c m h v. never-differs (atY x x rx stay .tie) c m h v;
+      commit = λ x₀ x y st rx ry a o j k d h. in-com (atY x₀ x y st rx ry .tie) a o j k d (in-x x₀ x y st rx ry a o j k d h);
+      marks = λ x₀ x y st rx ry a. marks-more ry a;
+      unrefused = λ x₀ x st rx c m h v. never-differs (atY x₀ x x st rx stay .tie) c m h v;
     };
   }
 

@@ -18,7 +18,7 @@ use Rattle.rules.specs.declared.Step.{Step}
 use Rattle.rules.specs.Seen.{Records, met, seen}
 use Rattle.rules.specs.Events.{put, addressed, messagesFrom, messages}
 use Rattle.rules.specs.Order.{isMarked}
-use Rattle.safety.specs.Run.{Instance, State, replaced, saved, Among}
+use Rattle.safety.specs.Run.{Instance, State, replaced, saveOf, saved, Among}
 use Rattle.reach.proofs.Tests.{tf, bool, and-l, and-r, and-in, not-true, eqb-eq, eqb-same, eqb-false, leb-in}
 use Rattle.safety.proofs.Deps.{Under, seen-counts}
 use Rattle.safety.proofs.Value.{Value, cmd, Interf}
@@ -186,7 +186,7 @@ module _ {C : Case} {x : State} (t : Tie C x) where
 
     module _ (st : Step) (out : List Message) (am : Among out (messages st)) where
       abbrev y : State
-      y = saved x c o j st out
+      y = saved x c (saveOf o j st) out
 
       out-means : (X : ℕ → Sys) → Out (X I) o j (st .message) → (m : Message) → List·Memᴰ m out → Means (X (code (m .owner) (m .number))) m (m .body)
       out-means X ou m h = go (one-message 7 0 (st .to) (st .message) m (am m h)) ou

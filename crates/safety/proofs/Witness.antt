@@ -12,7 +12,7 @@ use Rattle.paper.specs.Instance.{instanceOk}
 use Rattle.paper.specs.Command.{noop, isNoop, sameCommand, commandOk, interfere}
 use Rattle.paper.specs.Deps.{depsOk, sameDeps, covers, joinFrom}
 use Rattle.paper.specs.Ballot.{ballotOk, lead}
-use Rattle.paper.specs.Vote.{member, sameVote, noneIsBlank, voteOk, toldOk}
+use Rattle.paper.specs.Vote.{blank, member, sameVote, noneIsBlank, voteOk, toldOk}
 use Rattle.paper.specs.Message.{noMessage}
 use Rattle.paper.specs.Valid.{valid, headOk, wayOk, bodyOk}
 use Rattle.paper.specs.declared.Op.the-variants.{Write}
@@ -39,16 +39,17 @@ use Rattle.rules.specs.Recover.{outOfBallots}
 use Rattle.rules.specs.Nudge.{nothingToNudge, again}
 use Rattle.rules.specs.Received.{byKind, conflict, refused10}
 use Rattle.rules.specs.Events.{put, requestNumber, onRequest, onMessage, onRecover, onNudge, messagesFrom, messages}
-use Rattle.rules.specs.Order.{everywhere, somewhere, firstOwner, firstNumber, coversIn, reachesIn, reaches, waitsFor, isSettled, candidate, nextOut, found}
-use Rattle.safety.specs.Run.{Asked, State, start, saved, asked, marked, Move, request, receive, recover, nudge, handOut, Run, stay, further}
+use Rattle.rules.specs.Order.{everywhere, somewhere, firstOwner, firstNumber, coversIn, reachesIn, reaches, waitsFor, firstOpen, isSettled, candidate, nextOut, found}
+use Rattle.safety.specs.Run.{Happening, requested, answered, Settling, settled, waits, unknown, settling, State, begun, Start, blanks, saveOf, saved, happened, marked, Move, request, receive, recover, nudge, handOut, question, Run, stay, further}
 use Rattle.safety.specs.Demand.{Committed}
 use Rattle.reach.proofs.Tests.{clash, and-l, and-r, not-not, eqb-eq, leb-le, ltb-lt}
 
--- a line of a script: copy c is asked for k; the message sent as number i arrives; copy c recovers or nudges o.j; copy c saves the mark of o.j
+-- a line of a script: copy c is asked for k; the message sent as number i arrives; copy c recovers or nudges o.j; copy c saves the
+-- mark of o.j, or says whether it is settled
 data Line : Type 0 where
   ask : ℕ → Command → Line
   arrives : ℕ → Line
-  recovers nudges marks : ℕ → ℕ → ℕ → Line
+  recovers nudges marks says : ℕ → ℕ → ℕ → Line
 
 abbrev sentAs : State → ℕ → Message
 sentAs x i = getD (x .sent) i noMessage
@@ -57,13 +58,14 @@ module _ (n s : ℕ) where
   -- what it makes of a state
   abbrev after : State → Line → State
   after x (ask c k) =
-      asked (saved x c c (requestNumber s c (x .tables c)) (onRequest n s c (x .tables c) k) (messages (onRequest n s c (x .tables c) k))) c (requestNumber s c (x .tables c)) k
+      happened (saved x c (saveOf c (requestNumber s c (x .tables c)) (onRequest n s c (x .tables c) k)) (messages (onRequest n s c (x .tables c) k))) (requested c (requestNumber s c (x .tables c)) k)
   after x (arrives i) =
-      saved x (sentAs x i .to) (sentAs x i .owner) (sentAs x i .number) (onMessage n s (sentAs x i .to) (x .tables (sentAs x i .to)) (sentAs x i))
+      saved x (sentAs x i .to) (saveOf (sentAs x i .owner) (sentAs x i .number) (onMessage n s (sentAs x i .to) (x .tables (sentAs x i .to)) (sentAs x i)))
       (messages (onMessage n s (sentAs x i .to) (x .tables (sentAs x i .to)) (sentAs x i)))
-  after x (recovers c o j) = saved x c o j (onRecover n c (x .tables c) o j) (messages (onRecover n c (x .tables c) o j))
-  after x (nudges c o j) = saved x c o j (onNudge n c (x .tables c) o j) (messages (onNudge n c (x .tables c) o j))
+  after x (recovers c o j) = saved x c (saveOf o j (onRecover n c (x .tables c) o j)) (messages (onRecover n c (x .tables c) o j))
+  after x (nudges c o j) = saved x c (saveOf o j (onNudge n c (x .tables c) o j)) (messages (onNudge n c (x .tables c) o j))
   after x (marks c o j) = marked x c o j
+  after x (says c o j) = happened x (answered c o j (settling n s (x .tables c) o j))
 
   -- whether it is a move there
   abbrev fair : State → Line → Bool
@@ -74,6 +76,7 @@ module _ (n s : ℕ) where
   fair x (recovers c o j) = ltb c n && instanceOk n s o j && not (isCommitted (x .tables c o j)) && not (outOfBallots (x .tables c o j))
   fair x (nudges c o j) = ltb c n && instanceOk n s o j && not (nothingToNudge (x .tables c o j))
   fair x (marks c o j) = ltb c n && found (nextOut n s (x .tables c)) false (λ p i. eqb p o && eqb i j)
+  fair x (says c o j) = ltb c n
 
   mem-at : (l : List Message) (i : ℕ) (d : Message) → i < length l → List·Memᴰ (getD l i d) l
   mem-at [] i d h = absurd (omega arith)
@@ -104,6 +107,7 @@ module _ (n s : ℕ) where
       nudge c o j _ (ltb-lt c n (and-l _ (instanceOk n s o j) f)) (and-r (ltb c n) _ f) (not-not _ (and-r (ltb c n && instanceOk n s o j) _ h)) (λ y z. z)
   fair-move x (marks c o j) h =
       handOut c o j (ltb-lt c n (and-l _ (found (nextOut n s (x .tables c)) false (λ p i. eqb p o && eqb i j)) h)) (at-found (nextOut n s (x .tables c)) o j (and-r (ltb c n) _ h))
+  fair-move x (says c o j) h = question c o j (ltb-lt c n h)
 
   -- a script played from a state
   abbrev played : State → List Line → State
@@ -114,7 +118,7 @@ module _ (n s : ℕ) where
   fairly x [] = true
   fairly x (e ∷ l) = fair x e && fairly (after x e) l
 
-  play : (x : State) (l : List Line) → Run n s start x → fairly x l ≡ true → Run n s start (played x l)
+  play : {x₀ : State} (x : State) (l : List Line) → Run n s x₀ x → fairly x l ≡ true → Run n s x₀ (played x l)
   play x [] r h = r
   play x (e ∷ l) r h = play (after x e) l (further r (fair-move x e (and-l _ (fairly (after x e) l) h))) (and-r (fair x e) _ h)
 
@@ -144,21 +148,31 @@ lost = recovers 1 0 1 ∷ arrives 1 ∷ arrives 2 ∷ arrives 4 ∷ arrives 5 �
 saved-edit : List Line
 saved-edit = ask 0 (write 1) ∷ arrives 0 ∷ recovers 2 0 1 ∷ arrives 4 ∷ arrives 5 ∷ arrives 7 ∷ arrives 8 ∷ []
 
+-- copy 0 is asked before and after its commit
+told : List Line
+told = ask 0 (write 1) ∷ says 0 0 1 ∷ arrives 0 ∷ arrives 2 ∷ says 0 0 1 ∷ says 0 0 2 ∷ []
+
 -- what was asked for fits the calls: key and edit are a u32 and a u64
-abbrev pub fitting : List Asked → Bool
+abbrev pub fitting : List (Happening Settling) → Bool
 fitting [] = true
-fitting (a ∷ l) = ltb (a .2 .key) (256 ^ 4) && ltb (a .2 .edit) (256 ^ 8) && fitting l
+fitting (requested o j k ∷ l) = ltb (k .key) (256 ^ 4) && ltb (k .edit) (256 ^ 8) && fitting l
+fitting (answered c o j a ∷ l) = fitting l
 
 -- a script that is fair leads to a state of a run in which P holds
 pub record Reached (n s : ℕ) (P : State → Type 0) : Type 0 where
+  pub first : State
+  pub start : Start n s first
   pub state : State
-  pub run : Run n s start state
-  pub fits : fitting (state .requested) ≡ true
+  pub run : Run n s first state
+  pub fits : fitting (state .history) ≡ true
   pub holds : P state
 
-by-script : (n s : ℕ) (l : List Line) (P : State → Type 0) → fairly n s start l ≡ true → fitting (played n s start l .requested) ≡ true → P (played n s start l)
+abbrev empty : State
+empty = begun (λ c o j. blank) []
+
+by-script : (n s : ℕ) (l : List Line) (P : State → Type 0) → fairly n s empty l ≡ true → fitting (played n s empty l .history) ≡ true → P (played n s empty l)
     → Reached n s P
-by-script n s l P f g h = record { state = played n s start l; run = play n s start l stay f; fits = g; holds = h }
+by-script n s l P f g h = record { first = empty; start = blanks; state = played n s empty l; run = play n s empty l stay f; fits = g; holds = h }
 
 pub record Shown : Type 0 where
   -- a fast commit
@@ -172,19 +186,23 @@ pub record Shown : Type 0 where
   -- two that interfere, handed out at two copies
   pub out : Reached 3 1 (λ x. Committed x 0 0 1 (write 1) (deps 0 1 0) × Committed x 1 1 1 (write 2) (deps 0 0 0)
       × (x .marks 0 ≡ (1, 1) ∷ (0, 1) ∷ []) × (x .marks 1 ≡ (1, 1) ∷ (0, 1) ∷ []))
+  -- questions and the request that they stand after, in their order
+  pub told : Reached 3 1 (λ x. x .history
+      ≡ requested 0 1 (write 1) ∷ answered 0 0 1 (waits 0 1) ∷ answered 0 0 1 (settled (write 1)) ∷ answered 0 0 2 unknown ∷ [])
 
 pub shown : Shown
-unfolding fast slow out lost saved-edit write deps put requestNumber lowestBlank isBlank sameVote sameCommand sameDeps allBelow onRequest
+unfolding fast slow out lost saved-edit told write deps put requestNumber lowestBlank isBlank sameVote sameCommand sameDeps allBelow onRequest
     Rattle.rules.specs.Request.request afresh others absent bitsBelow messagesFrom member valid headOk wayOk bodyOk ballotOk lead commandOk
     depsOk voteOk toldOk noneIsBlank instanceOk conflict differs onMessage byKind preAccept seenFrom seenEntry highest met interfere joinFrom
     onPreAcceptOk awaited collect preAcceptedBy fastEnough slowEnough someEnough matching different committing acceptingJoin accepting joinAll
     accept onAcceptOk acceptedBy commit prepare onPrepareOk preparedBy quorum decide acceptedFrom afreshCommand topVoted maybeFast lowestFrom
     largestBelow nack onRecover Rattle.rules.specs.Recover.recover onNudge Rattle.rules.specs.Nudge.nudge again commitBack nackBack ones onesIn
-    nextOut firstNumber firstOwner candidate isSettled waitsFor reaches reachesIn coversIn covers everywhere somewhere
+    nextOut firstNumber firstOwner firstOpen candidate isSettled waitsFor reaches reachesIn coversIn covers everywhere somewhere
 shown = record {
   fast = by-script 3 1 fast _ refl refl (record { status = refl; command = refl; deps = refl });
   slow = by-script 3 1 slow _ refl refl (record { status = refl; command = refl; deps = refl });
   lost = by-script 3 1 lost _ refl refl (record { status = refl; command = refl; deps = refl });
   saved = by-script 3 1 saved-edit _ refl refl (record { status = refl; command = refl; deps = refl });
   out = by-script 3 1 (slow ++ out) _ refl refl (record { status = refl; command = refl; deps = refl }, record { status = refl; command = refl; deps = refl }, refl, refl);
+  told = by-script 3 1 told _ refl refl refl;
 }

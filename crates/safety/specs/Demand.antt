@@ -1,4 +1,4 @@
--- Demand 3: what holds of every run, at any two moments x and then y. Assumes nothing.
+-- Demand 3: what holds of every run, wherever it may start, at any two moments x and then y. Assumes nothing.
 use Prim.Native.Nat.{ℕ}
 use mathlib.Core.Path.{_≡_}
 use mathlib.Core.Logic.{_⊎_}
@@ -11,7 +11,7 @@ use Rattle.paper.specs.declared.Command.{Command}
 use Rattle.paper.specs.declared.Message.{Message}
 use Rattle.rules.specs.Step.{isCommitted}
 use Rattle.rules.specs.Received.{refused10}
-use Rattle.safety.specs.Run.{State, Instance, start, Run}
+use Rattle.safety.specs.Run.{State, Instance, requested, Start, Run}
 
 -- copy c has o.j committed, with this command and these dependencies
 pub record Committed (x : State) (c o j : ℕ) (k : Command) (d : List ℕ) : Type 0 where
@@ -27,33 +27,33 @@ pub data Before (a b : Instance) : List Instance → Type 0 where
 module _ (n s : ℕ) where
   -- 1: an instance committed at two copies, at whatever moments, has one command and one list of dependencies
   abbrev pub Agreement : Type 0
-  Agreement = (x y : State) → Run n s start x → Run n s x y → (a b o j : ℕ) (k l : Command) (d e : List ℕ)
+  Agreement = (x₀ x y : State) → Start n s x₀ → Run n s x₀ x → Run n s x y → (a b o j : ℕ) (k l : Command) (d e : List ℕ)
       → Committed x a o j k d → Committed y b o j l e → (k ≡ l) × (d ≡ e)
 
   -- 2: a committed command is a no-op, or its instance's owner was asked for it there
   abbrev pub Requested : Type 0
-  Requested = (x : State) → Run n s start x → (a o j : ℕ) (k : Command) (d : List ℕ)
-      → Committed x a o j k d → (isNoop k ≡ true) ⊎ List·Memᴰ (o, j, k) (x .requested)
+  Requested = (x₀ x : State) → Start n s x₀ → Run n s x₀ x → (a o j : ℕ) (k : Command) (d : List ℕ)
+      → Committed x a o j k d → (isNoop k ≡ true) ⊎ List·Memᴰ (requested o j k) (x .history)
 
   -- 3: of two committed commands that interfere, at least one instance covers the other
   abbrev pub Covering : Type 0
-  Covering = (x y : State) → Run n s start x → Run n s x y → (a b o j p i : ℕ) (k l : Command) (d e : List ℕ)
+  Covering = (x₀ x y : State) → Start n s x₀ → Run n s x₀ x → Run n s x y → (a b o j p i : ℕ) (k l : Command) (d e : List ℕ)
       → ((o ≡ p) × (j ≡ i) → ⊥) → Committed x a o j k d → Committed y b p i l e → interfere k l ≡ true
       → (covers o j d p i ≡ true) ⊎ (covers p i e o j ≡ true)
 
   -- 4: two committed instances that interfere, marked at a and at b, are marked in the same order at both
   abbrev pub Order : Type 0
-  Order = (x y : State) → Run n s start x → Run n s x y → (a b c e o j p i : ℕ) (k l : Command) (d f : List ℕ)
+  Order = (x₀ x y : State) → Start n s x₀ → Run n s x₀ x → Run n s x y → (a b c e o j p i : ℕ) (k l : Command) (d f : List ℕ)
       → Committed y c o j k d → Committed y e p i l f → interfere k l ≡ true
       → Before (o, j) (p, i) (x .marks a) → List·Memᴰ (o, j) (y .marks b) → List·Memᴰ (p, i) (y .marks b)
       → Before (o, j) (p, i) (y .marks b)
 
   -- 5: a commit stays as it is, marks only grow at the end, and no Commit is refused for differing (refusal 10)
   pub record Lasting : Type 0 where
-    pub commit : (x y : State) → Run n s start x → Run n s x y → (a o j : ℕ) (k : Command) (d : List ℕ)
+    pub commit : (x₀ x y : State) → Start n s x₀ → Run n s x₀ x → Run n s x y → (a o j : ℕ) (k : Command) (d : List ℕ)
         → Committed x a o j k d → Committed y a o j k d
-    pub marks : (x y : State) → Run n s start x → Run n s x y → (a : ℕ) → (l : List Instance) × (y .marks a ≡ x .marks a ++ l)
-    pub unrefused : (x : State) → Run n s start x → (c : ℕ) (m : Message) → List·Memᴰ m (x .sent) → valid n s c m ≡ true
+    pub marks : (x₀ x y : State) → Start n s x₀ → Run n s x₀ x → Run n s x y → (a : ℕ) → (l : List Instance) × (y .marks a ≡ x .marks a ++ l)
+    pub unrefused : (x₀ x : State) → Start n s x₀ → Run n s x₀ x → (c : ℕ) (m : Message) → List·Memᴰ m (x .sent) → valid n s c m ≡ true
         → refused10 (x .tables c (m .owner) (m .number)) m ≡ false
 
   -- demand 3
