@@ -2,19 +2,15 @@
 -- lost there. Assumes nothing.
 use Prim.Native.Nat.{ℕ, _≤_, _<_}
 use mathlib.Core.Path.{_≡_, refl, sym, ap, _∙_, subst}
-use mathlib.Core.Bool.{Bool, true, false, _||_, cond}
+use mathlib.Core.Bool.{Bool, true, false, cond}
 use mathlib.Core.Logic.{_⊎_, inl, inr, ⊎-elim}
 use mathlib.Core.List.{List, [], _∷_, _++_, map, List·Memᴰ, List·Memᴰ·head, List·Memᴰ·tail, List·Memᴰ·not-nil, List·Memᴰ·cases-cons, List·Memᴰ·append-cases, List·Memᴰ·eq-of-singleton, Memᴰ·append-left, Memᴰ·append-right}
 use lib.Dec.{eqb}
 use lib.ListN.{length, take, replicate}
 use borrow.Author.Tests.{eqb-false, le-ltb}
-use Rattle.codec.specs.Parts.{opOf}
-use Rattle.codec.proofs.Laws.{opOf-opNumber}
-use Rattle.paper.specs.Command.{opNumber, isNoop}
+use Rattle.paper.specs.Command.{isNoop}
 use Rattle.paper.specs.Instance.{instanceOk}
 use Rattle.paper.specs.Valid.{valid}
-use Rattle.paper.specs.declared.Op.{Op}
-use Rattle.paper.specs.declared.Op.the-variants.{Noop, Read, Write}
 use Rattle.paper.specs.declared.Command.{Command}
 use Rattle.paper.specs.declared.Message.{Message}
 use Rattle.rules.specs.declared.Step.{Step}
@@ -28,29 +24,30 @@ use Rattle.rules.specs.Nudge.{nothingToNudge}
 use Rattle.rules.specs.Events.{requestNumber, onRequest, onMessage, onRecover, onNudge, messages}
 use Rattle.rules.specs.Order.{candidate, nextOut, codeOf, found, handOut}
 use Rattle.wire.specs.Wire.{messageAt, messageBytes}
-use Rattle.table.specs.Table.{recordIn}
+use Rattle.table.specs.Table.{blankTable, recordIn}
 use Rattle.seen.specs.Records.{recordsIn}
 use Rattle.paper.specs.Fits.{CommandFits, MessageFits}
 use Rattle.closed.proofs.Heard.{valid-instance}
 use Rattle.closed.proofs.Mark.{Found, nextOut-found}
 use Rattle.log.specs.Out.{outBytes}
-use Rattle.log.specs.Events.{Outcome, requestOpen, receiveOpen, recoverOpen, nudgeOpen, answerNumber}
+use Rattle.log.specs.Events.{Outcome, asked, receiveOpen, recoverOpen, nudgeOpen, answerNumber}
 use Rattle.log.specs.Events as log
 use Rattle.log.proofs.Held.{out-short}
 use Rattle.order.specs.declared.Handing.the-variants.{Codes}
-use Rattle.order.specs.Calls.{handedCodes, handed}
-use Rattle.safety.specs.Run.{Asked, Setup, replaced}
+use Rattle.order.specs.Calls.{settled, handedCodes, handed}
+use Rattle.safety.specs.Run.{Happening, requested, answered, Setup, replaced}
 use Rattle.safety.specs.Run as rules
-use Rattle.safety.proofs.Runs.{requested-more}
-use Rattle.demand.specs.Run.{Copy, State, start, Call, request, receive, recover, nudge, outcome, Possible, written, acted, handing, marking, restarted, changed, asked, Move, event, leave, cut, Run, stay, further}
+use Rattle.safety.proofs.Runs.{history-more}
+use Rattle.demand.specs.Run.{Copy, savedTable, State, begun, Start, blanks, Call, request, receive, recover, nudge, outcome, Possible, written, acted, handing, marking, restarted, changed, remembered, Move, event, leave, question, cut, Run, stay, further}
 use Rattle.demand.specs.Run.{mark as mv-mark, handOut as mv-handOut}
 use Rattle.demand.proofs.Saved.{Kept, setup-of}
 use Rattle.demand.proofs.Range.{number-alike, next-alike}
 use Rattle.demand.proofs.Records.{records, at-range, alike, setup-at}
 use Rattle.demand.proofs.Written.{reads, Carried, carried-more, mapped, message-carried, written-is}
 use Rattle.demand.proofs.Handing.{Pending, none-pending, hand-answers, listed-is, next-codes}
+use Rattle.demand.proofs.History.{heard}
 use Rattle.demand.proofs.Steps.{gate-is, Brought, ownerIn, numberIn, stepIn, moved, stepped}
-use Rattle.demand.proofs.Bridge.{Beside, Tie, begin, one-copy, here-is, other-stays, after, event-tie, in-memory, hand-tie, marked-here, mark-out, mark-tie}
+use Rattle.demand.proofs.Bridge.{Beside, Tie, blank-tie, one-copy, here-is, other-stays, after, event-tie, in-memory, question-tie, hand-tie, marked-here, mark-out, mark-tie}
 
 in-map : (l : List Message) (m : Message) → List·Memᴰ m l → List·Memᴰ (messageBytes m) (map messageBytes l)
 in-map l m (List·Memᴰ·head e) = List·Memᴰ·head (ap messageBytes e)
@@ -79,20 +76,20 @@ module _ (n s : ℕ) (setup : Setup n s) where
     later : State
     run : Run n s x later
     copies : later .copies ≡ x .copies
-    requested : later .requested ≡ x .requested
+    history : later .history ≡ x .history
     old : (b : List ℕ) → List·Memᴰ b (x .sent) → List·Memᴰ b (later .sent)
     new : (b : List ℕ) → List·Memᴰ b bs → List·Memᴰ b (later .sent)
     only : (b : List ℕ) → List·Memᴰ b (later .sent) → List·Memᴰ b (x .sent) ⊎ List·Memᴰ b bs
 
   go-out : (x : State) (c : ℕ) → c < n → (bs : List (List ℕ)) → ((b : List ℕ) → List·Memᴰ b bs → List·Memᴰ b (x .copies c .leaving)) → Gone x bs
-  go-out x c l [] h = record { later = x; run = stay; copies = refl; requested = refl; old = λ b i. i; new = λ b i. absurd (List·Memᴰ·not-nil i); only = λ b i. inl i }
+  go-out x c l [] h = record { later = x; run = stay; copies = refl; history = refl; old = λ b i. i; new = λ b i. absurd (List·Memᴰ·not-nil i); only = λ b i. inl i }
   go-out x c l (b ∷ bs) h =
       let r = go-out x c l bs (λ d i. h d (List·Memᴰ·tail i)) in
       record {
-        later = record { copies = r .later .copies; sent = r .later .sent ++ b ∷ []; requested = r .later .requested };
+        later = record { copies = r .later .copies; sent = r .later .sent ++ b ∷ []; history = r .later .history };
         run = further (r .run) (leave c b l (rw (r .copies) (h b (List·Memᴰ·head refl))));
         copies = r .copies;
-        requested = r .requested;
+        history = r .history;
         old = λ d i. Memᴰ·append-left (b ∷ []) (r .old d i);
         new = λ d i. ⊎-elim (λ (e : d ≡ b). Memᴰ·append-right (r .later .sent) (List·Memᴰ·head e)) (λ (k : List·Memᴰ d bs). Memᴰ·append-left (b ∷ []) (r .new d k)) (List·Memᴰ·cases-cons i);
         only = λ d i.
@@ -110,14 +107,14 @@ module _ (n s : ℕ) (setup : Setup n s) where
     abbrev k : Copy
     k = x .copies c
 
-    abbrev kept : Kept n s c (k .saved)
+    abbrev kept : Kept n s c (savedTable k)
     kept = f .tie .copies c .kept copy
 
-    abbrev memory : k .lent ≡ k .saved
+    abbrev memory : k .lent ≡ savedTable k
     memory = in-memory n s setup x y (f .tie) c copy (f .saved c)
 
     -- an answered call, with the messages that left before a cut
-    event-back : (call : Call) → Possible x call → Brought n s (y .sent) call → answerNumber (outcome n s c (k .saved) room call .answer) ≡ 0
+    event-back : (call : Call) → Possible x call → Brought n s (y .sent) call → answerNumber (outcome n s c (savedTable k) room call .answer) ≡ 0
         → (l : List Message) → rules.Among l (messages (stepIn n s c (y .tables c) call)) → Back x (moved n s y c call l)
     unfolding log.acted
     event-back call poss br ans l am =
@@ -125,9 +122,9 @@ module _ (n s : ℕ) (setup : Setup n s) where
         let o : ℕ = ownerIn c call in
         let j : ℕ = numberIn s c (y .tables c) call in
         let e : Step = stepIn n s c (y .tables c) call in
-        let st = stepped n s c (k .saved) room kept copy y (t .copies c .table) call br ans in
-        let p = setup-of n s c (k .saved) (kept .setup) in
-        let res : outcome n s c (k .lent) room call ≡ log.acted s (k .saved) room o j e = ap (λ (v : List ℕ). outcome n s c v room call) memory ∙ st .is in
+        let st = stepped n s c (savedTable k) room kept copy y (t .copies c .table) call br ans in
+        let p = setup-of n s c (savedTable k) (kept .setup) in
+        let res : outcome n s c (k .lent) room call ≡ log.acted s (savedTable k) room o j e = ap (λ (v : List ℕ). outcome n s c v room call) memory ∙ st .is in
         let x₁ : State = after n s setup x y t c copy call room in
         let first : Move n s x x₁ = event c call room o j (length (outBytes e)) copy poss (f .saved c) (ap (λ (z : Outcome). z .answer) res) in
         let tie₁ : Tie n s setup x₁ (moved n s y c call (messages e)) = event-tie n s setup x y t c copy call room st memory in
@@ -152,7 +149,7 @@ module _ (n s : ℕ) (setup : Setup n s) where
               sent = λ b i.
                   ⊎-elim (λ (h : List·Memᴰ b (x .sent)). carried-more n s (y .sent) (y .sent ++ l) b (λ m z. Memᴰ·append-left l z) (t .sent b h))
                   (λ (h : List·Memᴰ b bs). let g = mapped l b h in rw (g .is) (said (g .message) (g .among) .0)) (r .only b i);
-              requested = tie₁ .requested ∙ sym (r .requested);
+              history = tie₁ .history ∙ sym (ap (map heard) (r .history));
             };
             still = λ q. quiet (x₂ .copies) (λ (z : Copy). z .leaving ≡ []) refl (λ i ne. rw (r .copies, other-stays n s setup (x .copies) c _ i ne) (f .still i)) q;
             saved = λ q. quiet (x₂ .copies) (λ (z : Copy). z .listed ≡ []) refl (λ i ne. rw (r .copies, other-stays n s setup (x .copies) c _ i ne) (f .saved i)) q;
@@ -168,20 +165,20 @@ module _ (n s : ℕ) (setup : Setup n s) where
             go true e = h
             go false e = others q (eqb-false q c e)
 
-        side : (g : ℕ → Copy) (z : rules.State) → ((i : ℕ) → z .tables i ≡ records n s (g i .saved)) → ((i : ℕ) → i < n → Kept n s i (g i .saved))
-            → ((i : ℕ) → Pending n s (g i .saved) (g i .lent) (g i .listed)) → ((i : ℕ) → z .marks i ≡ g i .marks) → ((i : ℕ) → (i ≡ c → ⊥) → g i .leaving ≡ [])
+        side : (g : ℕ → Copy) (z : rules.State) → ((i : ℕ) → z .tables i ≡ records n s (savedTable (g i))) → ((i : ℕ) → i < n → Kept n s i (savedTable (g i)))
+            → ((i : ℕ) → Pending n s (savedTable (g i)) (g i .lent) (g i .listed)) → ((i : ℕ) → z .marks i ≡ g i .marks) → ((i : ℕ) → (i ≡ c → ⊥) → g i .leaving ≡ [])
             → (q : ℕ) → Beside n s setup z q (replaced g c (restarted (g c)) q)
         side g z table kept pending marks none =
             one-copy n s setup z g c (restarted (g c))
             (λ q ne. record { table = table q; kept = kept q; pending = pending q; leaving = λ b i. absurd (List·Memᴰ·not-nil (rw (none q ne) at i)); marks = marks q })
-            (record { table = table c; kept = kept c; pending = none-pending n s (g c .saved) (g c .saved) refl; leaving = λ b i. absurd (List·Memᴰ·not-nil i); marks = marks c })
+            (record { table = table c; kept = kept c; pending = none-pending n s (savedTable (g c)) (savedTable (g c)) refl; leaving = λ b i. absurd (List·Memᴰ·not-nil i); marks = marks c })
 
     -- a mark: a hand-out into one place, and its save
     mark-back : (o j : ℕ) → nextOut n s (y .tables c) ≡ At o j → Back x (rules.marked y c o j)
     unfolding handedCodes handOut
     mark-back o j next =
         let t = f .tie in
-        let d : List ℕ = k .saved in
+        let d : List ℕ = savedTable k in
         let one : List ℕ = 0 ∷ [] in
         let i : ℕ = length (handedCodes 1 n s d) in
         let e : nextOut n s (recordsIn s d) ≡ At o j = next-alike n s (recordsIn s d) (records n s d) (alike n s d) ∙ ap (nextOut n s) (sym (t .copies c .table)) ∙ next in
@@ -219,37 +216,23 @@ module _ (n s : ℕ) (setup : Setup n s) where
             go false = others q
 
     -- the rules' premises are what the calls ask
-    there : (o j : ℕ) → instanceOk n s o j ≡ true → y .tables c o j ≡ recordIn s (k .saved) o j
-    there o j i = ap (λ (u : Records). u o j) (f .tie .copies c .table) ∙ at-range n s (k .saved) o j i
-
-    ops : (o : Op) → eqb (opNumber o) 0 ≡ false → (eqb (opNumber o) 1 || eqb (opNumber o) 2) ≡ true
-    ops Noop e = sym e
-    ops Read e = refl
-    ops Write e = refl
+    there : (o j : ℕ) → instanceOk n s o j ≡ true → y .tables c o j ≡ recordIn s (savedTable k) o j
+    there o j i = ap (λ (u : Records). u o j) (f .tie .copies c .table) ∙ at-range n s (savedTable k) o j i
 
     request-back : (v : Command) → CommandFits v → isNoop v ≡ false → requestNumber s c (y .tables c) ≤ s → (l : List Message)
-        → rules.Among l (messages (onRequest n s c (y .tables c) v))
-        → Back x (rules.asked (rules.saved y c c (requestNumber s c (y .tables c)) (onRequest n s c (y .tables c) v) l) c (requestNumber s c (y .tables c)) v)
-    unfolding requestOpen log.acted
+        → rules.Among l (messages (onRequest n s c (y .tables c) v)) → Back x (moved n s y c (request v) l)
+    unfolding asked log.acted
     request-back v fits noop small l am =
-        let op : ℕ = opNumber (v .op) in
-        let w : Command = record { op = opOf op; key = v .key; edit = v .edit } in
-        let same : w ≡ v = λ i. record { op = opOf-opNumber (v .op) i; key = v .key; edit = v .edit } in
-        let t : List ℕ = k .saved in
+        let t : List ℕ = savedTable k in
         let num : requestNumber s c (recordsIn s t) ≤ s =
         rw (number-alike n s (recordsIn s t) (records n s t) (alike n s t) c copy, ← f .tie .copies c .table) small in
-        let ans : answerNumber (outcome n s c t room (request op (v .key) (v .edit)) .answer) ≡ 0 =
-        rw (gate-is n s c t room (requestOpen n s c t room op (v .key) (v .edit)) kept, ops (v .op) noop, le-ltb s (requestNumber s c (recordsIn s t)) num) in
-        subst
-        (λ (z : Command). rules.Among l (messages (onRequest n s c (y .tables c) z))
-        → Back x (rules.asked (rules.saved y c c (requestNumber s c (y .tables c)) (onRequest n s c (y .tables c) z) l) c (requestNumber s c (y .tables c)) z))
-        same (λ a. event-back (request op (v .key) (v .edit)) (fits .key, fits .edit) (record { key = fits .key; edit = fits .edit }) ans l a) am
+        event-back (request v) (noop, fits) (noop, fits) (rw (gate-is n s c t room (asked n s c t room v) kept, le-ltb s (requestNumber s c (recordsIn s t)) num)) l am
 
     receive-back : (m : Message) → List·Memᴰ m (y .sent) → valid n s c m ≡ true → refused10 (y .tables c (m .owner) (m .number)) m ≡ false → (l : List Message)
-        → rules.Among l (messages (onMessage n s c (y .tables c) m)) → Back x (rules.saved y c (m .owner) (m .number) (onMessage n s c (y .tables c) m) l)
+        → rules.Among l (messages (onMessage n s c (y .tables c) m)) → Back x (rules.saved y c (rules.saveOf (m .owner) (m .number) (onMessage n s c (y .tables c) m)) l)
     unfolding receiveOpen log.acted
     receive-back m i v r l am =
-        let t : List ℕ = k .saved in
+        let t : List ℕ = savedTable k in
         let b : List ℕ = messageBytes m in
         let read : messageAt b ≡ m = f .read m i in
         let br : Carried n s (y .sent) b = f .tie .sent b (f .bytes m i) in
@@ -258,51 +241,69 @@ module _ (n s : ℕ) (setup : Setup n s) where
         let test : refused10 (recordIn s t (m .owner) (m .number)) m ≡ false = rw (← there (m .owner) (m .number) (valid-instance n s c m v)) r in
         let ans : answerNumber (outcome n s c t room (receive b) .answer) ≡ 0 =
         rw (gate-is n s c t room (receiveOpen n s c t room b) kept, taken, read, test) in
-        subst (λ (z : Message). rules.Among l (messages (onMessage n s c (y .tables c) z)) → Back x (rules.saved y c (z .owner) (z .number) (onMessage n s c (y .tables c) z) l))
+        subst (λ (z : Message). rules.Among l (messages (onMessage n s c (y .tables c) z)) → Back x (rules.saved y c (rules.saveOf (z .owner) (z .number) (onMessage n s c (y .tables c) z)) l))
         read (λ a. event-back (receive b) (f .bytes m i) br ans l a) am
 
     recover-back : (o j : ℕ) → instanceOk n s o j ≡ true → isCommitted (y .tables c o j) ≡ false → outOfBallots (y .tables c o j) ≡ false → (l : List Message)
-        → rules.Among l (messages (onRecover n c (y .tables c) o j)) → Back x (rules.saved y c o j (onRecover n c (y .tables c) o j) l)
+        → rules.Among l (messages (onRecover n c (y .tables c) o j)) → Back x (rules.saved y c (rules.saveOf o j (onRecover n c (y .tables c) o j)) l)
     unfolding recoverOpen log.acted
     recover-back o j i free low l am =
-        let t : List ℕ = k .saved in
+        let t : List ℕ = savedTable k in
         let a : isCommitted (recordIn s t o j) ≡ false = rw (← there o j i) free in
         let b : outOfBallots (recordIn s t o j) ≡ false = rw (← there o j i) low in
         event-back (recover o j) tt tt (rw (gate-is n s c t room (recoverOpen n s c t room o j) kept, i, a, b)) l am
 
     nudge-back : (o j : ℕ) → instanceOk n s o j ≡ true → nothingToNudge (y .tables c o j) ≡ false → (l : List Message)
-        → rules.Among l (messages (onNudge n c (y .tables c) o j)) → Back x (rules.saved y c o j (onNudge n c (y .tables c) o j) l)
+        → rules.Among l (messages (onNudge n c (y .tables c) o j)) → Back x (rules.saved y c (rules.saveOf o j (onNudge n c (y .tables c) o j)) l)
     unfolding nudgeOpen log.acted
     nudge-back o j i busy l am =
-        let t : List ℕ = k .saved in
+        let t : List ℕ = savedTable k in
         let a : nothingToNudge (recordIn s t o j) ≡ false = rw (← there o j i) busy in
         event-back (nudge o j) tt tt (rw (gate-is n s c t room (nudgeOpen n s c t room o j) kept, i, a)) l am
 
-  -- requests whose key and edit are a u32 and a u64
-  abbrev pub Fitting : List Asked → Type 0
-  Fitting l = (a : Asked) → List·Memᴰ a l → CommandFits (a .2)
+    question-back : (o j : ℕ) → Back x (rules.happened y (answered c o j (rules.settling n s (y .tables c) o j)))
+    question-back o j = record {
+      later = remembered x (x .history ++ answered c o j (settled n s c (k .lent) o j) ∷ []);
+      run = further stay (question c o j copy);
+      full = record { tie = question-tie n s setup x y (f .tie) c copy o j; still = f .still; saved = f .saved; bytes = f .bytes; read = f .read };
+    }
 
-  move-back : {y z : rules.State} (x : State) → Full x y → rules.Move n s y z → Fitting (z .requested) → Back x z
+  -- requests whose key and edit are a u32 and a u64
+  abbrev pub Fitting : List (Happening rules.Settling) → Type 0
+  Fitting l = (o j : ℕ) (k : Command) → List·Memᴰ (requested o j k) l → CommandFits k
+
+  move-back : {y z : rules.State} (x : State) → Full x y → rules.Move n s y z → Fitting (z .history) → Back x z
   move-back {y = y} x f (rules.request c v l copy noop small am) fit =
-      request-back x y f c copy v (fit _ (Memᴰ·append-right (y .requested) (List·Memᴰ·head refl))) noop small l am
+      request-back x y f c copy v (fit _ _ _ (Memᴰ·append-right (y .history) (List·Memᴰ·head refl))) noop small l am
   move-back {y = y} x f (rules.receive c m l copy i v r am) fit = receive-back x y f c copy m i v r l am
   move-back {y = y} x f (rules.recover c o j l copy i free low am) fit = recover-back x y f c copy o j i free low l am
   move-back {y = y} x f (rules.nudge c o j l copy i busy am) fit = nudge-back x y f c copy o j i busy l am
   move-back {y = y} x f (rules.handOut c o j copy e) fit = mark-back x y f c copy o j e
+  move-back {y = y} x f (rules.question c o j copy) fit = question-back x y f c copy o j
 
-  pub back : {y : rules.State} → rules.Run n s rules.start y → Fitting (y .requested) → Back (start n s) y
-  back rules.stay fit = record {
-    later = start n s;
+  -- a run over bytes that ends beside y
+  pub record Traced (y : rules.State) : Type 0 where
+    pub first : State
+    pub start : Start n s first
+    pub later : State
+    pub run : Run n s first later
+    pub full : Full later y
+
+  pub back : {y₀ y : rules.State} → rules.Start n s y₀ → rules.Run n s y₀ y → Fitting (y .history) → Traced y
+  back rules.blanks rules.stay fit = record {
+    first = begun (blankTable n s) [];
+    start = blanks;
+    later = begun (blankTable n s) [];
     run = stay;
     full = record {
-      tie = begin n s setup;
+      tie = blank-tie n s setup;
       still = λ q. refl;
       saved = λ q. refl;
       bytes = λ m i. absurd (List·Memᴰ·not-nil i);
       read = λ m i. absurd (List·Memᴰ·not-nil i);
     };
   }
-  back (rules.further r m) fit =
-      let a = back r (λ e h. fit e (requested-more (rules.further rules.stay m) e h)) in
+  back st (rules.further r m) fit =
+      let a = back st r (λ o j k h. fit o j k (history-more (rules.further rules.stay m) (requested o j k) h)) in
       let b = move-back (a .later) (a .full) m fit in
-      record { later = b .later; run = run-on (a .run) (b .run); full = b .full }
+      record { first = a .first; start = a .start; later = b .later; run = run-on (a .run) (b .run); full = b .full }

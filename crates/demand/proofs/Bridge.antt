@@ -4,13 +4,15 @@ use Prim.Native.Nat.{ℕ, _<_}
 use mathlib.Core.Path.{_≡_, refl, sym, ap, ap₂, _∙_, subst}
 use mathlib.Core.Bool.{Bool, true, false, cond}
 use mathlib.Core.Logic.{⊎-elim}
-use mathlib.Core.List.{List, [], _∷_, _++_, map, List·Memᴰ, List·Memᴰ·not-nil, List·Memᴰ·append-cases, List·Memᴰ·eq-of-singleton, Memᴰ·append-left, Memᴰ·append-right}
+use mathlib.Core.List.{List, [], _∷_, _++_, map, map-append, List·Memᴰ, List·Memᴰ·not-nil, List·Memᴰ·append-cases, List·Memᴰ·eq-of-singleton, Memᴰ·append-left, Memᴰ·append-right}
 use lib.Dec.{eqb}
 use lib.ListN.{length}
 use borrow.Author.Tests.{eqb-true, eqb-false, eq-eqb, ne-eqb}
 use Rattle.num.specs.Num.{splice}
 use Rattle.paper.specs.Setup.{setupOk}
 use Rattle.paper.specs.Instance.{instanceOk}
+use Rattle.paper.specs.Vote.{blank}
+use Rattle.paper.specs.declared.Record.{Record}
 use Rattle.paper.specs.declared.Message.{Message}
 use Rattle.rules.specs.declared.Step.{Step}
 use Rattle.rules.specs.declared.First.the-variants.{At}
@@ -19,7 +21,7 @@ use Rattle.rules.specs.Events.{put, messages}
 use Rattle.rules.specs.Order.{nextOut, mark}
 use Rattle.wire.specs.Wire.{messageBytes}
 use Rattle.table.specs.Place.{placeOf}
-use Rattle.table.specs.Table.{blankTable, putRecord}
+use Rattle.table.specs.Table.{blankTable, recordIn, putRecord}
 use Rattle.seen.specs.Records.{recordsIn}
 use Rattle.closed.specs.Held.{Closed}
 use Rattle.log.specs.Out.{outBytes}
@@ -28,31 +30,32 @@ use Rattle.log.specs.Events.{Outcome, answerNumber, answerOwner, answerInstance
 use Rattle.log.specs.Events as log
 use Rattle.log.proofs.Held.{out-short}
 use Rattle.order.specs.declared.Handing.the-variants.{Codes}
-use Rattle.order.specs.Calls.{markIn, handed}
-use Rattle.safety.specs.Run.{Instance, Asked, Setup, replaced}
+use Rattle.order.specs.Calls.{settled, markIn, handed}
+use Rattle.safety.specs.Run.{Instance, Happening, answered, Setup, replaced}
 use Rattle.safety.specs.Run as rules
-use Rattle.demand.specs.Run.{Copy, State, start, Call, request, receive, recover, nudge, outcome, Possible, recorded, written, savedPart, acted, handing, marking, restarted, changed, asked, Move, event, leave, handOut, cut, Run, stay, further}
+use Rattle.demand.specs.Run.{Copy, savedTable, State, begun, Start, blanks, Call, request, receive, recover, nudge, outcome, Possible, recorded, written, saveOf, stored, acted, handing, marking, restarted, changed, remembered, Move, event, leave, handOut, question, cut, Run, stay, further}
 use Rattle.demand.specs.Run.{mark as mv-mark}
 use Rattle.demand.proofs.Saved.{Kept, setup-of, blank-kept, put-own, put-kept}
-use Rattle.demand.proofs.Range.{next-alike}
-use Rattle.demand.proofs.Records.{records, alike, setup-at, blank-records, put-records}
+use Rattle.demand.proofs.Range.{SameVotes, next-alike}
+use Rattle.demand.proofs.Records.{records, at-range, alike, setup-at, blank-records, put-records}
 use Rattle.demand.proofs.Written.{Carried, carried-more, sent-carried, written-is}
-use Rattle.demand.proofs.Handing.{Pending, part-at, none-pending, all-saved, listed-pending, Marked, marked-next, mark-kept, mark-records}
+use Rattle.demand.proofs.Handing.{Pending, part-at, none-pending, all-saved, left, hand-vote, listed-pending, Marked, marked-next, mark-kept, mark-records}
+use Rattle.demand.proofs.History.{heard, recorded-heard, settled-heard}
 use Rattle.demand.proofs.Steps.{Brought, ownerIn, numberIn, stepIn, moved, Stepped, stepped}
 
 module _ (n s : ℕ) (setup : Setup n s) where
   -- copy q as its host has it, beside the same copy of the rules
   pub record Beside (y : rules.State) (q : ℕ) (k : Copy) : Type 0 where
-    pub table : y .tables q ≡ records n s (k .saved)
-    pub kept : q < n → Kept n s q (k .saved)
-    pub pending : Pending n s (k .saved) (k .lent) (k .listed)
+    pub table : y .tables q ≡ records n s (savedTable k)
+    pub kept : q < n → Kept n s q (savedTable k)
+    pub pending : Pending n s (savedTable k) (k .lent) (k .listed)
     pub leaving : (b : List ℕ) → List·Memᴰ b (k .leaving) → Carried n s (y .sent) b
     pub marks : y .marks q ≡ k .marks
 
   pub record Tie (x : State) (y : rules.State) : Type 0 where
     pub copies : (q : ℕ) → Beside y q (x .copies q)
     pub sent : (b : List ℕ) → List·Memᴰ b (x .sent) → Carried n s (y .sent) b
-    pub requested : y .requested ≡ x .requested
+    pub history : y .history ≡ map heard (x .history)
 
   -- what the rules' run is after a move over bytes
   pub record Next (y : rules.State) (x : State) : Type 0 where
@@ -86,9 +89,14 @@ module _ (n s : ℕ) (setup : Setup n s) where
         marks = m ∙ b .marks;
       }
 
-  -- the start
-  pub begin : Tie (start n s) rules.start
-  begin =
+  -- where a run may start, a run of the rules may
+  pub record Begun (x : State) : Type 0 where
+    pub first : rules.State
+    pub start : rules.Start n s first
+    pub tie : Tie x first
+
+  pub blank-tie : Tie (begun (blankTable n s) []) (rules.begun (λ c o j. blank) [])
+  blank-tie =
       record {
         copies = λ q.
             record {
@@ -99,8 +107,11 @@ module _ (n s : ℕ) (setup : Setup n s) where
               marks = refl;
             };
         sent = λ b i. absurd (List·Memᴰ·not-nil i);
-        requested = refl;
+        history = refl;
       }
+
+  pub begin : {x : State} → Start n s x → Begun x
+  begin blanks = record { first = rules.begun (λ c o j. blank) []; start = rules.blanks; tie = blank-tie }
 
   module _ (x : State) (y : rules.State) (tie : Tie x y) (c : ℕ) (copy : c < n) where
     abbrev k : Copy
@@ -111,18 +122,18 @@ module _ (n s : ℕ) (setup : Setup n s) where
 
     -- only copy c's host knows of it
     quietly : (j : Copy) → Beside y c j → Tie (changed x c j) y
-    quietly j b = record { copies = one-copy y (x .copies) c j (λ q ne. tie .copies q) b; sent = tie .sent; requested = tie .requested }
+    quietly j b = record { copies = one-copy y (x .copies) c j (λ q ne. tie .copies q) b; sent = tie .sent; history = tie .history }
 
     -- an event
     brought : (call : Call) → Possible x call → Brought n s (y .sent) call
-    brought (request op key edit) p = record { key = p .0; edit = p .1 }
+    brought (request v) p = p
     brought (receive b) p = tie .sent b p
     brought (recover o j) p = tt
     brought (nudge o j) p = tt
 
     -- the part that is saved is all that the event changed
     part-saved : (t : List ℕ) (o j : ℕ) (e : Step) → Kept n s c t → instanceOk n s o j ≡ true → Closed n s c o e
-        → savedPart n s c t (putRecord s t o j (e .entry)) o j ≡ putRecord s t o j (e .entry)
+        → stored s t (saveOf n s c (putRecord s t o j (e .entry)) o j) ≡ putRecord s t o j (e .entry)
     part-saved t o j e h i d =
         ap (splice t (placeOf s o j))
         (part-at n s c (putRecord s t o j (e .entry)) (put-kept n s c t h o j i (e .entry) (d .held)) o j i ∙ put-own n s c t h o j i (e .entry) (d .held))
@@ -142,22 +153,22 @@ module _ (n s : ℕ) (setup : Setup n s) where
     host call out = acted n s c k (outcome n s c (k .lent) out call) (ownerOf call) (numberOf call) (length (outBytes (stepOf call)))
 
     abbrev pub after : (call : Call) (out : List ℕ) → State
-    after call out = asked (changed x c (host call out)) (recorded (x .requested) (ownerOf call) (numberOf call) call)
+    after call out = remembered (changed x c (host call out)) (recorded (x .history) (ownerOf call) (numberOf call) call)
 
-    module _ (call : Call) (out : List ℕ) (st : Stepped n s c (k .saved) out call y) (eu : k .lent ≡ k .saved) where
+    module _ (call : Call) (out : List ℕ) (st : Stepped n s c (savedTable k) out call y) (eu : k .lent ≡ savedTable k) where
       abbrev e : Step
       e = stepOf call
 
       abbrev table : List ℕ
-      table = putRecord s (k .saved) (ownerOf call) (numberOf call) (e .entry)
+      table = putRecord s (savedTable k) (ownerOf call) (numberOf call) (e .entry)
 
-      abbrev here : Kept n s c (k .saved)
+      abbrev here : Kept n s c (savedTable k)
       here = side .kept copy
 
       abbrev named : setupOk n s c ≡ true
-      named = setup-of n s c (k .saved) (here .setup)
+      named = setup-of n s c (savedTable k) (here .setup)
 
-      did : outcome n s c (k .lent) out call ≡ log.acted s (k .saved) out (ownerOf call) (numberOf call) e
+      did : outcome n s c (k .lent) out call ≡ log.acted s (savedTable k) out (ownerOf call) (numberOf call) e
       did = ap (λ (v : List ℕ). outcome n s c v out call) eu ∙ st .is
 
       -- the table in memory is the call's
@@ -166,10 +177,10 @@ module _ (n s : ℕ) (setup : Setup n s) where
       lent-is = ap (λ (v : Outcome). v .table) did
 
       -- its record is saved
-      saved-is : host call out .saved ≡ table
+      saved-is : savedTable (host call out) ≡ table
       saved-is =
-          ap (λ (v : List ℕ). savedPart n s c (k .saved) v (ownerOf call) (numberOf call)) lent-is
-          ∙ part-saved (k .saved) (ownerOf call) (numberOf call) e here (st .range) (st .closed)
+          ap (λ (v : List ℕ). stored s (k .disk) (saveOf n s c v (ownerOf call) (numberOf call))) lent-is
+          ∙ part-saved (savedTable k) (ownerOf call) (numberOf call) e here (st .range) (st .closed)
 
       -- its messages, and no others, may leave
       leaving-is : host call out .leaving ≡ k .leaving ++ map messageBytes (messages e)
@@ -189,9 +200,9 @@ module _ (n s : ℕ) (setup : Setup n s) where
                 (record {
                   table = here-is (y .tables) c (put (y .tables c) (ownerOf call) (numberOf call) (e .entry))
                       ∙ ap (λ (f : Records). put f (ownerOf call) (numberOf call) (e .entry)) (side .table)
-                      ∙ sym (ap (records n s) saved-is ∙ put-records n s c (k .saved) here (ownerOf call) (numberOf call) (st .range) (e .entry) (st .closed .held));
-                  kept = λ l. subst (Kept n s c) (sym saved-is) (put-kept n s c (k .saved) here (ownerOf call) (numberOf call) (st .range) (e .entry) (st .closed .held));
-                  pending = none-pending n s (host call out .saved) (host call out .lent) (lent-is ∙ sym saved-is);
+                      ∙ sym (ap (records n s) saved-is ∙ put-records n s c (savedTable k) here (ownerOf call) (numberOf call) (st .range) (e .entry) (st .closed .held));
+                  kept = λ l. subst (Kept n s c) (sym saved-is) (put-kept n s c (savedTable k) here (ownerOf call) (numberOf call) (st .range) (e .entry) (st .closed .held));
+                  pending = none-pending n s (savedTable (host call out)) (host call out .lent) (lent-is ∙ sym saved-is);
                   leaving = λ b i.
                       ⊎-elim (λ (w : List·Memᴰ b (k .leaving)). carried-more n s (y .sent) (z .sent) b more (side .leaving b w))
                       (λ (w : List·Memᴰ b (map messageBytes (messages e))).
@@ -200,28 +211,28 @@ module _ (n s : ℕ) (setup : Setup n s) where
                   marks = side .marks;
                 });
             sent = λ b i. carried-more n s (y .sent) (z .sent) b more (tie .sent b i);
-            requested = ap (λ (l : List Asked). recorded l (ownerOf call) (numberOf call) call) (tie .requested);
+            history = ap (λ (l : List (Happening rules.Settling)). recorded l (ownerOf call) (numberOf call) call) (tie .history) ∙ recorded-heard (x .history) (ownerOf call) (numberOf call) call;
           }
 
     -- one mark is saved
-    pub marked-here : (code : ℕ) (rest : List ℕ) → k .listed ≡ code ∷ rest → Marked n s c (k .saved) (k .lent) code rest
-    marked-here code rest e = marked-next n s c (k .saved) (k .lent) code rest (k .listed) (side .kept copy) (side .pending) e
+    pub marked-here : (code : ℕ) (rest : List ℕ) → k .listed ≡ code ∷ rest → Marked n s c (savedTable k) (k .lent) code rest
+    marked-here code rest e = marked-next n s c (savedTable k) (k .lent) code rest (k .listed) (side .kept copy) (side .pending) e
 
-    pub mark-out : (code : ℕ) (rest : List ℕ) (m : Marked n s c (k .saved) (k .lent) code rest) → nextOut n s (y .tables c) ≡ At (m .owner) (m .number)
+    pub mark-out : (code : ℕ) (rest : List ℕ) (m : Marked n s c (savedTable k) (k .lent) code rest) → nextOut n s (y .tables c) ≡ At (m .owner) (m .number)
     mark-out code rest m =
-        let t : List ℕ = k .saved in
+        let t : List ℕ = savedTable k in
         ap (nextOut n s) (side .table) ∙ sym (next-alike n s (recordsIn s t) (records n s t) (alike n s t)) ∙ m .next
 
-    pub mark-tie : (code : ℕ) (rest : List ℕ) (m : Marked n s c (k .saved) (k .lent) code rest)
+    pub mark-tie : (code : ℕ) (rest : List ℕ) (m : Marked n s c (savedTable k) (k .lent) code rest)
         → Tie (changed x c (marking n s c k code rest)) (rules.marked y c (m .owner) (m .number))
     mark-tie code rest m =
-        let t : List ℕ = k .saved in
+        let t : List ℕ = savedTable k in
         let h : Kept n s c t = side .kept copy in
         let o : ℕ = m .owner in
         let j : ℕ = m .number in
         let z : rules.State = rules.marked y c o j in
-        let disk : marking n s c k code rest .saved ≡ markIn s t o j =
-        ap₂ (λ (p i : ℕ). savedPart n s c t (k .lent) p i) (m .is-owner) (m .is-number) ∙ m .saved in
+        let disk : savedTable (marking n s c k code rest) ≡ markIn s t o j =
+        ap₂ (λ (p i : ℕ). stored s t (saveOf n s c (k .lent) p i)) (m .is-owner) (m .is-number) ∙ m .saved in
         record {
           copies = one-copy z (x .copies) c (marking n s c k code rest)
               (λ q ne. beside-still y z q (x .copies q) (other-stays (y .tables) c _ q ne) (other-stays (y .marks) c _ q ne) (λ a i. i) (tie .copies q))
@@ -235,12 +246,12 @@ module _ (n s : ℕ) (setup : Setup n s) where
                     ∙ ap₂ (λ (p i : ℕ). k .marks ++ (p, i) ∷ []) (sym (m .is-owner)) (sym (m .is-number));
               });
           sent = tie .sent;
-          requested = tie .requested;
+          history = tie .history;
         }
 
     -- once all that was listed is saved, the table in memory is the saved one
-    pub in-memory : k .listed ≡ [] → k .lent ≡ k .saved
-    in-memory none = all-saved n s (k .saved) (k .lent) (k .listed) (side .pending) none
+    pub in-memory : k .listed ≡ [] → k .lent ≡ savedTable k
+    in-memory none = all-saved n s (savedTable k) (k .lent) (k .listed) (side .pending) none
 
     pub hand-tie : (list : List ℕ) (i : ℕ) → k .listed ≡ [] → handed n s c (k .lent) list .answer ≡ Codes i
         → Tie (changed x c (handing k (handed n s c (k .lent) list) i)) y
@@ -250,7 +261,7 @@ module _ (n s : ℕ) (setup : Setup n s) where
         (record {
           table = side .table;
           kept = side .kept;
-          pending = rw eu (listed-pending n s c (k .saved) list (side .kept copy) i (rw eu at ans));
+          pending = rw eu (listed-pending n s c (savedTable k) list (side .kept copy) i (rw eu at ans));
           leaving = side .leaving;
           marks = side .marks;
         })
@@ -261,33 +272,56 @@ module _ (n s : ℕ) (setup : Setup n s) where
         (record {
           table = side .table;
           kept = side .kept;
-          pending = none-pending n s (k .saved) (k .saved) refl;
+          pending = none-pending n s (savedTable k) (savedTable k) refl;
           leaving = λ b i. absurd (List·Memᴰ·not-nil i);
           marks = side .marks;
         })
 
-    leave-tie : (b : List ℕ) → List·Memᴰ b (k .leaving) → Tie (record { copies = x .copies; sent = x .sent ++ b ∷ []; requested = x .requested }) y
+    leave-tie : (b : List ℕ) → List·Memᴰ b (k .leaving) → Tie (record { copies = x .copies; sent = x .sent ++ b ∷ []; history = x .history }) y
     leave-tie b i =
         record {
           copies = tie .copies;
           sent = λ d q.
               ⊎-elim (λ (h : List·Memᴰ d (x .sent)). tie .sent d h) (λ (h : List·Memᴰ d (b ∷ [])). rw (List·Memᴰ·eq-of-singleton h) (side .leaving b i))
               (List·Memᴰ·append-cases (x .sent) q);
-          requested = tie .requested;
+          history = tie .history;
+        }
+
+    -- the table in memory is sound, also while marks are still to be saved
+    pub lent-kept : Kept n s c (k .lent)
+    lent-kept = rw (side .pending .table) (left (side .pending .room) n s c (savedTable k) (side .kept copy) .kept)
+
+    -- and its votes are the saved ones
+    same-votes : SameVotes n s (recordsIn s (k .lent)) (y .tables c)
+    same-votes o j i =
+        ap (λ (t : List ℕ). recordIn s t o j .vote) (side .pending .table) ∙ hand-vote n s (side .pending .room) c (savedTable k) (side .kept copy) o j i
+        ∙ ap (λ (r : Record). r .vote) (sym (ap (λ (u : Records). u o j) (side .table) ∙ at-range n s (savedTable k) o j i))
+
+    -- so a question is answered as the rules do
+    pub question-tie : (o j : ℕ)
+        → Tie (remembered x (x .history ++ answered c o j (settled n s c (k .lent) o j) ∷ [])) (rules.happened y (answered c o j (rules.settling n s (y .tables c) o j)))
+    question-tie o j =
+        record {
+          copies = λ q. beside-still y (rules.happened y (answered c o j (rules.settling n s (y .tables c) o j))) q (x .copies q) refl refl (λ m i. i) (tie .copies q);
+          sent = tie .sent;
+          history =
+              ap (λ (a : rules.Settling). y .history ++ answered c o j a ∷ []) (sym (settled-heard n s c (k .lent) (y .tables c) lent-kept same-votes o j))
+              ∙ ap (λ (l : List (Happening rules.Settling)). l ++ heard (answered c o j (settled n s c (k .lent) o j)) ∷ []) (tie .history)
+              ∙ sym (map-append heard (x .history) (answered c o j (settled n s c (k .lent) o j) ∷ []));
         }
 
   still : (y : rules.State) {z : State} → Tie z y → Next y z
   still y t = record { later = y; run = rules.stay; tie = t }
 
   -- an answered call, as it was answered
-  answered : (x : State) (y : rules.State) (tie : Tie x y) (c : ℕ) (copy : c < n) (call : Call) (out : List ℕ) (o j w : ℕ) → Possible x call → x .copies c .listed ≡ []
+  event-next : (x : State) (y : rules.State) (tie : Tie x y) (c : ℕ) (copy : c < n) (call : Call) (out : List ℕ) (o j w : ℕ) → Possible x call → x .copies c .listed ≡ []
       → outcome n s c (x .copies c .lent) out call .answer ≡ Event o j w
-      → Next y (asked (changed x c (acted n s c (x .copies c) (outcome n s c (x .copies c .lent) out call) o j w)) (recorded (x .requested) o j call))
+      → Next y (remembered (changed x c (acted n s c (x .copies c) (outcome n s c (x .copies c .lent) out call) o j w)) (recorded (x .history) o j call))
   unfolding log.acted
-  answered x y tie c copy call out o j w poss none ans =
+  event-next x y tie c copy call out o j w poss none ans =
       let eu = in-memory x y tie c copy none in
-      let res : outcome n s c (x .copies c .saved) out call .answer ≡ Event o j w = ap (λ (v : List ℕ). outcome n s c v out call .answer) (sym eu) ∙ ans in
-      let st = stepped n s c (x .copies c .saved) out (tie .copies c .kept copy) copy y (tie .copies c .table) call (brought x y tie c copy call poss) (ap answerNumber res) in
+      let res : outcome n s c (savedTable (x .copies c)) out call .answer ≡ Event o j w = ap (λ (v : List ℕ). outcome n s c v out call .answer) (sym eu) ∙ ans in
+      let st = stepped n s c (savedTable (x .copies c)) out (tie .copies c .kept copy) copy y (tie .copies c .table) call (brought x y tie c copy call poss) (ap answerNumber res) in
       let e : Event o j w ≡ Event (ownerIn c call) (numberIn s c (y .tables c) call) (length (outBytes (stepIn n s c (y .tables c) call))) =
       sym res ∙ ap (λ (v : Outcome). v .answer) (st .is) in
       rw (ap answerOwner e, ap answerInstance e, ap answerWritten e)
@@ -299,7 +333,7 @@ module _ (n s : ℕ) (setup : Setup n s) where
 
   -- every move over bytes is a move of the rules, or none
   pub move-next : {x z : State} (y : rules.State) → Tie x y → Move n s x z → Next y z
-  move-next {x = x} y tie (event c call out o j w copy poss none ans) = answered x y tie c copy call out o j w poss none ans
+  move-next {x = x} y tie (event c call out o j w copy poss none ans) = event-next x y tie c copy call out o j w poss none ans
   move-next {x = x} y tie (leave c b copy i) = still y (leave-tie x y tie c copy b i)
   move-next {x = x} y tie (handOut c list i copy none ans) = still y (hand-tie x y tie c copy list i none ans)
   move-next {x = x} y tie (mv-mark c code rest copy e) =
@@ -308,6 +342,12 @@ module _ (n s : ℕ) (setup : Setup n s) where
         later = rules.marked y c (m .owner) (m .number);
         run = rules.further rules.stay (rules.handOut c (m .owner) (m .number) copy (mark-out x y tie c copy code rest m));
         tie = mark-tie x y tie c copy code rest m;
+      }
+  move-next {x = x} y tie (question c o j copy) =
+      record {
+        later = rules.happened y (answered c o j (rules.settling n s (y .tables c) o j));
+        run = rules.further rules.stay (rules.question c o j copy);
+        tie = question-tie x y tie c copy o j;
       }
   move-next {x = x} y tie (cut c copy) = still y (cut-tie x y tie c copy)
 

@@ -1,31 +1,23 @@
 -- A log that never commits is not the one that the contracts describe. Assumes nothing.
-use Prim.Native.Nat.{ℕ, zero, suc, _<_}
+use Prim.Native.Nat.{ℕ, _<_}
 use mathlib.Core.Path.{_≡_, refl, sym, ap, _∙_}
-use mathlib.Core.Bool.{Bool, true, false, _&&_, cond}
+use mathlib.Core.Bool.{Bool, true, false, cond}
 use mathlib.Core.List.{List}
 use lib.Dec.{eqb}
 use borrow.Author.Tests.{eqb-true}
 use Rattle.paper.specs.Instance.{instanceOk}
 use Rattle.paper.specs.declared.Vote.{Vote}
 use Rattle.paper.specs.declared.Record.{Record}
-use Rattle.rules.specs.declared.First.{First}
-use Rattle.rules.specs.declared.First.the-variants.{At, Nowhere}
 use Rattle.rules.specs.Seen.{Records}
 use Rattle.rules.specs.Step.{isCommitted}
-use Rattle.rules.specs.Events.{put}
-use Rattle.rules.specs.Order.{candidate, marked, nextOut, found}
 use Rattle.table.specs.Table.{blankTable, recordIn}
-use Rattle.seen.specs.Records.{recordsIn}
-use Rattle.closed.proofs.Laws.{two, tf, is-false}
-use Rattle.closed.proofs.Mark.{Found, nextOut-found}
-use Rattle.order.specs.Calls.{markIn, handedTable}
+use Rattle.closed.proofs.Laws.{tf, is-false}
 use Rattle.safety.specs.Run.{Setup, replaced}
 use Rattle.safety.specs.Run as rules
-use Rattle.demand.specs.Run.{Copy, State, start, Call, outcome, Move, event, leave, handOut, cut, Run, stay, further}
+use Rattle.demand.specs.Run.{Copy, savedTable, State, Start, blanks, Call, outcome, Move, event, leave, handOut, question, cut, Run, stay, further}
 use Rattle.demand.specs.Run.{mark as mv-mark}
-use Rattle.demand.proofs.Saved.{Kept}
-use Rattle.demand.proofs.Records.{records, at-range, blank-records}
-use Rattle.demand.proofs.Handing.{mark-kept, mark-records}
+use Rattle.demand.proofs.Records.{at-range, blank-records}
+use Rattle.demand.proofs.Handing.{hand-vote}
 use Rattle.demand.proofs.Bridge.{Tie, begin, move-next, bridge}
 use Rattle.demand.proofs.Witness.{three-one, shown-bytes}
 
@@ -34,47 +26,22 @@ module _ (n s : ℕ) (setup : Setup n s) where
   abbrev pub Idle : Type 0
   Idle = (c : ℕ) (t out : List ℕ) (call : Call) (o j : ℕ) → isCommitted (recordIn s (outcome n s c t out call .table) o j) ≡ true → isCommitted (recordIn s t o j) ≡ true
 
-  -- a mark, and so a hand-out, leaves every vote
-  mark-vote : (c : ℕ) (t : List ℕ) (k : Kept n s c t) (p q : ℕ) → Found n s (candidate n s (recordsIn s t)) (At p q) → (o j : ℕ) → instanceOk n s o j ≡ true
-      → recordIn s (markIn s t p q) o j .vote ≡ recordIn s t o j .vote
-  unfolding put
-  mark-vote c t k p q f o j i =
-      let u : Records = records n s t in
-      let a : recordIn s (markIn s t p q) o j ≡ cond (eqb o p && eqb j q) (marked (u p q)) (u o j) =
-      sym (at-range n s (markIn s t p q) o j i) ∙ ap (λ (v : Records). v o j) (mark-records n s c t k p q f) in
-      ap (λ (r : Record). r .vote) a ∙ go u (eqb o p && eqb j q) refl ∙ ap (λ (r : Record). r .vote) (at-range n s t o j i)
-    where
-      go : (u : Records) (b : Bool) → (eqb o p && eqb j q) ≡ b → (cond b (marked (u p q)) (u o j)) .vote ≡ u o j .vote
-      go u true e = let (x, y) = two _ _ e in rw (eqb-true o p x, eqb-true j q y)
-      go u false e = refl
-
-  hand-vote : (room c : ℕ) (t : List ℕ) → Kept n s c t → (o j : ℕ) → instanceOk n s o j ≡ true → recordIn s (handedTable room n s t) o j .vote ≡ recordIn s t o j .vote
-  unfolding handedTable
-  hand-vote zero c t k o j i = refl
-  hand-vote (suc room) c t k o j i = go (nextOut n s (recordsIn s t)) (nextOut-found n s (recordsIn s t)) (λ u h. hand-vote room c u h o j i)
-    where
-      go : (f : First) → Found n s (candidate n s (recordsIn s t)) f
-          → ((u : List ℕ) → Kept n s c u → recordIn s (handedTable room n s u) o j .vote ≡ recordIn s u o j .vote)
-          → recordIn s (found f t (λ p q. handedTable room n s (markIn s t p q))) o j .vote ≡ recordIn s t o j .vote
-      go Nowhere f more = refl
-      go (At p q) f more = more (markIn s t p q) (mark-kept n s c t k p q f) ∙ mark-vote c t k p q f o j i
-
   -- nothing is committed in the saved tables, or in those in memory
   abbrev On : (Copy → List ℕ) → State → Type 0
   On which x = (c o j : ℕ) → c < n → instanceOk n s o j ≡ true → isCommitted (recordIn s (which (x .copies c)) o j) ≡ false
 
   abbrev disk : Copy → List ℕ
-  disk k = k .saved
+  disk k = savedTable k
 
   abbrev memory : Copy → List ℕ
   memory k = k .lent
 
   -- both hold the same votes
   same-vote : (x : State) (y : rules.State) → Tie n s setup x y → (c o j : ℕ) → c < n → instanceOk n s o j ≡ true
-      → recordIn s (x .copies c .lent) o j .vote ≡ recordIn s (x .copies c .saved) o j .vote
+      → recordIn s (x .copies c .lent) o j .vote ≡ recordIn s (savedTable (x .copies c)) o j .vote
   same-vote x y t c o j l i =
       let b = t .copies c in
-      ap (λ (v : List ℕ). recordIn s v o j .vote) (b .pending .table) ∙ hand-vote (b .pending .room) c (x .copies c .saved) (b .kept l) o j i
+      ap (λ (v : List ℕ). recordIn s v o j .vote) (b .pending .table) ∙ hand-vote n s (b .pending .room) c (savedTable (x .copies c)) (b .kept l) o j i
 
   to-memory : (x : State) (y : rules.State) → Tie n s setup x y → On disk x → On memory x
   to-memory x y t h c o j l i = ap (λ (v : Vote). eqb (v .status) 4) (same-vote x y t c o j l i) ∙ h c o j l i
@@ -105,13 +72,17 @@ module _ (n s : ℕ) (setup : Setup n s) where
         let a = move-next n s setup y t (mv-mark c code rest copy e) in
         let g = to-memory x y t h in
         to-disk z (a .later) (a .tie) (one memory x c _ g (λ p i l r. g c p i l r))
+    move-idle y t (question c o j copy) h = h
     move-idle {x = x} y t (cut c copy) h = one disk x c _ h (λ p i l r. h c p i l r)
 
-    none : {x : State} → Run n s (start n s) x → On disk x
-    none stay = λ c o j l i.
+    none : {x₀ x : State} → Start n s x₀ → Run n s x₀ x → On disk x
+    none blanks stay = λ c o j l i.
         ap (λ (r : Record). isCommitted r) (sym (at-range n s (blankTable n s c) o j i) ∙ ap (λ (u : Records). u o j) (blank-records n s setup c))
-    none (further r m) = let a = bridge n s setup rules.start (begin n s setup) r in move-idle (a .later) (a .tie) m (none r)
+    none st (further r m) =
+        let z = begin n s setup st in
+        let a = bridge n s setup (z .first) (z .tie) r in
+        move-idle (a .later) (a .tie) m (none st r)
 
 -- some call commits
 pub commits : Idle 3 1 three-one → ⊥
-commits idle = let h = shown-bytes .fast in tf _ (h .holds .status) (none 3 1 three-one idle (h .run) 0 0 1 (h .holds .copy) (h .holds .range))
+commits idle = let h = shown-bytes .fast in tf _ (h .holds .status) (none 3 1 three-one idle (h .start) (h .run) 0 0 1 (h .holds .copy) (h .holds .range))

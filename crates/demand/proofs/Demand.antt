@@ -1,11 +1,13 @@
 -- Demand 3 holds of every run over bytes, for every setup. Assumes nothing.
 use Prim.Native.Nat.{ℕ, _<_}
+use mathlib.Core.Logic.{inl, inr, ⊎-elim}
 use mathlib.Core.Path.{_≡_, refl, sym, ap, _∙_}
 use mathlib.Core.Bool.{Bool, true, false, _&&_, _||_, not, cond}
 use mathlib.Core.List.{List, _++_, List·Memᴰ}
 use lib.Dec.{ltb, eqb}
 use lib.ListN.{length}
 use borrow.Author.Tests.{not-false}
+use Rattle.paper.specs.Command.{isNoop}
 use Rattle.paper.specs.Instance.{instanceOk}
 use Rattle.paper.specs.Refusal.{numberOf}
 use Rattle.paper.specs.Valid.{valid}
@@ -30,34 +32,36 @@ use Rattle.table.specs.Table.{recordIn}
 use Rattle.seen.specs.Records.{recordsIn}
 use Rattle.closed.proofs.Laws.{by-cond, tf}
 use Rattle.closed.proofs.Heard.{valid-instance}
-use Rattle.log.specs.Events.{Outcome, refuse, acted, requestOpen, receiveOpen, recoverOpen, nudgeOpen, answerNumber}
+use Rattle.log.specs.Events.{Outcome, refuse, acted, commandOf, opTaken, asked, requestOpen, receiveOpen, recoverOpen, nudgeOpen, answerNumber}
+use Rattle.log.specs.Events as log
 use Rattle.order.specs.Calls.{settledOpen, settled, handedOpen, handed, settlingNumber, handingNumber}
 use Rattle.order.specs.declared.Settling.{Settling}
 use Rattle.order.specs.declared.Settling.the-variants as settling
-use Rattle.safety.specs.Run.{Instance, Setup}
+use Rattle.safety.specs.Run.{Instance, requested, Setup}
 use Rattle.safety.specs.Run as rules
 use Rattle.safety.specs.Demand as rules-demand
 use Rattle.safety.proofs.Demand as rules-proved
-use Rattle.demand.specs.Run.{State, start, Call, request, receive, recover, nudge, outcome, Run, stay}
+use Rattle.demand.specs.Run.{savedTable, State, Start, Call, request, receive, recover, nudge, outcome, Run, stay}
 use Rattle.demand.specs.Demand.{Committed, Unrefused, Lasting, Demand}
 use Rattle.demand.proofs.Saved.{Kept}
 use Rattle.demand.proofs.Records.{at-range}
-use Rattle.demand.proofs.Handing.{sound-judged, left}
+use Rattle.demand.proofs.Handing.{sound-judged}
+use Rattle.demand.proofs.History.{requested-heard}
 use Rattle.demand.proofs.Steps.{gate-is}
-use Rattle.demand.proofs.Bridge.{Tie, Next, begin, in-memory, bridge}
+use Rattle.demand.proofs.Bridge.{Tie, Next, begin, in-memory, lent-kept, bridge}
 
 module _ (n s : ℕ) (setup : Setup n s) where
   -- the rules' run beside a moment x and a later one y
-  module _ (x y : State) (rx : Run n s (start n s) x) (ry : Run n s x y) where
-    abbrev atX : Next n s setup rules.start x
-    atX = bridge n s setup rules.start (begin n s setup) rx
+  module _ (x₀ x y : State) (st : Start n s x₀) (rx : Run n s x₀ x) (ry : Run n s x y) where
+    abbrev atX : Next n s setup (begin n s setup st .first) x
+    atX = bridge n s setup (begin n s setup st .first) (begin n s setup st .tie) rx
 
     abbrev atY : Next n s setup (atX .later) y
     atY = bridge n s setup (atX .later) (atX .tie) ry
 
   -- a commit in saved bytes is one of the rules, and back
-  record-is : (x : State) (y : rules.State) → Tie n s setup x y → (c o j : ℕ) → instanceOk n s o j ≡ true → y .tables c o j ≡ recordIn s (x .copies c .saved) o j
-  record-is x y t c o j i = ap (λ (u : Records). u o j) (t .copies c .table) ∙ at-range n s (x .copies c .saved) o j i
+  record-is : (x : State) (y : rules.State) → Tie n s setup x y → (c o j : ℕ) → instanceOk n s o j ≡ true → y .tables c o j ≡ recordIn s (savedTable (x .copies c)) o j
+  record-is x y t c o j i = ap (λ (u : Records). u o j) (t .copies c .table) ∙ at-range n s (savedTable (x .copies c)) o j i
 
   to-rules : (x : State) (y : rules.State) → Tie n s setup x y → (c o j : ℕ) (k : Command) (d : List ℕ) → Committed n s x c o j k d → rules-demand.Committed y c o j k d
   to-rules x y t c o j k d h =
@@ -88,12 +92,20 @@ module _ (n s : ℕ) (setup : Setup n s) where
   unfolding acted
   done t out o j x = record { is = other 0 refl }
 
-  open-fine : (c : ℕ) (t out : List ℕ) → Kept n s c t → (call : Call) → Fine (outcome n s c t out call)
-  unfolding requestOpen receiveOpen recoverOpen nudgeOpen
-  open-fine c t out k (request op key edit) =
+  asked-fine : (c : ℕ) (t out : List ℕ) (v : Command) → Fine (asked n s c t out v)
+  unfolding asked
+  asked-fine c t out v = or-else (ltb s (requestNumber s c (recordsIn s t))) why.Full t out _ refl (done t out _ _ _)
+
+  request-fine : (c : ℕ) (t out : List ℕ) → Kept n s c t → (op key edit : ℕ) → Fine (log.requested n s c t out op key edit)
+  unfolding requestOpen
+  request-fine c t out k op key edit =
       rw (gate-is n s c t out (requestOpen n s c t out op key edit) k)
-      (or-else (ltb (length out) 256) why.Room t out _ refl
-      (or-else (not (eqb op 1 || eqb op 2)) why.Op t out _ refl (or-else (ltb s (requestNumber s c (recordsIn s t))) why.Full t out _ refl (done t out _ _ _))))
+      (or-else (ltb (length out) 256) why.Room t out _ refl (or-else (not (opTaken op)) why.Op t out _ refl (asked-fine c t out (commandOf op key edit))))
+
+  open-fine : (c : ℕ) (t out : List ℕ) → Kept n s c t → (call : Call) → Fine (outcome n s c t out call)
+  unfolding receiveOpen recoverOpen nudgeOpen
+  open-fine c t out k (request v) =
+      rw (gate-is n s c t out (asked n s c t out v) k) (or-else (ltb (length out) 256) why.Room t out _ refl (asked-fine c t out v))
   open-fine c t out k (receive b) =
       let r : Record = recordIn s t (messageAt b .owner) (messageAt b .number) in
       rw (gate-is n s c t out (receiveOpen n s c t out b) k)
@@ -127,6 +139,7 @@ module _ (n s : ℕ) (setup : Setup n s) where
   unrefused : (c : ℕ) (t : List ℕ) (r : ℕ) → Kept n s c t → ((a : ℕ) → Other a → a ≡ r → ⊥) → Unrefused n s c t r
   unrefused c t r k h =
       record {
+        request = λ out op key edit. h _ (request-fine c t out k op key edit .is);
         event = λ out call. h _ (open-fine c t out k call .is);
         question = λ o j. h _ (question-fine c t k o j);
         handOut = λ list. h _ (hand-fine c t k list);
@@ -139,26 +152,24 @@ module _ (n s : ℕ) (setup : Setup n s) where
   ten : (a : ℕ) → eqb a 10 ≡ false → a ≡ 10 → ⊥
   ten a h e = tf (eqb a 10) (rw e) h
 
-  sent-agrees : (x : State) (y : rules.State) → Tie n s setup x y → rules.Run n s rules.start y → (c : ℕ) → c < n → (out b : List ℕ) → List·Memᴰ b (x .sent)
-      → Agrees (outcome n s c (x .copies c .saved) out (receive b))
+  sent-agrees : (x : State) (y₀ y : rules.State) → Tie n s setup x y → rules.Start n s y₀ → rules.Run n s y₀ y → (c : ℕ) → c < n → (out b : List ℕ) → List·Memᴰ b (x .sent)
+      → Agrees (outcome n s c (savedTable (x .copies c)) out (receive b))
   unfolding receiveOpen validBytes acted
-  sent-agrees x y t r c l out b i =
-      let v : List ℕ = x .copies c .saved in
+  sent-agrees x y₀ y t st r c l out b i =
+      let v : List ℕ = savedTable (x .copies c) in
       let m : Message = messageAt b in
       let same : validBytes n s c b ≡ true → refused10 (recordIn s v (m .owner) (m .number)) m ≡ false =
       λ h.
       let g : valid n s c m ≡ true = and-true (framed b && opFits b) _ h .1 in
-      rw (← record-is x y t c (m .owner) (m .number) (valid-instance n s c m g)) (rules-proved.lasting n s setup .unrefused y r c m (t .sent b i .among) g) in
+      rw (← record-is x y t c (m .owner) (m .number) (valid-instance n s c m g)) (rules-proved.lasting n s setup .unrefused y₀ y st r c m (t .sent b i .among) g) in
       rw (gate-is n s c v out (receiveOpen n s c v out b) (t .copies c .kept l))
       (by-cond Agrees (ltb (length out) 256) (λ e. ten 2 refl)
       (λ e. by-cond Agrees (not (validBytes n s c b)) (λ f. ten 3 refl)
       (λ f. by-cond Agrees (refused10 (recordIn s v (m .owner) (m .number)) m) (λ g. tf _ g (same (not-false _ f))) (λ g. ten 0 refl))))
 
-  -- the table in memory is sound, also while marks are still to be saved
-  lent-kept : (x : State) → Run n s (start n s) x → (c : ℕ) → c < n → Kept n s c (x .copies c .lent)
-  lent-kept x r c l =
-      let b = atX x x r stay .tie .copies c in
-      rw (b .pending .table) (left (b .pending .room) n s c (x .copies c .saved) (b .kept l) .kept)
+  -- the table in memory is sound
+  in-run : (x₀ x : State) → Start n s x₀ → Run n s x₀ x → (c : ℕ) → c < n → Kept n s c (x .copies c .lent)
+  in-run x₀ x st r c l = let p = atX x₀ x x st r stay in lent-kept n s setup x (p .later) (p .tie) c l
 
 -- demand 3
 module _ (n s : ℕ) (setup : Setup n s) where
@@ -167,45 +178,53 @@ module _ (n s : ℕ) (setup : Setup n s) where
 
   lasting : Lasting n s
   lasting = record {
-    commit = λ x y rx ry a o j k d h.
-        let p = atX n s setup x y rx ry in
-        let q = atY n s setup x y rx ry in
+    commit = λ x₀ x y st rx ry a o j k d h.
+        let z = begin n s setup st in
+        let p = atX n s setup x₀ x y st rx ry in
+        let q = atY n s setup x₀ x y st rx ry in
         of-rules n s setup y (q .later) (q .tie) a o j k d (h .copy) (h .range)
-        (D .lasting .commit (p .later) (q .later) (p .run) (q .run) a o j k d (to-rules n s setup x (p .later) (p .tie) a o j k d h));
-    marks = λ x y rx ry a.
-        let p = atX n s setup x y rx ry in
-        let q = atY n s setup x y rx ry in
-        let (l, e) = D .lasting .marks (p .later) (q .later) (p .run) (q .run) a in
+        (D .lasting .commit (z .first) (p .later) (q .later) (z .start) (p .run) (q .run) a o j k d (to-rules n s setup x (p .later) (p .tie) a o j k d h));
+    marks = λ x₀ x y st rx ry a.
+        let z = begin n s setup st in
+        let p = atX n s setup x₀ x y st rx ry in
+        let q = atY n s setup x₀ x y st rx ry in
+        let (l, e) = D .lasting .marks (z .first) (p .later) (q .later) (z .start) (p .run) (q .run) a in
         (l, sym (q .tie .copies a .marks) ∙ e ∙ ap (λ (m : List Instance). m ++ l) (p .tie .copies a .marks));
-    never-10 = λ x r c l none out b i e.
-        let p = atX n s setup x x r stay in
+    never-10 = λ x₀ x st r c l none out b i e.
+        let z = begin n s setup st in
+        let p = atX n s setup x₀ x x st r stay in
         let m = in-memory n s setup x (p .later) (p .tie) c l none in
-        sent-agrees n s setup x (p .later) (p .tie) (p .run) c l out b i (rw m at e);
-    never-1 = λ x r c l. unrefused n s setup c (x .copies c .lent) 1 (lent-kept n s setup x r c l) (λ a o e. o .0 e);
-    never-11 = λ x r c l. unrefused n s setup c (x .copies c .lent) 11 (lent-kept n s setup x r c l) (λ a o e. o .1 e);
+        sent-agrees n s setup x (z .first) (p .later) (p .tie) (z .start) (p .run) c l out b i (rw m at e);
+    never-1 = λ x₀ x st r c l. unrefused n s setup c (x .copies c .lent) 1 (in-run n s setup x₀ x st r c l) (λ a o e. o .0 e);
+    never-11 = λ x₀ x st r c l. unrefused n s setup c (x .copies c .lent) 11 (in-run n s setup x₀ x st r c l) (λ a o e. o .1 e);
   }
 
   pub demand-3 : Demand n s
   demand-3 = record {
-    agreement = λ x y rx ry a b o j k l d e h g.
-        let p = atX n s setup x y rx ry in
-        let q = atY n s setup x y rx ry in
-        D .agreement (p .later) (q .later) (p .run) (q .run) a b o j k l d e (to-rules n s setup x (p .later) (p .tie) a o j k d h)
+    agreement = λ x₀ x y st rx ry a b o j k l d e h g.
+        let z = begin n s setup st in
+        let p = atX n s setup x₀ x y st rx ry in
+        let q = atY n s setup x₀ x y st rx ry in
+        D .agreement (z .first) (p .later) (q .later) (z .start) (p .run) (q .run) a b o j k l d e (to-rules n s setup x (p .later) (p .tie) a o j k d h)
         (to-rules n s setup y (q .later) (q .tie) b o j l e g);
-    requested = λ x rx a o j k d h.
-        let p = atX n s setup x x rx stay in
-        rw (← p .tie .requested) (D .requested (p .later) (p .run) a o j k d (to-rules n s setup x (p .later) (p .tie) a o j k d h));
-    covering = λ x y rx ry a b o j p i k l d e ne h g it.
-        let u = atX n s setup x y rx ry in
-        let v = atY n s setup x y rx ry in
-        D .covering (u .later) (v .later) (u .run) (v .run) a b o j p i k l d e ne (to-rules n s setup x (u .later) (u .tie) a o j k d h)
+    requested = λ x₀ x st rx a o j k d h.
+        let z = begin n s setup st in
+        let p = atX n s setup x₀ x x st rx stay in
+        ⊎-elim (λ (e : isNoop k ≡ true). inl e) (λ (m : List·Memᴰ (requested o j k) (p .later .history)). inr (requested-heard (x .history) o j k (rw (p .tie .history) at m)))
+        (D .requested (z .first) (p .later) (z .start) (p .run) a o j k d (to-rules n s setup x (p .later) (p .tie) a o j k d h));
+    covering = λ x₀ x y st rx ry a b o j p i k l d e ne h g it.
+        let z = begin n s setup st in
+        let u = atX n s setup x₀ x y st rx ry in
+        let v = atY n s setup x₀ x y st rx ry in
+        D .covering (z .first) (u .later) (v .later) (z .start) (u .run) (v .run) a b o j p i k l d e ne (to-rules n s setup x (u .later) (u .tie) a o j k d h)
         (to-rules n s setup y (v .later) (v .tie) b p i l e g) it;
-    order = λ x y rx ry a b c e o j p i k l d f h g it bf mo mp.
-        let u = atX n s setup x y rx ry in
-        let v = atY n s setup x y rx ry in
+    order = λ x₀ x y st rx ry a b c e o j p i k l d f h g it bf mo mp.
+        let z = begin n s setup st in
+        let u = atX n s setup x₀ x y st rx ry in
+        let v = atY n s setup x₀ x y st rx ry in
         let at = v .tie .copies b .marks in
         rw (← at)
-        (D .order (u .later) (v .later) (u .run) (v .run) a b c e o j p i k l d f (to-rules n s setup y (v .later) (v .tie) c o j k d h)
+        (D .order (z .first) (u .later) (v .later) (z .start) (u .run) (v .run) a b c e o j p i k l d f (to-rules n s setup y (v .later) (v .tie) c o j k d h)
         (to-rules n s setup y (v .later) (v .tie) e p i l f g) it (rw (u .tie .copies a .marks) bf) (rw at mo) (rw at mp));
     lasting = lasting;
   }

@@ -1,11 +1,12 @@
 -- What a hand-out listed and is not saved yet: its marks, one after the other, are those of the saved table. Assumes nothing.
 use Prim.Native.Nat.{ℕ, zero, suc, _/_, _%_, _≤_, _<_}
 use mathlib.Core.Path.{_≡_, refl, sym, ap, _∙_}
-use mathlib.Core.Bool.{true, not}
+use mathlib.Core.Bool.{Bool, true, false, _&&_, not, cond}
 use mathlib.Core.List.{List, [], _∷_}
 use native.Mathlib.Omega.{arith}
 use lib.ListN.{length, take, drop, getD}
-use borrow.Author.Tests.{not-true}
+use lib.Dec.{eqb}
+use borrow.Author.Tests.{eqb-true, not-true}
 use Rattle.num.specs.Num.{splice}
 use Rattle.num.proofs.Laws.{splice-same}
 use Rattle.paper.specs.Instance.{instanceOk}
@@ -24,13 +25,13 @@ use Rattle.table.proofs.Laws.{sizes, names}
 use Rattle.table.proofs.Round.{put-part}
 use Rattle.seen.specs.Records.{recordsIn}
 use Rattle.closed.specs.Held.{Held}
-use Rattle.closed.proofs.Laws.{three, tf, eqb-self}
+use Rattle.closed.proofs.Laws.{two, three, tf, eqb-self}
 use Rattle.closed.proofs.Mark.{marked-held, Found, candidate-committed, nextOut-found}
 use Rattle.order.specs.Calls.{markIn, handedTable, handedCodes, handedOpen, handed}
 use Rattle.order.specs.declared.Handing.{Handing}
 use Rattle.order.specs.declared.Handing.the-variants.{Codes}
 use Rattle.order.specs.declared.Handing.the-variants as handing
-use Rattle.demand.specs.Run.{savedPart}
+use Rattle.demand.specs.Run.{saveOf, stored}
 use Rattle.demand.proofs.Saved.{Kept, put-own, put-kept}
 use Rattle.demand.proofs.Range.{Alike, out-alike}
 use Rattle.demand.proofs.Records.{records, at-range, held, put-records}
@@ -109,13 +110,39 @@ left (suc room) n s c t k = go (nextOut n s (recordsIn s t)) (nextOut-found n s 
               h .frame p i z v ∙ e;
         }
 
+-- it leaves every vote
+module _ (n s : ℕ) where
+  mark-vote : (c : ℕ) (t : List ℕ) (k : Kept n s c t) (p q : ℕ) → Found n s (candidate n s (recordsIn s t)) (At p q) → (o j : ℕ) → instanceOk n s o j ≡ true
+      → recordIn s (markIn s t p q) o j .vote ≡ recordIn s t o j .vote
+  unfolding put
+  mark-vote c t k p q f o j i =
+      let u : Records = records n s t in
+      let a : recordIn s (markIn s t p q) o j ≡ cond (eqb o p && eqb j q) (marked (u p q)) (u o j) =
+      sym (at-range n s (markIn s t p q) o j i) ∙ ap (λ (v : Records). v o j) (mark-records n s c t k p q f) in
+      ap (λ (r : Record). r .vote) a ∙ go u (eqb o p && eqb j q) refl ∙ ap (λ (r : Record). r .vote) (at-range n s t o j i)
+    where
+      go : (u : Records) (b : Bool) → (eqb o p && eqb j q) ≡ b → (cond b (marked (u p q)) (u o j)) .vote ≡ u o j .vote
+      go u true e = let (x, y) = two _ _ e in rw (eqb-true o p x, eqb-true j q y)
+      go u false e = refl
+
+  pub hand-vote : (room c : ℕ) (t : List ℕ) → Kept n s c t → (o j : ℕ) → instanceOk n s o j ≡ true → recordIn s (handedTable room n s t) o j .vote ≡ recordIn s t o j .vote
+  unfolding handedTable
+  hand-vote zero c t k o j i = refl
+  hand-vote (suc room) c t k o j i = go (nextOut n s (recordsIn s t)) (nextOut-found n s (recordsIn s t)) (λ u h. hand-vote room c u h o j i)
+    where
+      go : (f : First) → Found n s (candidate n s (recordsIn s t)) f
+          → ((u : List ℕ) → Kept n s c u → recordIn s (handedTable room n s u) o j .vote ≡ recordIn s u o j .vote)
+          → recordIn s (found f t (λ p q. handedTable room n s (markIn s t p q))) o j .vote ≡ recordIn s t o j .vote
+      go Nowhere f more = refl
+      go (At p q) f more = more (markIn s t p q) (mark-kept n s c t k p q f) ∙ mark-vote c t k p q f o j i
+
 at-mark : (x : Records) (o j : ℕ) → isMarked (mark x o j o j) ≡ true
 unfolding put
 at-mark x o j = rw (eqb-self o, eqb-self j)
 
 -- the first mark of a hand-out, saved, is one mark of the saved table
 pub save-mark : (n s c : ℕ) (t : List ℕ) (k : Kept n s c t) (o j : ℕ) (f : Found n s (candidate n s (recordsIn s t)) (At o j)) (room : ℕ)
-    → nextOut n s (recordsIn s t) ≡ At o j → savedPart n s c t (handedTable (suc room) n s t) o j ≡ markIn s t o j
+    → nextOut n s (recordsIn s t) ≡ At o j → stored s t (saveOf n s c (handedTable (suc room) n s t) o j) ≡ markIn s t o j
 unfolding markIn
 save-mark n s c t k o j f room e =
     let u : List ℕ = markIn s t o j in
@@ -200,7 +227,7 @@ pub record Marked (n s c : ℕ) (t u : List ℕ) (code : ℕ) (rest : List ℕ) 
   pub next : nextOut n s (recordsIn s t) ≡ At owner number
   pub is-owner : code / 256 ≡ owner
   pub is-number : code % 256 ≡ number
-  pub saved : savedPart n s c t u owner number ≡ markIn s t owner number
+  pub saved : stored s t (saveOf n s c u owner number) ≡ markIn s t owner number
   pub pending : Pending n s (markIn s t owner number) u rest
 
 pub marked-next : (n s c : ℕ) (t u : List ℕ) (code : ℕ) (rest l : List ℕ) → Kept n s c t → Pending n s t u l → l ≡ code ∷ rest → Marked n s c t u code rest

@@ -5,6 +5,7 @@ pub mod Range
 pub mod Records
 pub mod Written
 pub mod Handing
+pub mod History
 -- The bridge: an answered call is a step of the rules, a run over bytes a run of the rules, and the demand follows.
 pub mod Steps
 pub mod Bridge

@@ -17,7 +17,7 @@ use Rattle.rules.specs.Sets.{highest}
 use Rattle.rules.specs.Seen.{Records, met, seenEntry, seenFrom, seen}
 use Rattle.rules.specs.Request.{lowestBlank}
 use Rattle.rules.specs.Events.{put, requestNumber, onRequest, onMessage, onRecover, onNudge}
-use Rattle.rules.specs.Order.{everywhere, somewhere, firstOwner, firstNumber, coversIn, reachesIn, reaches, waitsFor, isSettled, isMarked, candidate, marked, mark, nextOut, codeOf, found, handOut}
+use Rattle.rules.specs.Order.{everywhere, somewhere, firstOwner, firstNumber, coversIn, reachesIn, reaches, waitsFor, firstOpen, isSettled, isMarked, candidate, marked, mark, nextOut, codeOf, found, handOut}
 use Rattle.closed.proofs.Laws.{both}
 use Rattle.closed.proofs.Mark.{Found, nextOut-found}
 
@@ -73,7 +73,42 @@ module _ (n s : ℕ) where
   abbrev pub Alike : Records → Records → Type 0
   Alike t u = (o j : ℕ) → instanceOk n s o j ≡ true → t o j ≡ u o j
 
+  -- votes alone
+  abbrev pub SameVotes : Records → Records → Type 0
+  SameVotes t u = (o j : ℕ) → instanceOk n s o j ≡ true → t o j .vote ≡ u o j .vote
+
+  -- what is reached, and what a question is answered
+  module _ (t u : Records) (h : SameVotes t u) where
+    covers-alike : (p k o j : ℕ) → instanceOk n s p k ≡ true → coversIn n s t p k o j ≡ coversIn n s u p k o j
+    unfolding coversIn
+    covers-alike p k o j i = rw (h p k i)
+
+    reach-alike : (f p k o j : ℕ) → instanceOk n s p k ≡ true → reachesIn f n s t p k o j ≡ reachesIn f n s u p k o j
+    unfolding reachesIn
+    reach-alike zero p k o j i = covers-alike p k o j i
+    reach-alike (suc f) p k o j i =
+        rw (
+          covers-alike p k o j i,
+          some-alike (λ q e. cond (coversIn n s t p k q e) (reachesIn f n s t q e o j) false) (λ q e. cond (coversIn n s u p k q e) (reachesIn f n s u q e o j) false)
+              (λ q e z. rw (covers-alike p k q e i, reach-alike f q e o j z)),
+        )
+
+    reaches-alike : (p k o j : ℕ) → instanceOk n s p k ≡ true → reaches n s t p k o j ≡ reaches n s u p k o j
+    unfolding reaches
+    reaches-alike p k o j i = reach-alike (n * s) p k o j i
+
+    waits-alike : (p k o j : ℕ) → instanceOk n s p k ≡ true → instanceOk n s o j ≡ true → waitsFor n s t p k o j ≡ waitsFor n s u p k o j
+    unfolding waitsFor
+    waits-alike p k o j i z = rw (reaches-alike p k o j i, h o j z)
+
+    pub open-alike : (p k : ℕ) → instanceOk n s p k ≡ true → firstOpen n s t p k ≡ firstOpen n s u p k
+    unfolding firstOpen
+    open-alike p k i = first-alike (waitsFor n s t p k) (waitsFor n s u p k) (λ o j z. waits-alike p k o j i z) s 1 (omega arith) (omega arith)
+
   module _ (t u : Records) (h : Alike t u) where
+    abbrev votes : SameVotes t u
+    votes o j i = ap (λ (r : Record). r .vote) (h o j i)
+
     -- Seen
     entry-alike : (o j : ℕ) (k : Command) (p : ℕ) → seenEntry n s t o j k p ≡ seenEntry n s u o j k p
     unfolding seenEntry met
@@ -113,33 +148,15 @@ module _ (n s : ℕ) where
     nudge-alike c o j i = rw (h o j i)
 
     -- what is handed out
-    covers-alike : (p k o j : ℕ) → instanceOk n s p k ≡ true → coversIn n s t p k o j ≡ coversIn n s u p k o j
-    unfolding coversIn
-    covers-alike p k o j i = rw (h p k i)
-
-    reach-alike : (f p k o j : ℕ) → instanceOk n s p k ≡ true → reachesIn f n s t p k o j ≡ reachesIn f n s u p k o j
-    unfolding reachesIn
-    reach-alike zero p k o j i = covers-alike p k o j i
-    reach-alike (suc f) p k o j i =
-        rw (
-          covers-alike p k o j i,
-          some-alike (λ q e. cond (coversIn n s t p k q e) (reachesIn f n s t q e o j) false) (λ q e. cond (coversIn n s u p k q e) (reachesIn f n s u q e o j) false)
-              (λ q e z. rw (covers-alike p k q e i, reach-alike f q e o j z)),
-        )
-
-    reaches-alike : (p k o j : ℕ) → instanceOk n s p k ≡ true → reaches n s t p k o j ≡ reaches n s u p k o j
-    unfolding reaches
-    reaches-alike p k o j i = reach-alike (n * s) p k o j i
-
     candidate-alike : (p k : ℕ) → instanceOk n s p k ≡ true → candidate n s t p k ≡ candidate n s u p k
-    unfolding candidate isSettled waitsFor
+    unfolding candidate isSettled
     candidate-alike p k i =
         rw (
-          every-alike (λ o j. not (waitsFor n s t p k o j)) (λ o j. not (waitsFor n s u p k o j)) (λ o j z. rw (reaches-alike p k o j i, h o j z)),
+          every-alike (λ o j. not (waitsFor n s t p k o j)) (λ o j. not (waitsFor n s u p k o j)) (λ o j z. ap not (waits-alike t u votes p k o j i z)),
           h p k i,
           every-alike (λ o j. implies (reaches n s t p k o j && not (reaches n s t o j p k)) (isMarked (t o j)))
               (λ o j. implies (reaches n s u p k o j && not (reaches n s u o j p k)) (isMarked (u o j)))
-              (λ o j z. rw (reaches-alike p k o j i, reaches-alike o j p k z, h o j z)),
+              (λ o j z. rw (reaches-alike t u votes p k o j i, reaches-alike t u votes o j p k z, h o j z)),
         )
 
     pub next-alike : nextOut n s t ≡ nextOut n s u

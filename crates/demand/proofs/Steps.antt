@@ -1,13 +1,12 @@
 -- A call that answers an event on a sound table is a move of the rules on its records. Assumes nothing.
 use Prim.Native.Nat.{ℕ, zero, suc, _+_, _≤_, _<_}
 use mathlib.Core.Path.{_≡_, refl, sym, ap, ap₂, _∙_}
-use mathlib.Core.Bool.{Bool, true, false, _&&_, _||_, not, cond}
+use mathlib.Core.Bool.{Bool, true, false, _&&_, not, cond}
 use mathlib.Core.List.{List, _++_}
 use native.Mathlib.Omega.{arith}
-use lib.Dec.{ltb, eqb}
+use lib.Dec.{ltb}
 use lib.ListN.{length}
 use borrow.Author.Tests.{ltb-false, not-false}
-use Rattle.codec.specs.Parts.{opOf}
 use Rattle.paper.specs.Setup.{setupOk}
 use Rattle.paper.specs.Instance.{instanceOk}
 use Rattle.paper.specs.Command.{isNoop, commandOk}
@@ -33,13 +32,16 @@ use Rattle.table.specs.Table.{fits, recordIn}
 use Rattle.seen.specs.Records.{recordsIn}
 use Rattle.paper.specs.Fits.{CommandFits}
 use Rattle.closed.specs.Held.{Closed}
+use Rattle.closed.proofs.Laws.{clash}
 use Rattle.closed.proofs.Heard.{valid-instance}
 use Rattle.closed.proofs.Closed.{request-event, message-event, recover-event, nudge-event}
+use Rattle.log.specs.declared.Gate.{Gate}
 use Rattle.log.specs.declared.Gate.the-variants.{Open, Shut}
-use Rattle.log.specs.Events.{Outcome, refuse, acted, gateOf, gated, through, requestOpen, receiveOpen, recoverOpen, nudgeOpen, answerNumber}
+use Rattle.log.specs.declared.Answer.the-variants.{Event}
+use Rattle.log.specs.Events.{Outcome, refuse, acted, gateOf, gated, through, commandOf, opTaken, asked, requestOpen, receiveOpen, recoverOpen, nudgeOpen, answerNumber}
 use Rattle.safety.specs.Run.{replaced}
 use Rattle.safety.specs.Run as rules
-use Rattle.demand.specs.Run.{Call, request, receive, recover, nudge, outcome, recorded}
+use Rattle.demand.specs.Run.{Call, request, receive, recover, nudge, outcome, PublicRequest, recorded}
 use Rattle.demand.proofs.Saved.{Kept, setup-of}
 use Rattle.demand.proofs.Range.{in-range, number-alike, request-alike, message-alike, recover-alike, nudge-alike}
 use Rattle.demand.proofs.Records.{records, at-range, alike, held}
@@ -66,26 +68,26 @@ gate-is n s c t out rest k = rw (k .setup, k .sound) (go (ltb (length out) 256))
 
 -- what was asked of a call before it is made
 abbrev pub Brought : ℕ → ℕ → List Message → Call → Type 0
-Brought n s l (request op key edit) = CommandFits (record { op = opOf op; key = key; edit = edit })
+Brought n s l (request k) = (isNoop k ≡ false) × CommandFits k
 Brought n s l (receive b) = Carried n s l b
 Brought n s l (recover o j) = Unit {0}
 Brought n s l (nudge o j) = Unit {0}
 
 -- the instance of a call at copy c, and what it does there to a table of records
 abbrev pub ownerIn : ℕ → Call → ℕ
-ownerIn c (request op key edit) = c
+ownerIn c (request k) = c
 ownerIn c (receive b) = messageAt b .owner
 ownerIn c (recover o j) = o
 ownerIn c (nudge o j) = o
 
 abbrev pub numberIn : ℕ → ℕ → Records → Call → ℕ
-numberIn s c u (request op key edit) = requestNumber s c u
+numberIn s c u (request k) = requestNumber s c u
 numberIn s c u (receive b) = messageAt b .number
 numberIn s c u (recover o j) = j
 numberIn s c u (nudge o j) = j
 
 abbrev pub stepIn : ℕ → ℕ → ℕ → Records → Call → Step
-stepIn n s c u (request op key edit) = onRequest n s c u (record { op = opOf op; key = key; edit = edit })
+stepIn n s c u (request k) = onRequest n s c u k
 stepIn n s c u (receive b) = onMessage n s c u (messageAt b)
 stepIn n s c u (recover o j) = onRecover n c u o j
 stepIn n s c u (nudge o j) = onNudge n c u o j
@@ -96,7 +98,7 @@ moved n s y c call l =
     record {
       tables = replaced (y .tables) c (put (y .tables c) (ownerIn c call) (numberIn s c (y .tables c) call) (stepIn n s c (y .tables c) call .entry));
       sent = y .sent ++ l;
-      requested = recorded (y .requested) (ownerIn c call) (numberIn s c (y .tables c) call) call;
+      history = recorded (y .history) (ownerIn c call) (numberIn s c (y .tables c) call) call;
       marks = y .marks;
     }
 
@@ -108,10 +110,28 @@ pub record Stepped (n s c : ℕ) (t out : List ℕ) (call : Call) (y : rules.Sta
   pub move : (l : List Message) → rules.Among l (messages (stepIn n s c (y .tables c) call)) → rules.Move n s y (moved n s y c call l)
 
 -- a request's op is a read or a write
-op-asked : (op : ℕ) → (eqb op 1 || eqb op 2) ≡ true → (key edit : ℕ) → isNoop (record { op = opOf op; key = key; edit = edit }) ≡ false
+op-asked : (op : ℕ) → opTaken op ≡ true → (key edit : ℕ) → isNoop (commandOf op key edit) ≡ false
 op-asked zero e key edit = sym e
 op-asked (suc zero) e key edit = refl
 op-asked (suc (suc op)) e key edit = refl
+
+-- the call, where it answers an event, has taken the op
+pub public-request : PublicRequest
+unfolding gated requestOpen
+public-request n s c t out op key edit o j w = by (gateOf n s c t (length out))
+  where
+    k : Command
+    k = commandOf op key edit
+
+    taken : (b : Bool) → opTaken op ≡ b → cond (not b) (refuse why.Op t out) (asked n s c t out k) .answer ≡ Event o j w
+        → (isNoop k ≡ false) × (cond (not b) (refuse why.Op t out) (asked n s c t out k) ≡ asked n s c t out k)
+    taken true e h = (op-asked op e key edit, refl)
+    taken false e h = clash (cc)
+
+    by : (g : Gate) → through g t out (cond (not (opTaken op)) (refuse why.Op t out) (asked n s c t out k)) .answer ≡ Event o j w
+        → (isNoop k ≡ false) × (through g t out (cond (not (opTaken op)) (refuse why.Op t out) (asked n s c t out k)) ≡ through g t out (asked n s c t out k))
+    by Open h = taken (opTaken op) refl h
+    by (Shut r) h = clash (cc)
 
 module _ (n s c : ℕ) (t out : List ℕ) (k : Kept n s c t) (copy : c < n) (y : rules.State) (at : y .tables c ≡ records n s t) where
   abbrev setup : setupOk n s c ≡ true
@@ -120,22 +140,18 @@ module _ (n s c : ℕ) (t out : List ℕ) (k : Kept n s c t) (copy : c < n) (y :
   here : (o j : ℕ) → instanceOk n s o j ≡ true → y .tables c o j ≡ recordIn s t o j
   here o j i = ap (λ (u : Records). u o j) at ∙ at-range n s t o j i
 
-  request-step : (op key edit : ℕ) → Brought n s (y .sent) (request op key edit) → answerNumber (outcome n s c t out (request op key edit) .answer) ≡ 0
-      → Stepped n s c t out (request op key edit) y
-  unfolding requestOpen requestNumber commandOk
-  request-step op key edit f h =
-      let v : Command = record { op = opOf op; key = key; edit = edit } in
+  request-step : (v : Command) → Brought n s (y .sent) (request v) → answerNumber (outcome n s c t out (request v) .answer) ≡ 0 → Stepped n s c t out (request v) y
+  unfolding asked requestNumber commandOk
+  request-step v (noop, f) h =
       let j : ℕ = requestNumber s c (recordsIn s t) in
       let x : Step = onRequest n s c (recordsIn s t) v in
-      let a = past _ why.Room t out _ _ (gate-is n s c t out (requestOpen n s c t out op key edit) k) h in
-      let b = past (not (eqb op 1 || eqb op 2)) why.Op t out (requestOpen n s c t out op key edit) _ refl (a .answered) in
-      let d = past (ltb s j) why.Full t out _ (acted s t out c j x) refl (b .answered) in
-      let noop : isNoop v ≡ false = op-asked op (not-false _ (b .test)) key edit in
+      let a = past _ why.Room t out _ _ (gate-is n s c t out (asked n s c t out v) k) h in
+      let d = past (ltb s j) why.Full t out (asked n s c t out v) (acted s t out c j x) refl (a .answered) in
       let small : j ≤ s = ltb-false s j (d .test) in
       let num : requestNumber s c (y .tables c) ≡ j = ap (requestNumber s c) at ∙ sym (number-alike n s (recordsIn s t) (records n s t) (alike n s t) c copy) in
       let same : onRequest n s c (y .tables c) v ≡ x = ap (λ (u : Records). onRequest n s c u v) at ∙ sym (request-alike n s (recordsIn s t) (records n s t) (alike n s t) c copy v) in
       record {
-        is = a .is ∙ b .is ∙ d .is ∙ ap₂ (λ (i : ℕ) (z : Step). acted s t out c i z) (sym num) (sym same);
+        is = a .is ∙ d .is ∙ ap₂ (λ (i : ℕ) (z : Step). acted s t out c i z) (sym num) (sym same);
         range = rw num (in-range n s c j copy (blank-above s 1 (recordsIn s t c)) small);
         closed = rw same (request-event n s c setup (recordsIn s t) (held n s c t k) v (rw noop) f noop small);
         long = ltb-false (length out) 256 (a .test);
@@ -199,7 +215,7 @@ module _ (n s c : ℕ) (t out : List ℕ) (k : Kept n s c t) (copy : c < n) (y :
       }
 
   pub stepped : (call : Call) → Brought n s (y .sent) call → answerNumber (outcome n s c t out call .answer) ≡ 0 → Stepped n s c t out call y
-  stepped (request op key edit) f h = request-step op key edit f h
+  stepped (request v) f h = request-step v f h
   stepped (receive b) f h = receive-step b f h
   stepped (recover o j) f h = recover-step o j h
   stepped (nudge o j) f h = nudge-step o j h

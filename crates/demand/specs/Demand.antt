@@ -1,4 +1,4 @@
--- Demand 3: what holds of every run over bytes, at any two moments x and then y. Assumes nothing.
+-- Demand 3: what holds of every run over bytes, wherever it may start, at any two moments x and then y. Assumes nothing.
 use Prim.Native.Nat.{ℕ, _<_}
 use mathlib.Core.Path.{_≡_}
 use mathlib.Core.Logic.{_⊎_}
@@ -11,58 +11,60 @@ use Rattle.paper.specs.declared.Command.{Command}
 use Rattle.rules.specs.Step.{isCommitted}
 use Rattle.table.specs.Table.{recordIn}
 use Rattle.log.specs.Events.{answerNumber}
+use Rattle.log.specs.Events as log
 use Rattle.order.specs.Calls.{settled, handed, settlingNumber, handingNumber}
-use Rattle.safety.specs.Run.{Instance}
+use Rattle.safety.specs.Run.{Instance, requested}
 use Rattle.safety.specs.Demand.{Before}
-use Rattle.demand.specs.Run.{State, Call, receive, outcome, start, Run}
+use Rattle.demand.specs.Run.{savedTable, State, Start, Call, receive, outcome, Run}
 
 module _ (n s : ℕ) where
-  -- the saved table of copy c has o.j committed, with this command and these dependencies
+  -- copy c has saved o.j as committed, with this command and these dependencies
   pub record Committed (x : State) (c o j : ℕ) (k : Command) (d : List ℕ) : Type 0 where
     pub copy : c < n
     pub range : instanceOk n s o j ≡ true
-    pub status : isCommitted (recordIn s (x .copies c .saved) o j) ≡ true
-    pub command : recordIn s (x .copies c .saved) o j .vote .command ≡ k
-    pub deps : recordIn s (x .copies c .saved) o j .vote .deps ≡ d
+    pub status : isCommitted (recordIn s (savedTable (x .copies c)) o j) ≡ true
+    pub command : recordIn s (savedTable (x .copies c)) o j .vote .command ≡ k
+    pub deps : recordIn s (savedTable (x .copies c)) o j .vote .deps ≡ d
 
   -- 1: an instance committed at two copies, at whatever moments, has one command and one list of dependencies
   abbrev pub Agreement : Type 0
-  Agreement = (x y : State) → Run n s (start n s) x → Run n s x y → (a b o j : ℕ) (k l : Command) (d e : List ℕ)
+  Agreement = (x₀ x y : State) → Start n s x₀ → Run n s x₀ x → Run n s x y → (a b o j : ℕ) (k l : Command) (d e : List ℕ)
       → Committed x a o j k d → Committed y b o j l e → (k ≡ l) × (d ≡ e)
 
   -- 2: a committed command is a no-op, or its instance's owner was asked for it there
   abbrev pub Requested : Type 0
-  Requested = (x : State) → Run n s (start n s) x → (a o j : ℕ) (k : Command) (d : List ℕ)
-      → Committed x a o j k d → (isNoop k ≡ true) ⊎ List·Memᴰ (o, j, k) (x .requested)
+  Requested = (x₀ x : State) → Start n s x₀ → Run n s x₀ x → (a o j : ℕ) (k : Command) (d : List ℕ)
+      → Committed x a o j k d → (isNoop k ≡ true) ⊎ List·Memᴰ (requested o j k) (x .history)
 
   -- 3: of two committed commands that interfere, at least one instance covers the other
   abbrev pub Covering : Type 0
-  Covering = (x y : State) → Run n s (start n s) x → Run n s x y → (a b o j p i : ℕ) (k l : Command) (d e : List ℕ)
+  Covering = (x₀ x y : State) → Start n s x₀ → Run n s x₀ x → Run n s x y → (a b o j p i : ℕ) (k l : Command) (d e : List ℕ)
       → ((o ≡ p) × (j ≡ i) → ⊥) → Committed x a o j k d → Committed y b p i l e → interfere k l ≡ true
       → (covers o j d p i ≡ true) ⊎ (covers p i e o j ≡ true)
 
   -- 4: two committed instances that interfere, with marks saved at a and at b, have them saved in the same order at both
   abbrev pub Order : Type 0
-  Order = (x y : State) → Run n s (start n s) x → Run n s x y → (a b c e o j p i : ℕ) (k l : Command) (d f : List ℕ)
+  Order = (x₀ x y : State) → Start n s x₀ → Run n s x₀ x → Run n s x y → (a b c e o j p i : ℕ) (k l : Command) (d f : List ℕ)
       → Committed y c o j k d → Committed y e p i l f → interfere k l ≡ true → Before (o, j) (p, i) (x .copies a .marks)
       → List·Memᴰ (o, j) (y .copies b .marks) → List·Memᴰ (p, i) (y .copies b .marks) → Before (o, j) (p, i) (y .copies b .marks)
 
   -- no call of copy c on the table t, whatever its arguments, is refused r
   pub record Unrefused (c : ℕ) (t : List ℕ) (r : ℕ) : Type 0 where
+    pub request : (out : List ℕ) (op key edit : ℕ) → answerNumber (log.requested n s c t out op key edit .answer) ≡ r → ⊥
     pub event : (out : List ℕ) (call : Call) → answerNumber (outcome n s c t out call .answer) ≡ r → ⊥
     pub question : (o j : ℕ) → settlingNumber (settled n s c t o j) ≡ r → ⊥
     pub handOut : (list : List ℕ) → handingNumber (handed n s c t list .answer) ≡ r → ⊥
 
   -- 5: a commit stays as it is, and marks only grow at the end; nothing that was sent is refused 10, and no call 1 or 11
   pub record Lasting : Type 0 where
-    pub commit : (x y : State) → Run n s (start n s) x → Run n s x y → (a o j : ℕ) (k : Command) (d : List ℕ)
+    pub commit : (x₀ x y : State) → Start n s x₀ → Run n s x₀ x → Run n s x y → (a o j : ℕ) (k : Command) (d : List ℕ)
         → Committed x a o j k d → Committed y a o j k d
-    pub marks : (x y : State) → Run n s (start n s) x → Run n s x y → (a : ℕ)
+    pub marks : (x₀ x y : State) → Start n s x₀ → Run n s x₀ x → Run n s x y → (a : ℕ)
         → (l : List Instance) × (y .copies a .marks ≡ x .copies a .marks ++ l)
-    pub never-10 : (x : State) → Run n s (start n s) x → (c : ℕ) → c < n → x .copies c .listed ≡ []
+    pub never-10 : (x₀ x : State) → Start n s x₀ → Run n s x₀ x → (c : ℕ) → c < n → x .copies c .listed ≡ []
         → (out b : List ℕ) → List·Memᴰ b (x .sent) → answerNumber (outcome n s c (x .copies c .lent) out (receive b) .answer) ≡ 10 → ⊥
-    pub never-1 : (x : State) → Run n s (start n s) x → (c : ℕ) → c < n → Unrefused c (x .copies c .lent) 1
-    pub never-11 : (x : State) → Run n s (start n s) x → (c : ℕ) → c < n → Unrefused c (x .copies c .lent) 11
+    pub never-1 : (x₀ x : State) → Start n s x₀ → Run n s x₀ x → (c : ℕ) → c < n → Unrefused c (x .copies c .lent) 1
+    pub never-11 : (x₀ x : State) → Start n s x₀ → Run n s x₀ x → (c : ℕ) → c < n → Unrefused c (x .copies c .lent) 11
 
   -- demand 3
   pub record Demand : Type 0 where
