@@ -60,95 +60,95 @@ module _ (F owner : ℕ)
   kept v b pos f = (λ w a. use-it w (inl a) .0 w a, λ w p. use-it w (inr p) .1 w p)
     where
       turn : {o : Outcome} → o ≡ accept v → Obeys F owner (H .Pre) (H .Acc) b o → Kept v b
-      turn {o} e ob = subst (λ (x : Outcome). Obeys F owner (H .Pre) (H .Acc) b x) e ob
+      turn {o} e obeys = subst (λ (x : Outcome). Obeys F owner (H .Pre) (H .Acc) b x) e obeys
 
       use-it : (w : Value) → H .Acc b w ⊎ H .Pre b w → Kept v b
-      use-it w h = let (Q, rep, o, sz, ok, d, ob) = R .decided b w pos h in turn (f Q rep sz ok o d) ob
+      use-it w h = let (Q, rep, o, enough, ok, d, obeys) = R .decided b w pos h in turn (f Q rep enough ok o d) obeys
 
-  module _ (b0 : ℕ) (v : Value) (sl : Slow F owner H b0 v) where
+  module _ (b0 : ℕ) (v : Value) (slowly : Slow F owner H b0 v) where
     slow-out : (b : ℕ) → b0 < b → ((m : ℕ) → b0 < m → m < b → Kept v m)
         → (Q : ℕ → Bool) (rep : ℕ → Reply) → ((i : ℕ) → i < suc (2 * F) → Q i ≡ true → H .Ok i b (rep i))
-        → (i : ℕ) → i < suc (2 * F) → Q i ≡ true → sl .set i ≡ true
+        → (i : ℕ) → i < suc (2 * F) → Q i ≡ true → slowly .set i ≡ true
         → {o : Outcome} → Decided F owner Q rep o → o ≡ accept v
     slow-out b l ih Q rep ok i li qi si (none-voted f) =
-        let (n0, le, up) = R .ok-last i b b0 s3 v (rep i) (ok i li qi) (sl .votes i li si) l in
-        absurd (n0 (f i li qi))
-    slow-out b l ih Q rep ok i li qi si (accepted m j top lj qj ej sj) =
-        let (n0, le, up) = R .ok-last i b b0 s3 v (rep i) (ok i li qi) (sl .votes i li si) l in
-        let (vt, lt) = R .ok-vote j b (rep j) (ok j lj qj) (λ e. 3≢0 (cc)) in
-        let a : H .Acc m (rep j .val) = R .vote-3 j m (rep j .val) (rw (ej, sj) at vt) in
-        let le2 : rep i .voted ≤ m = top .all i li qi n0 in
-        let av : H .Acc b0 v = R .vote-3 i b0 v (sl .votes i li si) in
-        ap accept (same b0 b m v (rep j .val) a (λ e. R .acc-one b0 _ _ (rw (← e) at a) av) (ih m) (omega arith) (eq-or-lt-of-le (omega arith)))
-    slow-out b l ih Q rep ok i li qi si (fast j top na qo tw lj qj ej sj) =
-        let (n0, le, up) = R .ok-last i b b0 s3 v (rep i) (ok i li qi) (sl .votes i li si) l in
-        let le2 : rep i .voted ≤ 0 = top .all i li qi n0 in
-        absurd (na i li qi (omega arith) (up3 (up (omega arith))))
-    slow-out b l ih Q rep ok i li qi si (anew m j top na nf lj qj at) =
-        let (n0, le, up) = R .ok-last i b b0 s3 v (rep i) (ok i li qi) (sl .votes i li si) l in
-        let le2 : rep i .voted ≤ m = top .all i li qi n0 in
-        let (vt, lt) = R .ok-vote j b (rep j) (ok j lj qj) (at .0) in
-        let vm : H .Vote j m (rep j .st) (rep j .val) = rw (at .1) at vt in
-        absurd (go m (rw (at .1) at lt) na vm (eq-or-lt-of-le (omega arith)) (λ e. up3 (up e)) le le2 (na j lj qj (at .1)))
+        let (cast, le, up) = R .ok-last i b b0 s3 v (rep i) (ok i li qi) (slowly .votes i li si) l in
+        absurd (cast (f i li qi))
+    slow-out b l ih Q rep ok i li qi si (accepted m j top lj qj voted-at status-is) =
+        let (cast, le, up) = R .ok-last i b b0 s3 v (rep i) (ok i li qi) (slowly .votes i li si) l in
+        let (vote, lt) = R .ok-vote j b (rep j) (ok j lj qj) (λ e. 3≢0 (cc)) in
+        let a : H .Acc m (rep j .value) = R .vote-3 j m (rep j .value) (rw (voted-at, status-is) at vote) in
+        let le2 : rep i .voted ≤ m = top .all i li qi cast in
+        let av : H .Acc b0 v = R .vote-3 i b0 v (slowly .votes i li si) in
+        ap accept (same b0 b m v (rep j .value) a (λ e. R .acc-one b0 _ _ (rw (← e) at a) av) (ih m) (omega arith) (eq-or-lt-of-le (omega arith)))
+    slow-out b l ih Q rep ok i li qi si (fast j top no-accept no-owner twos-enough lj qj voted-at status-is) =
+        let (cast, le, up) = R .ok-last i b b0 s3 v (rep i) (ok i li qi) (slowly .votes i li si) l in
+        let le2 : rep i .voted ≤ 0 = top .all i li qi cast in
+        absurd (no-accept i li qi (omega arith) (up3 (up (omega arith))))
+    slow-out b l ih Q rep ok i li qi si (anew m j top no-accept not-fast lj qj at) =
+        let (cast, le, up) = R .ok-last i b b0 s3 v (rep i) (ok i li qi) (slowly .votes i li si) l in
+        let le2 : rep i .voted ≤ m = top .all i li qi cast in
+        let (vote, lt) = R .ok-vote j b (rep j) (ok j lj qj) (at .0) in
+        let vote-at : H .Vote j m (rep j .status) (rep j .value) = rw (at .1) at vote in
+        absurd (go m (rw (at .1) at lt) no-accept vote-at (eq-or-lt-of-le (omega arith)) (λ e. up3 (up e)) le le2 (no-accept j lj qj (at .1)))
       where
-        go : (m : ℕ) → m < b → NoAcc F owner Q rep m → H .Vote j m (rep j .st) (rep j .val) → (b0 ≡ m) ⊎ (b0 < m)
-            → (b0 ≡ rep i .voted → rep i .st ≡ s3) → b0 ≤ rep i .voted → rep i .voted ≤ m → (rep j .st ≡ s3 → ⊥) → ⊥
-        go m lm na vm (inl e) up le le2 nj = na i li qi (omega arith) (up (omega arith))
-        go m lm na vm (inr k) up le le2 nj = no-pre j m (rep j .st) (rep j .val) vm nj (ih m k lm .1)
+        go : (m : ℕ) → m < b → NoAcc F owner Q rep m → H .Vote j m (rep j .status) (rep j .value) → (b0 ≡ m) ⊎ (b0 < m)
+            → (b0 ≡ rep i .voted → rep i .status ≡ s3) → b0 ≤ rep i .voted → rep i .voted ≤ m → (rep j .status ≡ s3 → ⊥) → ⊥
+        go m lm no-accept vote-at (inl e) up le le2 nj = no-accept i li qi (omega arith) (up (omega arith))
+        go m lm no-accept vote-at (inr k) up le le2 nj = no-pre j m (rep j .status) (rep j .value) vote-at nj (ih m k lm .1)
 
     -- chosen slowly at b0: every later ballot proposes v, in an Accept
     slow-kept : (b : ℕ) → b0 < b → Kept v b
     slow-kept b l = below b0 v step (suc b) b (omega arith) l
       where
         step : (b : ℕ) → b0 < b → ((m : ℕ) → b0 < m → m < b → Kept v m) → Kept v b
-        step b l ih = kept v b (omega arith) λ Q rep sz ok o d.
-            let (i, li, si, qi) = quorums-meet F (sl .set) Q (sl .size) sz in
+        step b l ih = kept v b (omega arith) λ Q rep enough ok o d.
+            let (i, li, si, qi) = quorums-meet F (slowly .set) Q (slowly .size) enough in
             slow-out b l ih Q rep ok i li qi si d
 
-  module _ (pos : 0 < F) (lo : owner < suc (2 * F)) (v : Value) (fa : H .Fast v) where
+  module _ (pos : 0 < F) (lo : owner < suc (2 * F)) (v : Value) (quickly : H .Fast v) where
     P : ℕ → Bool
-    P = R .fast-votes v fa .0
+    P = R .fast-votes v quickly .0
 
     fast-vote : (i : ℕ) → i < suc (2 * F) → P i ≡ true → H .Vote i 0 s2 v
     unfolding P
-    fast-vote i li pi = R .fast-votes v fa .3 i li pi
+    fast-vote i li pi = R .fast-votes v quickly .3 i li pi
 
     fast-seen : (b : ℕ) → 0 < b → (rep : Reply) (i : ℕ) → i < suc (2 * F) → P i ≡ true → H .Ok i b rep
-        → (rep .st ≡ s0 → ⊥) × (0 ≤ rep .voted) × (0 ≡ rep .voted → Upto s2 (rep .st))
+        → (rep .status ≡ s0 → ⊥) × (0 ≤ rep .voted) × (0 ≡ rep .voted → Upto s2 (rep .status))
     unfolding P
-    fast-seen b l rep i li pi ok = R .ok-last i b 0 s2 v rep ok (R .fast-votes v fa .3 i li pi) l
+    fast-seen b l rep i li pi ok = R .ok-last i b 0 s2 v rep ok (R .fast-votes v quickly .3 i li pi) l
 
     fast-out : (b : ℕ) → 0 < b → ((m : ℕ) → 0 < m → m < b → Kept v m)
         → (Q : ℕ → Bool) (rep : ℕ → Reply) → ((i : ℕ) → i < suc (2 * F) → Q i ≡ true → H .Ok i b (rep i))
         → Q owner ≡ false → F ≤ cnt (suc (2 * F)) (λ i. both (P i) (Q i))
         → (i : ℕ) → i < suc (2 * F) → Q i ≡ true → P i ≡ true
         → {o : Outcome} → Decided F owner Q rep o → o ≡ accept v
-    fast-out b l ih Q rep ok qo big i li qi pi (none-voted f) =
+    fast-out b l ih Q rep ok no-owner big i li qi pi (none-voted f) =
         absurd (fast-seen b l (rep i) i li pi (ok i li qi) .0 (f i li qi))
-    fast-out b l ih Q rep ok qo big i li qi pi (accepted m j top lj qj ej sj) =
-        let (vt, lt) = R .ok-vote j b (rep j) (ok j lj qj) (λ e. 3≢0 (cc)) in
-        let a : H .Acc m (rep j .val) = R .vote-3 j m (rep j .val) (rw (ej, sj) at vt) in
-        ap accept (same 0 b m v (rep j .val) a (λ e. absurd (R .fast-acc v _ fa (rw (← e) at a))) (ih m) (omega arith) (eq-or-lt-of-le (omega arith)))
-    fast-out b l ih Q rep ok qo big i li qi pi (fast j top na qo2 tw lj qj ej sj) =
-        let (vt, lt) = R .ok-vote j b (rep j) (ok j lj qj) (λ e. 2≢0 (cc)) in
-        ap accept (R .pre-one 0 _ _ (R .vote-2 j 0 _ (rw (ej, sj) at vt)) (R .vote-2 i 0 v (fast-vote i li pi)))
-    fast-out b l ih Q rep ok qo big i li qi pi (anew m j top na nf lj qj at) =
-        let (vt, lt) = R .ok-vote j b (rep j) (ok j lj qj) (at .0) in
-        let vm : H .Vote j m (rep j .st) (rep j .val) = rw (at .1) at vt in
-        absurd (go (rw (at .1) at lt) vm (eq-or-lt-of-le (omega arith)) (na j lj qj (at .1)))
+    fast-out b l ih Q rep ok no-owner big i li qi pi (accepted m j top lj qj voted-at status-is) =
+        let (vote, lt) = R .ok-vote j b (rep j) (ok j lj qj) (λ e. 3≢0 (cc)) in
+        let a : H .Acc m (rep j .value) = R .vote-3 j m (rep j .value) (rw (voted-at, status-is) at vote) in
+        ap accept (same 0 b m v (rep j .value) a (λ e. absurd (R .fast-acc v _ quickly (rw (← e) at a))) (ih m) (omega arith) (eq-or-lt-of-le (omega arith)))
+    fast-out b l ih Q rep ok no-owner big i li qi pi (fast j top no-accept no-owner2 twos-enough lj qj voted-at status-is) =
+        let (vote, lt) = R .ok-vote j b (rep j) (ok j lj qj) (λ e. 2≢0 (cc)) in
+        ap accept (R .pre-one 0 _ _ (R .vote-2 j 0 _ (rw (voted-at, status-is) at vote)) (R .vote-2 i 0 v (fast-vote i li pi)))
+    fast-out b l ih Q rep ok no-owner big i li qi pi (anew m j top no-accept not-fast lj qj at) =
+        let (vote, lt) = R .ok-vote j b (rep j) (ok j lj qj) (at .0) in
+        let vote-at : H .Vote j m (rep j .status) (rep j .value) = rw (at .1) at vote in
+        absurd (go (rw (at .1) at lt) vote-at (eq-or-lt-of-le (omega arith)) (no-accept j lj qj (at .1)))
       where
-        twos-are : (e : 0 ≡ m) (k : ℕ) → k < suc (2 * F) → both (P k) (Q k) ≡ true → both (Q k) (is2 (rep k .st)) ≡ true
-        twos-are e k lk bk =
-            let (pk, qk) = both-true (P k) (Q k) bk in
-            let (n0, le, up) = fast-seen b l (rep k) k lk pk (ok k lk qk) in
-            let le2 : rep k .voted ≤ m = top .all k lk qk n0 in
-            let st2 : rep k .st ≡ s2 = up2 (up (omega arith)) (na k lk qk (omega arith)) in
+        twos-are : (e : 0 ≡ m) (k : ℕ) → k < suc (2 * F) → both (P k) (Q k) ≡ true → both (Q k) (is2 (rep k .status)) ≡ true
+        twos-are e k lk backed =
+            let (pk, qk) = both-true (P k) (Q k) backed in
+            let (cast, le, up) = fast-seen b l (rep k) k lk pk (ok k lk qk) in
+            let le2 : rep k .voted ≤ m = top .all k lk qk cast in
+            let st2 : rep k .status ≡ s2 = up2 (up (omega arith)) (no-accept k lk qk (omega arith)) in
             rw (qk, st2) refl
 
-        go : m < b → H .Vote j m (rep j .st) (rep j .val) → (0 ≡ m) ⊎ (0 < m) → (rep j .st ≡ s3 → ⊥) → ⊥
-        go lm vm (inl e) nj =
-            nf (sym e) qo (omega (arith, big, cnt-mono (suc (2 * F)) (λ k. both (P k) (Q k)) (λ k. both (Q k) (is2 (rep k .st))) (twos-are e)))
-        go lm vm (inr k) nj = no-pre j m (rep j .st) (rep j .val) vm nj (ih m k lm .1)
+        go : m < b → H .Vote j m (rep j .status) (rep j .value) → (0 ≡ m) ⊎ (0 < m) → (rep j .status ≡ s3 → ⊥) → ⊥
+        go lm vote-at (inl e) nj =
+            not-fast (sym e) no-owner (omega (arith, big, cnt-mono (suc (2 * F)) (λ k. both (P k) (Q k)) (λ k. both (Q k) (is2 (rep k .status))) (twos-are e)))
+        go lm vote-at (inr k) nj = no-pre j m (rep j .status) (rep j .value) vote-at nj (ih m k lm .1)
 
     -- chosen fast: the owner is in no quorum of replies, and of F+1 others at least F pre-accepted v as it was sent
     fast-kept : (b : ℕ) → 0 < b → Kept v b
@@ -156,14 +156,14 @@ module _ (F owner : ℕ)
     fast-kept b l = below 0 v step (suc b) b (omega arith) l
       where
         step : (b : ℕ) → 0 < b → ((m : ℕ) → 0 < m → m < b → Kept v m) → Kept v b
-        step b l ih = kept v b l λ Q rep sz ok o d.
-            go Q rep sz ok o d (Q owner) refl
+        step b l ih = kept v b l λ Q rep enough ok o d.
+            go Q rep enough ok o d (Q owner) refl
           where
             go : (Q : ℕ → Bool) (rep : ℕ → Reply) → suc F ≤ cnt (suc (2 * F)) Q → ((i : ℕ) → i < suc (2 * F) → Q i ≡ true → H .Ok i b (rep i))
                 → (o : Outcome) → Decided F owner Q rep o → (x : Bool) → Q owner ≡ x → o ≡ accept v
-            go Q rep sz ok o d true e = absurd (R .fast-owner v b _ fa (ok owner lo e))
-            go Q rep sz ok o d false e =
-                let big : F ≤ cnt (suc (2 * F)) (λ i. both (P i) (Q i)) = fast-meet F owner P Q lo (R .fast-votes v fa .2) e (R .fast-votes v fa .1) sz in
+            go Q rep enough ok o d true e = absurd (R .fast-owner v b _ quickly (ok owner lo e))
+            go Q rep enough ok o d false e =
+                let big : F ≤ cnt (suc (2 * F)) (λ i. both (P i) (Q i)) = fast-meet F owner P Q lo (R .fast-votes v quickly .2) e (R .fast-votes v quickly .1) enough in
                 let (i, li, bi) = member (suc (2 * F)) (λ i. both (P i) (Q i)) (omega arith) in
                 let (pi, qi) = both-true (P i) (Q i) bi in
                 fast-out b l ih Q rep ok e big i li qi pi d
@@ -177,7 +177,7 @@ module _ (F owner : ℕ)
 
   fast-pre : 0 < F → (v : Value) → H .Fast v → H .Pre 0 v
   fast-pre pos v f =
-      let (Q, sz, q, vs) = R .fast-votes v f in
+      let (Q, enough, q, vs) = R .fast-votes v f in
       let (i, li, si) = member (suc (2 * F)) Q (omega arith) in R .vote-2 i 0 v (vs i li si)
 
   mixed : 0 < F → owner < suc (2 * F) → (v w : Value) (b : ℕ) → Slow F owner H b v → H .Fast w → Dec (0 < b) → v ≡ w
@@ -206,17 +206,17 @@ module _ (F owner : ℕ)
   abbrev KeptC : Command → ℕ → Type 0
   KeptC x b = ((w : Value) → H .Acc b w → cmd w ≡ x) × ((w : Value) → H .Pre b w → cmd w ≡ x)
 
-  module _ (acc0 : (v : Value) → H .Acc 0 v → (w : Value) × H .Pre 0 w × (cmd v ≡ cmd w)) where
+  module _ (accept-zero : (v : Value) → H .Acc 0 v → (w : Value) × H .Pre 0 w × (cmd v ≡ cmd w)) where
     acc-pre : (b : ℕ) (v w : Value) → H .Acc b v → H .Pre b w → cmd v ≡ cmd w
     acc-pre b v w x y = go (eq-or-lt-of-le {n = 0} {m = b} (omega arith))
       where
         by : (o : Outcome) → Obeys F owner (H .Pre) (H .Acc) b o → cmd v ≡ cmd w
-        by (accept u) ob = absurd (ob .1 w y)
-        by (afresh c) ob = ob .0 v x ∙ sym (ob .1 w y)
+        by (accept u) obeys = absurd (obeys .1 w y)
+        by (afresh c) obeys = obeys .0 v x ∙ sym (obeys .1 w y)
 
         go : (0 ≡ b) ⊎ (0 < b) → cmd v ≡ cmd w
-        go (inl e) = let (u, p, c) = acc0 v (rw (← e) at x) in c ∙ ap cmd (R .pre-one 0 u w p (rw (← e) at y))
-        go (inr pos) = let (Q, rep, o, sz, ok, d, ob) = R .decided b v pos (inl x) in by o ob
+        go (inl e) = let (u, p, c) = accept-zero v (rw (← e) at x) in c ∙ ap cmd (R .pre-one 0 u w p (rw (← e) at y))
+        go (inr pos) = let (Q, rep, o, enough, ok, d, obeys) = R .decided b v pos (inl x) in by o obeys
 
     -- a vote is for the command of its ballot's PreAccept, or for its Accept
     cast-as : (r b : ℕ) (u : St) (v : Value) → H .Vote r b u v → ((w : Value) × H .Pre b w × (cmd v ≡ cmd w)) ⊎ H .Acc b v
@@ -235,7 +235,7 @@ module _ (F owner : ℕ)
         go (inr a) (inl q) = acc-pre b v (q .0) a (q .1) ∙ sym (q .2)
         go (inr a) (inr c) = ap cmd (R .acc-one b v w a c)
 
-    module _ (b0 : ℕ) (x : Command) (Q0 : ℕ → Bool) (sz0 : suc F ≤ cnt (suc (2 * F)) Q0)
+    module _ (b0 : ℕ) (x : Command) (Q0 : ℕ → Bool) (enough0 : suc F ≤ cnt (suc (2 * F)) Q0)
         (vs : (i : ℕ) → i < suc (2 * F) → Q0 i ≡ true → (u : St) × (v : Value) × H .Vote i b0 u v × (cmd v ≡ x)) where
       -- a vote at b0 or later, below b
       later : (b : ℕ) → ((m : ℕ) → b0 < m → m < b → KeptC x m) → (j m : ℕ) (u : St) (v : Value) → H .Vote j m u v → b0 ≤ m → m < b → cmd v ≡ x
@@ -258,22 +258,22 @@ module _ (F owner : ℕ)
 
       cmd-out : (b : ℕ) → b0 < b → ((m : ℕ) → b0 < m → m < b → KeptC x m)
           → (Q : ℕ → Bool) (rep : ℕ → Reply) → ((i : ℕ) → i < suc (2 * F) → Q i ≡ true → H .Ok i b (rep i))
-          → (i : ℕ) → i < suc (2 * F) → Q i ≡ true → (rep i .st ≡ s0 → ⊥) → b0 ≤ rep i .voted
+          → (i : ℕ) → i < suc (2 * F) → Q i ≡ true → (rep i .status ≡ s0 → ⊥) → b0 ≤ rep i .voted
           → {o : Outcome} → Decided F owner Q rep o → Of o
-      cmd-out b l ih Q rep ok i li qi n0 le (none-voted f) = absurd (n0 (f i li qi))
-      cmd-out b l ih Q rep ok i li qi n0 le (accepted m j top lj qj ej sj) =
-          let (vt, lt) = R .ok-vote j b (rep j) (ok j lj qj) (λ e. 3≢0 (cc)) in
-          later b ih j (rep j .voted) (rep j .st) (rep j .val) vt (omega (arith, top .all i li qi n0)) lt
-      cmd-out b l ih Q rep ok i li qi n0 le (fast j top na qo tw lj qj ej sj) =
-          let (vt, lt) = R .ok-vote j b (rep j) (ok j lj qj) (λ e. 2≢0 (cc)) in
-          later b ih j (rep j .voted) (rep j .st) (rep j .val) vt (omega (arith, top .all i li qi n0)) lt
-      cmd-out b l ih Q rep ok i li qi n0 le (anew m j top na nf lj qj at) =
-          let (vt, lt) = R .ok-vote j b (rep j) (ok j lj qj) (at .0) in
-          later b ih j (rep j .voted) (rep j .st) (rep j .val) vt (omega (arith, top .all i li qi n0, at .1)) lt
+      cmd-out b l ih Q rep ok i li qi cast le (none-voted f) = absurd (cast (f i li qi))
+      cmd-out b l ih Q rep ok i li qi cast le (accepted m j top lj qj voted-at status-is) =
+          let (vote, lt) = R .ok-vote j b (rep j) (ok j lj qj) (λ e. 3≢0 (cc)) in
+          later b ih j (rep j .voted) (rep j .status) (rep j .value) vote (omega (arith, top .all i li qi cast)) lt
+      cmd-out b l ih Q rep ok i li qi cast le (fast j top no-accept no-owner twos-enough lj qj voted-at status-is) =
+          let (vote, lt) = R .ok-vote j b (rep j) (ok j lj qj) (λ e. 2≢0 (cc)) in
+          later b ih j (rep j .voted) (rep j .status) (rep j .value) vote (omega (arith, top .all i li qi cast)) lt
+      cmd-out b l ih Q rep ok i li qi cast le (anew m j top no-accept not-fast lj qj at) =
+          let (vote, lt) = R .ok-vote j b (rep j) (ok j lj qj) (at .0) in
+          later b ih j (rep j .voted) (rep j .status) (rep j .value) vote (omega (arith, top .all i li qi cast, at .1)) lt
 
       obey-of : (b : ℕ) (o : Outcome) → Of o → Obeys F owner (H .Pre) (H .Acc) b o → KeptC x b
-      obey-of b (accept v) e ob = (λ w a. ap cmd (ob .0 w a) ∙ e, λ w p. absurd (ob .1 w p))
-      obey-of b (afresh c) e ob = (λ w a. ob .0 w a ∙ e, λ w p. ob .1 w p ∙ e)
+      obey-of b (accept v) e obeys = (λ w a. ap cmd (obeys .0 w a) ∙ e, λ w p. absurd (obeys .1 w p))
+      obey-of b (afresh c) e obeys = (λ w a. obeys .0 w a ∙ e, λ w p. obeys .1 w p ∙ e)
 
       cmd-kept : (b : ℕ) → b0 < b → KeptC x b
       cmd-kept b l = above b0 (KeptC x) st (suc b) b (omega arith) l
@@ -283,11 +283,11 @@ module _ (F owner : ℕ)
             where
               go : (w : Value) → H .Acc b w ⊎ H .Pre b w → KeptC x b
               go w h =
-                  let (Q, rep, o, sz, ok, d, ob) = R .decided b w (omega arith) h in
-                  let (i, li, si, qi) = quorums-meet F Q0 Q sz0 sz in
+                  let (Q, rep, o, enough, ok, d, obeys) = R .decided b w (omega arith) h in
+                  let (i, li, si, qi) = quorums-meet F Q0 Q enough0 enough in
                   let (u, v, y, c) = vs i li si in
-                  let (n0, le, up) = R .ok-last i b b0 u v (rep i) (ok i li qi) y l in
-                  obey-of b o (cmd-out b l ih Q rep ok i li qi n0 le d) ob
+                  let (cast, le, up) = R .ok-last i b b0 u v (rep i) (ok i li qi) y l in
+                  obey-of b o (cmd-out b l ih Q rep ok i li qi cast le d) obeys
 
       -- every vote at b0 or later is for x
       pub cmd-votes : (j m : ℕ) (u : St) (v : Value) → H .Vote j m u v → b0 ≤ m → cmd v ≡ x

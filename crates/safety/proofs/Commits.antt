@@ -28,7 +28,7 @@ use Rattle.safety.proofs.Value.{Value, cmd}
 use Rattle.safety.proofs.Case.{Case, copies, code, code-owner, code-number, own, Req, Cover, range}
 use Rattle.safety.proofs.Hist.{s4}
 use Rattle.safety.proofs.Sys.{Rec, Sys, mCommit}
-use Rattle.safety.proofs.Inv.{ComE}
+use Rattle.safety.proofs.Inv.{Reason}
 use Rattle.safety.proofs.Older.{Le, le-same, le-new, le-com}
 use Rattle.safety.proofs.Inv.Facts.{now-in}
 use Rattle.safety.proofs.Inv.Multi.{agree, covered, alone}
@@ -41,11 +41,11 @@ use Rattle.safety.proofs.Sim.{Tie, Next, inv, rel-at, reached}
 pub record Com (C : Case) (G : ℕ → Sys) (a o j : ℕ) (v : Value) : Type 0 where
   pub copy : a < copies C
   pub inst : instanceOk (copies C) (C .s) o j ≡ true
-  pub st : G (code o j) .now a .st ≡ s4
-  pub value : G (code o j) .now a .val ≡ v
+  pub status : G (code o j) .now a .status ≡ s4
+  pub value : G (code o j) .now a .value ≡ v
 
 -- a committed value stays
-le-keeps : {R S : Rec} → Le R S → R .st ≡ s4 → (S .st ≡ s4) × (R .val ≡ S .val)
+le-keeps : {R S : Rec} → Le R S → R .status ≡ s4 → (S .status ≡ s4) × (R .value ≡ S .value)
 le-keeps (le-same a b c d) e = (sym c ∙ e, d)
 le-keeps (le-new a b c d f) e = absurd (d e)
 le-keeps (le-com a b) e = absurd (a e)
@@ -71,31 +71,31 @@ module _ {C : Case} {z : State} (t : Tie C z) where
       go (yes q) (inr b) = absurd (never (λ e. tf (instanceOk n s o j) (e .1) b))
       go (yes q) (inl b) =
           let r = rel-at t a o j q (range n s o j b .0) in
-          record { copy = q; inst = b; st = st-eq _ s4 (r .status ∙ four); value = r .value ∙ (λ i. val (h .command i) (h .deps i)) }
+          record { copy = q; inst = b; status = st-eq _ s4 (r .status ∙ four); value = r .value ∙ (λ i. val (h .command i) (h .deps i)) }
 
   pub in-com : (a o j : ℕ) (k : Command) (d : List ℕ) → Com C G a o j (val k d) → Committed z a o j k d
   in-com a o j k d h =
       let r = rel-at t a o j (h .copy) (range n s o j (h .inst) .0) in
       let e : valueOf (z .tables a o j .vote) ≡ val k d = sym (r .value) ∙ h .value in
-      record { status = eqb-same (z .tables a o j .vote .status) 4 (sym (r .status) ∙ ap num (h .st)); command = ap cmd e; deps = ap (λ (v : Value). v .deps) e }
+      record { status = eqb-same (z .tables a o j .vote .status) 4 (sym (r .status) ∙ ap num (h .status)); command = ap cmd e; deps = ap (λ (v : Value). v .deps) e }
 
   -- a commit at z is one later on
   pub com-stays : {y : State} (m : Next t y) (a o j : ℕ) (v : Value) → Com C G a o j v → Com C (m .tie .G) a o j v
-  com-stays m a o j v h = let (e, q) = le-keeps (m .grow (code o j) a) (h .st) in record { copy = h .copy; inst = h .inst; st = e; value = sym q ∙ h .value }
+  com-stays m a o j v h = let (e, q) = le-keeps (m .grow (code o j) a) (h .status) in record { copy = h .copy; inst = h .inst; status = e; value = sym q ∙ h .value }
 
   abbrev pub Evidence : ℕ → Value → Type 0
-  Evidence J v = ComE F (own C J) (G J) v
+  Evidence J v = Reason F (own C J) (G J) v
 
   pub evidence : (a o j : ℕ) (v : Value) → Com C G a o j v → Evidence (code o j) v
   evidence a o j v h =
-      rw (h .value) at (inv t (code o j) .coms a (G (code o j) .now a) (now-in (inv t (code o j)) a (λ e. clash (cc (h .st)))) (h .st))
+      rw (h .value) at (inv t (code o j) .reasons a (G (code o j) .now a) (now-in (inv t (code o j)) a (λ e. clash (cc (h .status)))) (h .status))
 
   pub one-value : (J : ℕ) (v w : Value) → Evidence J v → Evidence J w → v ≡ w
   one-value J v w p q = agree C (reached t) J v w p q
 
   pub asked-for : (a o j : ℕ) (k : Command) (d : List ℕ) → Com C G a o j (val k d) → (isNoop k ≡ true) ⊎ List·Memᴰ (requested o j k) (C .past)
   asked-for a o j k d h = go (rw (h .value) at (all-valid F (own C (code o j)) (Req C (code o j)) pos (alone C (reached t) (code o j)) a (G (code o j) .now a)
-      (now-in (inv t (code o j)) a (λ e. clash (cc (h .st)))) (λ e. clash (cc (h .st)))))
+      (now-in (inv t (code o j)) a (λ e. clash (cc (h .status)))) (λ e. clash (cc (h .status)))))
     where
       go : (k ≡ noop) ⊎ Req C (code o j) k → (isNoop k ≡ true) ⊎ List·Memᴰ (requested o j k) (C .past)
       go (inl e) = inl (rw e refl)

@@ -28,8 +28,8 @@ pub data Upto : St → St → Type 0 where
 
 pub record Reply : Type 0 where
   pub voted : ℕ
-  pub st : St
-  pub val : Value
+  pub status : St
+  pub value : Value
 
 pub data Outcome : Type 0 where
   accept : Value → Outcome
@@ -38,27 +38,27 @@ pub data Outcome : Type 0 where
 module _ (F owner : ℕ) where
   -- a reply that holds a vote at m
   abbrev pub At : ℕ → Reply → Type 0
-  At m r = (r .st ≡ s0 → ⊥) × (r .voted ≡ m)
+  At m r = (r .status ≡ s0 → ⊥) × (r .voted ≡ m)
 
   -- m is the highest voted ballot
   pub record Top (Q : ℕ → Bool) (rep : ℕ → Reply) (m : ℕ) : Type 0 where
-    pub all : (i : ℕ) → i < suc (2 * F) → Q i ≡ true → (rep i .st ≡ s0 → ⊥) → rep i .voted ≤ m
+    pub all : (i : ℕ) → i < suc (2 * F) → Q i ≡ true → (rep i .status ≡ s0 → ⊥) → rep i .voted ≤ m
 
   abbrev pub NoAcc : (ℕ → Bool) → (ℕ → Reply) → ℕ → Type 0
-  NoAcc Q rep m = (i : ℕ) → i < suc (2 * F) → Q i ≡ true → rep i .voted ≡ m → rep i .st ≡ s3 → ⊥
+  NoAcc Q rep m = (i : ℕ) → i < suc (2 * F) → Q i ≡ true → rep i .voted ≡ m → rep i .status ≡ s3 → ⊥
 
   abbrev pub twos : (ℕ → Bool) → (ℕ → Reply) → ℕ
-  twos Q rep = cnt (suc (2 * F)) (λ i. both (Q i) (is2 (rep i .st)))
+  twos Q rep = cnt (suc (2 * F)) (λ i. both (Q i) (is2 (rep i .status)))
 
   -- what F+1 replies decide
   pub data Decided (Q : ℕ → Bool) (rep : ℕ → Reply) : Outcome → Type 0 where
-    none-voted : ((i : ℕ) → i < suc (2 * F) → Q i ≡ true → rep i .st ≡ s0) → Decided Q rep (afresh noop)
-    accepted : (m j : ℕ) → Top Q rep m → j < suc (2 * F) → Q j ≡ true → rep j .voted ≡ m → rep j .st ≡ s3
-        → Decided Q rep (accept (rep j .val))
+    none-voted : ((i : ℕ) → i < suc (2 * F) → Q i ≡ true → rep i .status ≡ s0) → Decided Q rep (afresh noop)
+    accepted : (m j : ℕ) → Top Q rep m → j < suc (2 * F) → Q j ≡ true → rep j .voted ≡ m → rep j .status ≡ s3
+        → Decided Q rep (accept (rep j .value))
     fast : (j : ℕ) → Top Q rep 0 → NoAcc Q rep 0 → Q owner ≡ false → F ≤ twos Q rep
-        → j < suc (2 * F) → Q j ≡ true → rep j .voted ≡ 0 → rep j .st ≡ s2 → Decided Q rep (accept (rep j .val))
+        → j < suc (2 * F) → Q j ≡ true → rep j .voted ≡ 0 → rep j .status ≡ s2 → Decided Q rep (accept (rep j .value))
     anew : (m j : ℕ) → Top Q rep m → NoAcc Q rep m → (m ≡ 0 → Q owner ≡ false → F ≤ twos Q rep → ⊥)
-        → j < suc (2 * F) → Q j ≡ true → At m (rep j) → Decided Q rep (afresh (cmd (rep j .val)))
+        → j < suc (2 * F) → Q j ≡ true → At m (rep j) → Decided Q rep (afresh (cmd (rep j .value)))
 
   abbrev pub Obeys : (ℕ → Value → Type 0) → (ℕ → Value → Type 0) → ℕ → Outcome → Type 0
   Obeys Pre Acc b (accept v) = ((w : Value) → Acc b w → w ≡ v) × ((w : Value) → Pre b w → ⊥)
@@ -79,9 +79,9 @@ module _ (F owner : ℕ) where
     pub vote-1 : (r b : ℕ) (v : Value) → H .Vote r b s1 v → (w : Value) × H .Pre b w × (cmd v ≡ cmd w)
     pub vote-2 : (r b : ℕ) (v : Value) → H .Vote r b s2 v → H .Pre b v
     pub vote-3 : (r b : ℕ) (v : Value) → H .Vote r b s3 v → H .Acc b v
-    pub ok-vote : (r b : ℕ) (a : Reply) → H .Ok r b a → (a .st ≡ s0 → ⊥) → H .Vote r (a .voted) (a .st) (a .val) × (a .voted < b)
+    pub ok-vote : (r b : ℕ) (a : Reply) → H .Ok r b a → (a .status ≡ s0 → ⊥) → H .Vote r (a .voted) (a .status) (a .value) × (a .voted < b)
     pub ok-last : (r b c : ℕ) (s : St) (v : Value) (a : Reply) → H .Ok r b a → H .Vote r c s v → c < b
-        → (a .st ≡ s0 → ⊥) × (c ≤ a .voted) × (c ≡ a .voted → Upto s (a .st))
+        → (a .status ≡ s0 → ⊥) × (c ≤ a .voted) × (c ≡ a .voted → Upto s (a .status))
     pub decided : (b : ℕ) (v : Value) → 0 < b → H .Acc b v ⊎ H .Pre b v
         → (Q : ℕ → Bool) × (rep : ℕ → Reply) × (o : Outcome)
         × (suc F ≤ cnt (suc (2 * F)) Q) × ((i : ℕ) → i < suc (2 * F) → Q i ≡ true → H .Ok i b (rep i))

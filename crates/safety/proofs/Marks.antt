@@ -43,7 +43,7 @@ module _ {C : Case} {x : State} (tie : Tie C x) (c : ℕ) (lc : c < copies C) wh
   t = x .tables c
 
   abbrev Edge : ℕ → ℕ → Type 0
-  Edge b d = Cover C (G b .now c .val) d
+  Edge b d = Cover C (G b .now c .value) d
 
   abbrev In : ℕ → Type 0
   In J = InRange N s t (J % 8) (J / 8)
@@ -51,7 +51,7 @@ module _ {C : Case} {x : State} (tie : Tie C x) (c : ℕ) (lc : c < copies C) wh
   abbrev Found : ℕ → ℕ → Bool
   Found J K = reaches N s t (J % 8) (J / 8) (K % 8) (K / 8)
 
-  deps-at : (J : ℕ) → G J .now c .val .deps ≡ t (J % 8) (J / 8) .vote .deps
+  deps-at : (J : ℕ) → G J .now c .value .deps ≡ t (J % 8) (J / 8) .vote .deps
   deps-at J = ap (λ (v : Value). v .deps) (rels c J lc .value)
 
   -- an edge of the model to another instance is one of the table, and the other way round
@@ -109,14 +109,14 @@ module _ {C : Case} {x : State} (tie : Tie C x) (c : ℕ) (lc : c < copies C) wh
   pub reach-found : (I K : ℕ) → In I → Star Edge I K → (I ≡ K) ⊎ (Found I K ≡ true)
   reach-found I K i p = found-back I K K i p (inl refl)
 
-  committed-in : (K : ℕ) → isCommitted (t (K % 8) (K / 8)) ≡ true → G K .now c .st ≡ s4
-  committed-in K e = st-eq (G K .now c .st) s4 (rels c K lc .status ∙ eqb-eq _ 4 e)
+  committed-in : (K : ℕ) → isCommitted (t (K % 8) (K / 8)) ≡ true → G K .now c .status ≡ s4
+  committed-in K e = st-eq (G K .now c .status) s4 (rels c K lc .status ∙ eqb-eq _ 4 e)
 
-  in-committed : (K : ℕ) → G K .now c .st ≡ s4 → isCommitted (t (K % 8) (K / 8)) ≡ true
+  in-committed : (K : ℕ) → G K .now c .status ≡ s4 → isCommitted (t (K % 8) (K / 8)) ≡ true
   in-committed K e = eqb-same (t (K % 8) (K / 8) .vote .status) 4 (sym (rels c K lc .status) ∙ ap num e)
 
   -- a committed record lies in range
-  committed-range : (K : ℕ) → G K .now c .st ≡ s4 → In K
+  committed-range : (K : ℕ) → G K .now c .status ≡ s4 → In K
   committed-range K e = go (bool (instanceOk N s (K % 8) (K / 8)))
     where
       go : (instanceOk N s (K % 8) (K / 8) ≡ true) ⊎ (instanceOk N s (K % 8) (K / 8) ≡ false) → In K
@@ -126,7 +126,7 @@ module _ {C : Case} {x : State} (tie : Tie C x) (c : ℕ) (lc : c < copies C) wh
   abbrev Rd : ℕ → Type 0
   Rd I = Ready C G (M c) c I
 
-  settled-at : (I : ℕ) → isSettled N s t (I % 8) (I / 8) ≡ true → (K : ℕ) → In K → (I ≡ K) ⊎ (Found I K ≡ true) → G K .now c .st ≡ s4
+  settled-at : (I : ℕ) → isSettled N s t (I % 8) (I / 8) ≡ true → (K : ℕ) → In K → (I ≡ K) ⊎ (Found I K ≡ true) → G K .now c .status ≡ s4
   unfolding isSettled waitsFor
   settled-at I h K (inrange a b d) r = committed-in K (go (bool (isCommitted (t (K % 8) (K / 8)))))
     where
@@ -145,7 +145,7 @@ module _ {C : Case} {x : State} (tie : Tie C x) (c : ℕ) (lc : c < copies C) wh
   pub candidate-ready : (I : ℕ) → In I → candidate N s t (I % 8) (I / 8) ≡ true → Rd I
   unfolding candidate
   candidate-ready I i h = record {
-    settled = λ K p. settled-at I se K (star-in I K i p) (reach-found I K i p);
+    settled = λ K p. settled-at I is-settled K (star-in I K i p) (reach-found I K i p);
     fresh = λ m. tf (isMarked (t (I % 8) (I / 8))) (in-mark c I m) (not-not _ (and-r (isSettled N s t (I % 8) (I / 8)) _ (and-l _ ev h)));
     done = λ K p. done K (star-in I K i p) (reach-found I K i p) (bool (Found K I));
   }
@@ -156,8 +156,8 @@ module _ {C : Case} {x : State} (tie : Tie C x) (c : ℕ) (lc : c < copies C) wh
       ev : Bool
       ev = everywhere N s all
 
-      se : isSettled N s t (I % 8) (I / 8) ≡ true
-      se = and-l _ (not (isMarked (t (I % 8) (I / 8)))) (and-l _ ev h)
+      is-settled : isSettled N s t (I % 8) (I / 8) ≡ true
+      is-settled = and-l _ (not (isMarked (t (I % 8) (I / 8)))) (and-l _ ev h)
 
       done : (K : ℕ) → In K → (I ≡ K) ⊎ (Found I K ≡ true) → (Found K I ≡ true) ⊎ (Found K I ≡ false) → Star Edge K I ⊎ List·Memᴰ K (M c)
       done K k (inl e) b = inl (rw e here)
@@ -228,7 +228,7 @@ module _ {C : Case} {x : State} (tie : Tie C x) (c : ℕ) (lc : c < copies C) wh
         tie = record {
           G = G;
           M = M2;
-          reach = m-mark c I (reach) (candidate-ready I i (rw (eo, ej) cd)) lowest;
+          reach = m-mark c I (reach) (candidate-ready I i (rw (owner-is, number-is) cd)) lowest;
           rels = λ q J lq. at-saved (λ (y : Record). Rel F q y (G J .now q)) (x .tables) c o j (with-mark (t o j)) q (J % 8) (J / 8)
               (λ h. let h2 : Rel F q (t o j) (G J .now q) = subst (λ (y : Record). Rel F q y (G J .now q)) (λ k. x .tables (h .0 k) (h .1 k) (h .2 k)) (rels q J lq) in rel-marked h2)
               (λ h. rels q J lq);
@@ -247,14 +247,14 @@ module _ {C : Case} {x : State} (tie : Tie C x) (c : ℕ) (lc : c < copies C) wh
           o8 : o < 8
           o8 = omega (arith, lo)
 
-          eo : I % 8 ≡ o
-          eo = code-owner o j o8
+          owner-is : I % 8 ≡ o
+          owner-is = code-owner o j o8
 
-          ej : I / 8 ≡ j
-          ej = code-number o j o8
+          number-is : I / 8 ≡ j
+          number-is = code-number o j o8
 
           i : In I
-          i = inrange (rw eo lo) (rw ej l1) (rw ej ls)
+          i = inrange (rw owner-is lo) (rw number-is l1) (rw number-is ls)
 
           M2 : ℕ → List ℕ
           M2 = upd M c (I ∷ M c)
@@ -279,7 +279,7 @@ module _ {C : Case} {x : State} (tie : Tie C x) (c : ℕ) (lc : c < copies C) wh
 
           less : (q J : ℕ) → ((q ≡ c) × (J % 8 ≡ o) × (J / 8 ≡ j) → ⊥) → List·Memᴰ J (M2 q) → List·Memᴰ J (M q)
           less q J h = upd-cases (λ (y : List ℕ). List·Memᴰ J y → List·Memᴰ J (M q)) M c (I ∷ M c) q
-              (λ z m. ⊎-elim (λ a. absurd (h (z, rw a eo, rw a ej))) (λ a. rw z a) (List·Memᴰ·cases-cons m)) (λ z m. m)
+              (λ z m. ⊎-elim (λ a. absurd (h (z, rw a owner-is, rw a number-is))) (λ a. rw z a) (List·Memᴰ·cases-cons m)) (λ z m. m)
 
           list : (q : ℕ) → Dec (q ≡ c) → M2 q ≡ newest [] (replaced (x .marks) c (x .marks c ++ (o, j) ∷ []) q)
           list q (yes z) = rw (eqb-same q c z) (rw z (M2-c ∙ ap (λ (y : List ℕ). I ∷ y) (listed c) ∙ sym (newest-more [] (x .marks c) o j)))

@@ -21,10 +21,10 @@ rank-le s4 = omega arith
 
 -- R may have become S
 pub data Le (R S : Rec) : Type 0 where
-  le-same : R .joined ≤ S .joined → R .voted ≡ S .voted → R .st ≡ S .st → R .val ≡ S .val → Le R S
-  le-new : R .joined ≤ S .joined → R .joined ≤ S .voted → R .voted * 3 + rank (R .st) < S .voted * 3 + rank (S .st)
-      → (R .st ≡ s4 → ⊥) → (S .st ≡ s4 → ⊥) → Le R S
-  le-com : (R .st ≡ s4 → ⊥) → S .st ≡ s4 → Le R S
+  le-same : R .joined ≤ S .joined → R .voted ≡ S .voted → R .status ≡ S .status → R .value ≡ S .value → Le R S
+  le-new : R .joined ≤ S .joined → R .joined ≤ S .voted → R .voted * 3 + rank (R .status) < S .voted * 3 + rank (S .status)
+      → (R .status ≡ s4 → ⊥) → (S .status ≡ s4 → ⊥) → Le R S
+  le-com : (R .status ≡ s4 → ⊥) → S .status ≡ s4 → Le R S
 
 pub le-refl : (R : Rec) → Le R R
 le-refl R = le-same (omega arith) refl refl refl
@@ -41,12 +41,12 @@ le-trans (le-com a b) (le-new a' b' c' d' e') = absurd (d' b)
 le-trans (le-com a b) (le-com a' b') = absurd (a' b)
 
 -- a vote does not fall, and a commit stays
-pub le-voted : {R S : Rec} → Le R S → (S .st ≡ s4 → ⊥) → R .voted ≤ S .voted
+pub le-voted : {R S : Rec} → Le R S → (S .status ≡ s4 → ⊥) → R .voted ≤ S .voted
 le-voted (le-same a b c d) n = omega arith
-le-voted {R = R} {S = S} (le-new a b c d e) n = omega (arith, rank-le (R .st), rank-le (S .st))
+le-voted {R = R} {S = S} (le-new a b c d e) n = omega (arith, rank-le (R .status), rank-le (S .status))
 le-voted (le-com a b) n = absurd (n b)
 
-pub le-four : {R S : Rec} → Le R S → R .st ≡ s4 → S .st ≡ s4
+pub le-four : {R S : Rec} → Le R S → R .status ≡ s4 → S .status ≡ s4
 le-four (le-same a b c d) n = cc
 le-four (le-new a b c d e) n = absurd (d n)
 le-four (le-com a b) n = b

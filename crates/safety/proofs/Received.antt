@@ -64,12 +64,12 @@ module _ (p : Spot) where
       on-body (Commit k) f (l, t) = on-commit p (msg (Commit k)) k l t
       on-body Prepare f t = on-prepare p (msg Prepare)
       on-body (PrepareOk v t k) f (l, (u, e, q)) = on-prepareok p seen ls cov (msg (PrepareOk v t k)) (f .from) (f .other) l
-          (record { voted = v; st = u; val = val k d }) (record { voted = refl; status = e; value = refl }) q
+          (record { voted = v; status = u; value = val k d }) (record { voted = refl; status = e; value = refl }) q
       on-body (Nack x) f t = on-nack p (msg (Nack x)) x (ltb-lt _ _ (f .above))
 
     -- a valid message of o.j
     pub on-received : (s : ℕ) (m : Message) → m .owner ≡ o → m .number ≡ j → Fit (suc (2 * F)) s c m → Means S m (m .body) → Ref p (byKind (suc (2 * F)) c o j seen r m (m .body))
-    on-received s m eo ej f t =
+    on-received s m owner-is number-is f t =
         subst (λ (y : Message). Fit (suc (2 * F)) s c y → Means S y (m .body) → Ref p (byKind (suc (2 * F)) c o j seen r y (m .body)))
-        (λ i. record { from = m .from; to = m .to; owner = sym eo i; number = sym ej i; ballot = m .ballot; body = m .body; deps = m .deps })
+        (λ i. record { from = m .from; to = m .to; owner = sym owner-is i; number = sym number-is i; ballot = m .ballot; body = m .body; deps = m .deps })
         (on-body (m .from) (m .to) (m .ballot) (m .deps) s (m .body)) f t

@@ -34,11 +34,11 @@ num s2 = 2
 num s3 = 3
 num s4 = 4
 
-abbrev pub phn : Ph → ℕ
-phn idle = 0
-phn preparing = 1
-phn prephase = 2
-phn accphase = 3
+abbrev pub phase-num : Ph → ℕ
+phase-num idle = 0
+phase-num preparing = 1
+phase-num prephase = 2
+phase-num accphase = 3
 
 -- a status and a phase are told by their numbers
 st-of : ℕ → St
@@ -65,17 +65,17 @@ ph-of (suc zero) = preparing
 ph-of (suc (suc zero)) = prephase
 ph-of (suc (suc (suc n))) = accphase
 
-ph-num : (p : Ph) → ph-of (phn p) ≡ p
+ph-num : (p : Ph) → ph-of (phase-num p) ≡ p
 unfolding ph-of
 ph-num idle = refl
 ph-num preparing = refl
 ph-num prephase = refl
 ph-num accphase = refl
 
-pub ph-eq : (p q : Ph) → phn p ≡ phn q → p ≡ q
+pub ph-eq : (p q : Ph) → phase-num p ≡ phase-num q → p ≡ q
 ph-eq p q e = sym (ph-num p) ∙ ap ph-of e ∙ ph-num q
 
-pub is-accphase : (p : Ph) → (phn p ≡ 0 → ⊥) → (phn p ≡ 1 → ⊥) → (phn p ≡ 2 → ⊥) → p ≡ accphase
+pub is-accphase : (p : Ph) → (phase-num p ≡ 0 → ⊥) → (phase-num p ≡ 1 → ⊥) → (phase-num p ≡ 2 → ⊥) → p ≡ accphase
 is-accphase idle a b c = absurd (a refl)
 is-accphase preparing a b c = absurd (b refl)
 is-accphase prephase a b c = absurd (c refl)
@@ -90,26 +90,26 @@ valueOf v = val (v .command) (v .deps)
 -- a told vote
 pub record Tells (v : Vote) (a : Reply) : Type 0 where
   pub voted : a .voted ≡ v .voted
-  pub status : num (a .st) ≡ v .status
-  pub value : a .val ≡ valueOf v
+  pub status : num (a .status) ≡ v .status
+  pub value : a .value ≡ valueOf v
 
 module _ (F : ℕ) where
   -- r is what copy c has saved, A the same in the model
   pub record Rel (c : ℕ) (r : Record) (A : Rec) : Type 0 where
     pub joined : A .joined ≡ r .joined
     pub voted : A .voted ≡ r .vote .voted
-    pub status : num (A .st) ≡ r .vote .status
-    pub value : A .val ≡ valueOf (r .vote)
+    pub status : num (A .status) ≡ r .vote .status
+    pub value : A .value ≡ valueOf (r .vote)
     pub len : length (r .vote .deps) ≡ 7
-    pub phase : phn (A .ph) ≡ r .phase
+    pub phase : phase-num (A .phase) ≡ r .phase
     pub small : r .set < 128
     pub bound : (i : ℕ) → i < 7 → member i (r .set) ≡ true → i < suc (2 * F)
     pub got : (i : ℕ) → i < 7 → A .got i ≡ member i (r .set)
     pub size : length (r .replies) ≡ 7
     pub lens : (i : ℕ) → length (getD (r .replies) i noVote .deps) ≡ 7
-    pub told : A .ph ≡ preparing → (i : ℕ) → i < 7 → member i (r .set) ≡ true → Tells (getD (r .replies) i noVote) (A .reps i)
-    pub added : A .ph ≡ prephase → (i : ℕ) → i < 7 → member i (r .set) ≡ true → A .reps i .val .deps ≡ getD (r .replies) i noVote .deps
-    pub self : (A .ph ≡ preparing → ⊥) → member c (r .set) ≡ false
+    pub told : A .phase ≡ preparing → (i : ℕ) → i < 7 → member i (r .set) ≡ true → Tells (getD (r .replies) i noVote) (A .replies i)
+    pub added : A .phase ≡ prephase → (i : ℕ) → i < 7 → member i (r .set) ≡ true → A .replies i .value .deps ≡ getD (r .replies) i noVote .deps
+    pub self : (A .phase ≡ preparing → ⊥) → member c (r .set) ≡ false
 
 pub no-replies : (i : ℕ) → getD noReplies i noVote ≡ noVote
 no-replies zero = refl
@@ -122,21 +122,21 @@ no-replies (suc (suc (suc (suc (suc (suc zero)))))) = refl
 no-replies (suc (suc (suc (suc (suc (suc (suc i))))))) = refl
 
 -- a record with nothing collected
-pub rel-begun : (F c : ℕ) → c < 7 → (b : ℕ) (v : Vote) (k p : ℕ) (A : Rec) → A .joined ≡ b → A .voted ≡ v .voted → num (A .st) ≡ v .status → A .val ≡ valueOf v
-    → length (v .deps) ≡ 7 → phn (A .ph) ≡ p → (A .ph ≡ preparing → ⊥) → A .got ≡ nobody → Rel F c (begun b v k p) A
-rel-begun F c lc b v k p A ej ev es ea l ep np eg = record {
-  joined = ej;
-  voted = ev;
-  status = es;
-  value = ea;
+pub rel-begun : (F c : ℕ) → c < 7 → (b : ℕ) (v : Vote) (k p : ℕ) (A : Rec) → A .joined ≡ b → A .voted ≡ v .voted → num (A .status) ≡ v .status → A .value ≡ valueOf v
+    → length (v .deps) ≡ 7 → phase-num (A .phase) ≡ p → (A .phase ≡ preparing → ⊥) → A .got ≡ nobody → Rel F c (begun b v k p) A
+rel-begun F c lc b v k p A joined-is voted-is status-is value-is l phase-is not-preparing none-got = record {
+  joined = joined-is;
+  voted = voted-is;
+  status = status-is;
+  value = value-is;
   len = l;
-  phase = ep;
+  phase = phase-is;
   small = omega arith;
   bound = λ i li m. tf (member i 0) m (member-none i li);
-  got = λ i li. ap (λ (g : ℕ → Bool). g i) eg ∙ sym (member-none i li);
+  got = λ i li. ap (λ (g : ℕ → Bool). g i) none-got ∙ sym (member-none i li);
   size = refl;
   lens = λ i. rw (no-replies i) refl;
-  told = λ e. absurd (np e);
+  told = λ e. absurd (not-preparing e);
   added = λ e i li m. tf (member i 0) m (member-none i li);
   self = λ n. member-none c lc;
 }
@@ -149,7 +149,7 @@ Means S m (Accept k) = (length (m .deps) ≡ 7) × Sent S (mAcc (m .ballot) (val
 Means S m AcceptOk = Sent S (mAccOK (m .from) (m .ballot))
 Means S m (Commit k) = (length (m .deps) ≡ 7) × Sent S (mCommit (val k (m .deps)))
 Means S m Prepare = T true
-Means S m (PrepareOk v t k) = (length (m .deps) ≡ 7) × ((u : St) × (num u ≡ t) × Sent S (mPrepOK (m .from) (m .ballot) (record { voted = v; st = u; val = val k (m .deps) })))
+Means S m (PrepareOk v t k) = (length (m .deps) ≡ 7) × ((u : St) × (num u ≡ t) × Sent S (mPrepOK (m .from) (m .ballot) (record { voted = v; status = u; value = val k (m .deps) })))
 Means S m (Nack x) = T true
 
 -- a message of o.j, or one that tells nothing
@@ -159,10 +159,10 @@ pub data Out (S : Sys) (o j : ℕ) (m : Message) : Type 0 where
 
 -- how the vote changed: not at all, to an accept, to a commit, or to a pre-accept that counts all that is seen
 pub data Kind (Cov : Value → Type 0) (A R : Rec) : Type 0 where
-  kept : R .voted ≡ A .voted → R .st ≡ A .st → R .val ≡ A .val → Kind Cov A R
-  takes : R .st ≡ s3 → Kind Cov A R
-  commits : R .st ≡ s4 → Kind Cov A R
-  counts : Cov (R .val) → Kind Cov A R
+  kept : R .voted ≡ A .voted → R .status ≡ A .status → R .value ≡ A .value → Kind Cov A R
+  takes : R .status ≡ s3 → Kind Cov A R
+  commits : R .status ≡ s4 → Kind Cov A R
+  counts : Cov (R .value) → Kind Cov A R
 
 -- a step of copy c at o.j is nothing in the model, or one move of it
 pub data Refined (F o j : ℕ) (Req : Command → Type 0) (Cov : Value → Type 0) (c : ℕ) (S : Sys) (r : Record) (x : Step) : Type 0 where
@@ -170,10 +170,10 @@ pub data Refined (F o j : ℕ) (Req : Command → Type 0) (Cov : Value → Type 
   moved : (R : Rec) (ms : List Msg) → Trans F o Req S c (S .now c) R ms → Rel F c (x .entry) R → x .entry .mark ≡ r .mark → Kind Cov (S .now c) R
       → Out (push S c R ms) o j (x .message) → Refined F o j Req Cov c S r x
 
-pub open-st : {F c : ℕ} {r : Record} {A : Rec} → Rel F c r A → isCommitted r ≡ false → A .st ≡ s4 → ⊥
+pub open-st : {F c : ℕ} {r : Record} {A : Rec} → Rel F c r A → isCommitted r ≡ false → A .status ≡ s4 → ⊥
 open-st {r = r} rel e f = eqb-ne (r .vote .status) 4 e (sym (rel .status) ∙ ap num f)
 
-pub closed-st : {F c : ℕ} {r : Record} {A : Rec} → Rel F c r A → isCommitted r ≡ true → A .st ≡ s4
+pub closed-st : {F c : ℕ} {r : Record} {A : Rec} → Rel F c r A → isCommitted r ≡ true → A .status ≡ s4
 closed-st {r = r} rel e = st-eq _ s4 (rel .status ∙ eqb-eq (r .vote .status) 4 e)
 
 -- where an event happens: copy c of N = 2F+1, its record r of o.j, and the instance's model S.
@@ -213,7 +213,7 @@ module _ (p : Spot) where
 
   -- a copy that has committed says so
   pub tell-commit : isCommitted r ≡ true → (to : ℕ) → Ref p (sending r to (say c o j (r .joined) (Commit (r .vote .command)) (r .vote .deps)))
-  tell-commit e to = moved (S .now c) (mCommit (S .now c .val) ∷ []) (repeat (mCommit (S .now c .val)) (say-commit (closed-st rel e))) rel refl (kept refl refl refl)
+  tell-commit e to = moved (S .now c) (mCommit (S .now c .value) ∷ []) (repeat (mCommit (S .now c .value)) (say-commit (closed-st rel e))) rel refl (kept refl refl refl)
       (spoken refl refl (rel .len, List·Memᴰ·head (ap mCommit (sym (rel .value)))))
 
   pub commit-back : isCommitted r ≡ true → (q : ℕ) → Ref p (commitBack c o j r q)

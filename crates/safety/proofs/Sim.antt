@@ -125,7 +125,7 @@ module _ {C : Case} {x : State} (t : Tie C x) where
 
   -- a pre-accept of o.j counts all that c has
   abbrev pub Counts : ℕ → ℕ → ℕ → Value → Type 0
-  Counts c o j v = (J : ℕ) → (code o j ≡ J → ⊥) → (G J .now c .st ≡ s0 → ⊥) → Interf (cmd v) (cmd (G J .now c .val)) → Cover C v J
+  Counts c o j v = (J : ℕ) → (code o j ≡ J → ⊥) → (G J .now c .status ≡ s0 → ⊥) → Interf (cmd v) (cmd (G J .now c .value)) → Cover C v J
 
   pub counted : (c o j : ℕ) → c < n → (k : Command) (d : List ℕ) → Under (seen n s (x .tables c) o j k) d → Counts c o j (val k d)
   unfolding met
@@ -141,7 +141,7 @@ module _ {C : Case} {x : State} (t : Tie C x) where
       rl = rels c J lc
 
       some : 1 ≤ x .tables c p i .vote .status
-      some = let z : num (G J .now c .st) ≡ 0 → ⊥ = λ e. nz (st-eq (G J .now c .st) s0 e) in omega (arith, rl .status, z)
+      some = let z : num (G J .now c .status) ≡ 0 → ⊥ = λ e. nz (st-eq (G J .now c .status) s0 e) in omega (arith, rl .status, z)
 
       apart : (eqb p o && eqb i j) ≡ false
       apart = not-true (eqb p o && eqb i j) (λ e. ne (sym (let a : J % 8 ≡ o = eqb-eq _ _ (and-l _ (eqb i j) e) in let b : J / 8 ≡ j = eqb-eq _ _ (and-r (eqb p o) _ e) in omega arith)))
@@ -238,7 +238,7 @@ module _ {C : Case} {x : State} (t : Tie C x) where
           listed = listed;
         };
         grow = λ J q. upd-cases (λ (X : Sys). Le (G J .now q) (X .now q)) G I S' J
-            (λ e. upd-cases (λ (X : Rec). Le (G J .now q) X) (G I .now) c R q (λ f. rw (e, f) (good (inv I) c tr' .g-le)) (λ f. rw e (le-refl (G I .now q))))
+            (λ e. upd-cases (λ (X : Rec). Le (G J .now q) X) (G I .now) c R q (λ f. rw (e, f) (good (inv I) c tr' .older)) (λ f. rw e (le-refl (G I .now q))))
             (λ e. le-refl (G J .now q));
       }
         where

@@ -17,17 +17,17 @@ pub data Ph : Type 0 where
 pub record Rec : Type 0 where
   pub joined : ℕ
   pub voted : ℕ
-  pub st : St
-  pub val : Value
-  pub ph : Ph
+  pub status : St
+  pub value : Value
+  pub phase : Ph
   pub got : ℕ → Bool
-  pub reps : ℕ → Reply
+  pub replies : ℕ → Reply
 
 abbrev pub mk : ℕ → ℕ → St → Value → Ph → (ℕ → Bool) → (ℕ → Reply) → Rec
-mk j b s v p g a = record { joined = j; voted = b; st = s; val = v; ph = p; got = g; reps = a }
+mk j b s v p g a = record { joined = j; voted = b; status = s; value = v; phase = p; got = g; replies = a }
 
 abbrev pub reply-of : Rec → Reply
-reply-of R = record { voted = R .voted; st = R .st; val = R .val }
+reply-of R = record { voted = R .voted; status = R .status; value = R .value }
 
 pub data Msg : Type 0 where
   mPre : ℕ → Value → Msg
@@ -66,39 +66,39 @@ nobody i = false
 abbrev pub push : Sys → ℕ → Rec → List Msg → Sys
 push s r R ms = record { now = upd (s .now) r R; was = (r, R) ∷ s .was; sent = ms ++ s .sent }
 
-abbrev pub W : Sys → ℕ → Rec → Type 0
-W s r R = List·Memᴰ (r, R) (s .was)
+abbrev pub Was : Sys → ℕ → Rec → Type 0
+Was s r R = List·Memᴰ (r, R) (s .was)
 
 abbrev pub Sent : Sys → Msg → Type 0
 Sent s m = List·Memᴰ m (s .sent)
 
 abbrev pub blankRec : Rec
-blankRec = mk 0 0 s0 start idle nobody (λ j. record { voted = 0; st = s0; val = start })
+blankRec = mk 0 0 s0 start idle nobody (λ j. record { voted = 0; status = s0; value = start })
 
 abbrev pub blankSys : Sys
 blankSys = record { now = λ i. blankRec; was = []; sent = [] }
 
 -- not yet voted at b
 abbrev pub Fresh : Rec → ℕ → Type 0
-Fresh R b = (R .st ≡ s0) ⊎ (R .voted < b)
+Fresh R b = (R .status ≡ s0) ⊎ (R .voted < b)
 
 -- what a copy says again from its record
 pub data Says (r : ℕ) (R : Rec) : Msg → Type 0 where
-  say-ok1 : R .st ≡ s1 → Says r R (mPreOK r (R .voted) (R .val))
-  say-ok2 : R .st ≡ s2 → Says r R (mPreOK r (R .voted) (R .val))
-  say-pre : R .ph ≡ prephase → Says r R (mPre (R .joined) (R .val))
-  say-acc : R .ph ≡ accphase → Says r R (mAcc (R .joined) (R .val))
-  say-commit : R .st ≡ s4 → Says r R (mCommit (R .val))
+  say-ok1 : R .status ≡ s1 → Says r R (mPreOK r (R .voted) (R .value))
+  say-ok2 : R .status ≡ s2 → Says r R (mPreOK r (R .voted) (R .value))
+  say-pre : R .phase ≡ prephase → Says r R (mPre (R .joined) (R .value))
+  say-acc : R .phase ≡ accphase → Says r R (mAcc (R .joined) (R .value))
+  say-commit : R .status ≡ s4 → Says r R (mCommit (R .value))
 
 -- what a lead in a phase has of copy i at its ballot: collected, or just received
 abbrev pub HasPre : Sys → Rec → ℕ → Value → Type 0
-HasPre s R i v = ((R .got i ≡ true) × (R .reps i .val ≡ v)) ⊎ Sent s (mPreOK i (R .joined) v)
+HasPre s R i v = ((R .got i ≡ true) × (R .replies i .value ≡ v)) ⊎ Sent s (mPreOK i (R .joined) v)
 
 abbrev pub HasAcc : Sys → Rec → ℕ → Type 0
 HasAcc s R i = (R .got i ≡ true) ⊎ Sent s (mAccOK i (R .joined))
 
 abbrev pub HasPrep : Sys → Rec → ℕ → Reply → Type 0
-HasPrep s R i a = ((R .got i ≡ true) × (R .reps i ≡ a)) ⊎ Sent s (mPrepOK i (R .joined) a)
+HasPrep s R i a = ((R .got i ≡ true) × (R .replies i ≡ a)) ⊎ Sent s (mPrepOK i (R .joined) a)
 
 -- Req c: c was requested for this instance
 module _ (F owner : ℕ) (Req : Command → Type 0) where
@@ -106,49 +106,49 @@ module _ (F owner : ℕ) (Req : Command → Type 0) where
     -- told again from the record
     repeat : (m : Msg) → Says r R m → Trans s r R R (m ∷ [])
     -- the owner is asked, on a blank record
-    request : (v : Value) → r ≡ owner → R .joined ≡ 0 → R .st ≡ s0 → Req (cmd v)
-        → Trans s r R (mk 0 0 s2 v prephase nobody (R .reps)) (mPre 0 v ∷ [])
+    request : (v : Value) → r ≡ owner → R .joined ≡ 0 → R .status ≡ s0 → Req (cmd v)
+        → Trans s r R (mk 0 0 s2 v prephase nobody (R .replies)) (mPre 0 v ∷ [])
     -- a PreAccept to which nothing is added, or something
-    pre-same : (b : ℕ) (v : Value) → Sent s (mPre b v) → (lead owner b ≡ r → ⊥) → (R .st ≡ s4 → ⊥) → R .joined ≤ b → Fresh R b
-        → Trans s r R (mk b b s2 v idle nobody (R .reps)) (mPreOK r b v ∷ [])
-    pre-more : (b : ℕ) (v w : Value) → Sent s (mPre b v) → (lead owner b ≡ r → ⊥) → (R .st ≡ s4 → ⊥) → R .joined ≤ b → Fresh R b
-        → cmd w ≡ cmd v → (w ≡ v → ⊥) → Trans s r R (mk b b s1 w idle nobody (R .reps)) (mPreOK r b w ∷ [])
+    pre-same : (b : ℕ) (v : Value) → Sent s (mPre b v) → (lead owner b ≡ r → ⊥) → (R .status ≡ s4 → ⊥) → R .joined ≤ b → Fresh R b
+        → Trans s r R (mk b b s2 v idle nobody (R .replies)) (mPreOK r b v ∷ [])
+    pre-more : (b : ℕ) (v w : Value) → Sent s (mPre b v) → (lead owner b ≡ r → ⊥) → (R .status ≡ s4 → ⊥) → R .joined ≤ b → Fresh R b
+        → cmd w ≡ cmd v → (w ≡ v → ⊥) → Trans s r R (mk b b s1 w idle nobody (R .replies)) (mPreOK r b w ∷ [])
     -- in phase 2: a reply is collected; the owner commits on 2F-1 that match; or the lead goes to accepting with what covers them all
-    collect-pre : (i : ℕ) (v : Value) → Sent s (mPreOK i (R .joined) v) → R .ph ≡ prephase
-        → Trans s r R (mk (R .joined) (R .voted) (R .st) (R .val) (R .ph) (upd (R .got) i true) (upd (R .reps) i (record { voted = R .joined; st = s1; val = v }))) []
-    fast-commit : R .ph ≡ prephase → R .joined ≡ 0 → r ≡ owner → (P : ℕ → Bool) → 2 * F ≤ suc (cnt (suc (2 * F)) P) → P owner ≡ false
-        → ((i : ℕ) → P i ≡ true → HasPre s R i (R .val))
-        → Trans s r R (mk (R .joined) (R .voted) s4 (R .val) idle nobody (R .reps)) (mCommit (R .val) ∷ [])
-    to-accept : (w : Value) → R .ph ≡ prephase → cmd w ≡ cmd (R .val)
+    collect-pre : (i : ℕ) (v : Value) → Sent s (mPreOK i (R .joined) v) → R .phase ≡ prephase
+        → Trans s r R (mk (R .joined) (R .voted) (R .status) (R .value) (R .phase) (upd (R .got) i true) (upd (R .replies) i (record { voted = R .joined; status = s1; value = v }))) []
+    fast-commit : R .phase ≡ prephase → R .joined ≡ 0 → r ≡ owner → (P : ℕ → Bool) → 2 * F ≤ suc (cnt (suc (2 * F)) P) → P owner ≡ false
+        → ((i : ℕ) → P i ≡ true → HasPre s R i (R .value))
+        → Trans s r R (mk (R .joined) (R .voted) s4 (R .value) idle nobody (R .replies)) (mCommit (R .value) ∷ [])
+    to-accept : (w : Value) → R .phase ≡ prephase → cmd w ≡ cmd (R .value)
         → (Q : ℕ → Bool) → suc F ≤ cnt (suc (2 * F)) Q
-        → ((i : ℕ) → Q i ≡ true → ((i ≡ r) × Sub (R .val) w) ⊎ ((v : Value) × HasPre s R i v × Sub v w))
-        → Trans s r R (mk (R .joined) (R .joined) s3 w accphase nobody (R .reps)) (mAcc (R .joined) w ∷ [])
+        → ((i : ℕ) → Q i ≡ true → ((i ≡ r) × Sub (R .value) w) ⊎ ((v : Value) × HasPre s R i v × Sub v w))
+        → Trans s r R (mk (R .joined) (R .joined) s3 w accphase nobody (R .replies)) (mAcc (R .joined) w ∷ [])
     -- an Accept, its replies, the commit on F of them
-    acc : (b : ℕ) (v : Value) → Sent s (mAcc b v) → (lead owner b ≡ r → ⊥) → (R .st ≡ s4 → ⊥) → R .joined ≤ b
-        → Trans s r R (mk b b s3 v idle nobody (R .reps)) (mAccOK r b ∷ [])
-    collect-acc : (i : ℕ) → Sent s (mAccOK i (R .joined)) → R .ph ≡ accphase
-        → Trans s r R (mk (R .joined) (R .voted) (R .st) (R .val) (R .ph) (upd (R .got) i true) (R .reps)) []
-    slow-commit : R .ph ≡ accphase → (Q : ℕ → Bool) → suc F ≤ cnt (suc (2 * F)) Q → ((i : ℕ) → Q i ≡ true → (i ≡ r) ⊎ HasAcc s R i)
-        → Trans s r R (mk (R .joined) (R .voted) s4 (R .val) idle nobody (R .reps)) (mCommit (R .val) ∷ [])
+    acc : (b : ℕ) (v : Value) → Sent s (mAcc b v) → (lead owner b ≡ r → ⊥) → (R .status ≡ s4 → ⊥) → R .joined ≤ b
+        → Trans s r R (mk b b s3 v idle nobody (R .replies)) (mAccOK r b ∷ [])
+    collect-acc : (i : ℕ) → Sent s (mAccOK i (R .joined)) → R .phase ≡ accphase
+        → Trans s r R (mk (R .joined) (R .voted) (R .status) (R .value) (R .phase) (upd (R .got) i true) (R .replies)) []
+    slow-commit : R .phase ≡ accphase → (Q : ℕ → Bool) → suc F ≤ cnt (suc (2 * F)) Q → ((i : ℕ) → Q i ≡ true → (i ≡ r) ⊎ HasAcc s R i)
+        → Trans s r R (mk (R .joined) (R .voted) s4 (R .value) idle nobody (R .replies)) (mCommit (R .value) ∷ [])
     -- a Commit received
-    learn : (v : Value) → Sent s (mCommit v) → (R .st ≡ s4 → ⊥)
-        → Trans s r R (mk (R .joined) (R .voted) s4 v idle nobody (R .reps)) []
+    learn : (v : Value) → Sent s (mCommit v) → (R .status ≡ s4 → ⊥)
+        → Trans s r R (mk (R .joined) (R .voted) s4 v idle nobody (R .replies)) []
     -- a higher ballot joined, silently or with a promise; one's own taken up
-    join : (b : ℕ) → R .joined ≤ b → (R .st ≡ s4 → ⊥)
-        → Trans s r R (mk b (R .voted) (R .st) (R .val) idle nobody (R .reps)) []
-    promise : (b : ℕ) → R .joined ≤ b → R .voted < b → (R .st ≡ s4 → ⊥)
-        → Trans s r R (mk b (R .voted) (R .st) (R .val) idle nobody (R .reps)) (mPrepOK r b (reply-of R) ∷ [])
-    recover : (b : ℕ) → R .joined < b → lead owner b ≡ r → (R .st ≡ s4 → ⊥)
-        → Trans s r R (mk b (R .voted) (R .st) (R .val) preparing (upd nobody r true) (upd (R .reps) r (reply-of R))) []
+    join : (b : ℕ) → R .joined ≤ b → (R .status ≡ s4 → ⊥)
+        → Trans s r R (mk b (R .voted) (R .status) (R .value) idle nobody (R .replies)) []
+    promise : (b : ℕ) → R .joined ≤ b → R .voted < b → (R .status ≡ s4 → ⊥)
+        → Trans s r R (mk b (R .voted) (R .status) (R .value) idle nobody (R .replies)) (mPrepOK r b (reply-of R) ∷ [])
+    recover : (b : ℕ) → R .joined < b → lead owner b ≡ r → (R .status ≡ s4 → ⊥)
+        → Trans s r R (mk b (R .voted) (R .status) (R .value) preparing (upd nobody r true) (upd (R .replies) r (reply-of R))) []
     -- in phase 1: a promise is collected; on F+1 the lead decides
-    collect-prep : (i : ℕ) (a : Reply) → Sent s (mPrepOK i (R .joined) a) → R .ph ≡ preparing
-        → Trans s r R (mk (R .joined) (R .voted) (R .st) (R .val) (R .ph) (upd (R .got) i true) (upd (R .reps) i a)) []
-    decide-accept : (v : Value) → R .ph ≡ preparing → (Q : ℕ → Bool) (rep : ℕ → Reply) → suc F ≤ cnt (suc (2 * F)) Q
+    collect-prep : (i : ℕ) (a : Reply) → Sent s (mPrepOK i (R .joined) a) → R .phase ≡ preparing
+        → Trans s r R (mk (R .joined) (R .voted) (R .status) (R .value) (R .phase) (upd (R .got) i true) (upd (R .replies) i a)) []
+    decide-accept : (v : Value) → R .phase ≡ preparing → (Q : ℕ → Bool) (rep : ℕ → Reply) → suc F ≤ cnt (suc (2 * F)) Q
         → ((i : ℕ) → Q i ≡ true → HasPrep s R i (rep i)) → Decided F owner Q rep (accept v)
-        → Trans s r R (mk (R .joined) (R .joined) s3 v accphase nobody (R .reps)) (mAcc (R .joined) v ∷ [])
-    decide-afresh : (c : Command) (v : Value) → R .ph ≡ preparing → (Q : ℕ → Bool) (rep : ℕ → Reply) → suc F ≤ cnt (suc (2 * F)) Q
+        → Trans s r R (mk (R .joined) (R .joined) s3 v accphase nobody (R .replies)) (mAcc (R .joined) v ∷ [])
+    decide-afresh : (c : Command) (v : Value) → R .phase ≡ preparing → (Q : ℕ → Bool) (rep : ℕ → Reply) → suc F ≤ cnt (suc (2 * F)) Q
         → ((i : ℕ) → Q i ≡ true → HasPrep s R i (rep i)) → Decided F owner Q rep (afresh c) → cmd v ≡ c
-        → Trans s r R (mk (R .joined) (R .joined) s2 v prephase nobody (R .reps)) (mPre (R .joined) v ∷ [])
+        → Trans s r R (mk (R .joined) (R .joined) s2 v prephase nobody (R .replies)) (mPre (R .joined) v ∷ [])
 
   pub data Reach : Sys → Type 0 where
     init : Reach blankSys

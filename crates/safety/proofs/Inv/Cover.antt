@@ -12,10 +12,10 @@ use native.Mathlib.Decide.{ℕ-discrete}
 use Rattle.reach.proofs.Count.{cnt, one-if, both, both-true, member}
 use Rattle.safety.proofs.Hist.{St, s0, s1, s2, s3, s4, is2, Reply, Outcome, accept, Top, twos, Decided, none-voted, accepted, fast, anew}
 use Rattle.safety.proofs.Agree.{cmd-votes}
-use Rattle.safety.proofs.Sys.{preparing, prephase, Rec, Msg, mAcc, Sys, upd, upd-cases, push, W, HasPre, HasPrep, Trans, repeat, request, pre-same, pre-more, collect-pre, fast-commit, to-accept, acc, collect-acc, slow-commit, learn, join, promise, recover, collect-prep, decide-accept, decide-afresh, Reach, init, step}
-use Rattle.safety.proofs.Inv.{Loc, Vote, OkE, ComE, com-slow, com-fast, Inv}
+use Rattle.safety.proofs.Sys.{preparing, prephase, Rec, Msg, mAcc, Sys, upd, upd-cases, push, Was, HasPre, HasPrep, Trans, repeat, request, pre-same, pre-more, collect-pre, fast-commit, to-accept, acc, collect-acc, slow-commit, learn, join, promise, recover, collect-prep, decide-accept, decide-afresh, Reach, init, step}
+use Rattle.safety.proofs.Inv.{Local, Vote, Promised, Reason, com-slow, com-fast, Inv}
 use Rattle.safety.proofs.Inv.Keep.{up-vote, which}
-use Rattle.safety.proofs.Inv.Facts.{vote-one, vote-back1, vote-back2, near, now-in, loc-now, own-at, has-pre, has-prep}
+use Rattle.safety.proofs.Inv.Facts.{vote-one, vote-added, vote-unchanged, near, now-in, loc-now, own-at, has-pre, has-prep}
 use Rattle.safety.proofs.Inv.Good.{holds}
 use Rattle.safety.proofs.Inv.Laws.{hist, rules}
 use Rattle.reach.proofs.Tests.{clash}
@@ -35,7 +35,7 @@ cnt-add (suc n) p o l e = upd-cases (λ (y : Bool). one-if y + cnt n (upd p o tr
 
 module _ (F : ℕ) where
   -- F+1 copies pre-accepted at b, for v's command, and v covers what they cover
-  pub record PQ (s : Sys) (v : Value) (top : ℕ) : Type 0 where
+  pub record PreQuorum (s : Sys) (v : Value) (top : ℕ) : Type 0 where
     pub b : ℕ
     pub low : b ≤ top
     pub set : ℕ → Bool
@@ -43,8 +43,8 @@ module _ (F : ℕ) where
     pub votes : (i : ℕ) → i < suc (2 * F) → set i ≡ true
         → (u : St) × (w : Value) × Vote s i b u w × ((u ≡ s1) ⊎ (u ≡ s2)) × (cmd w ≡ cmd v) × Sub w v
 
-  pq-up : (s t : Sys) → ((r : ℕ) (R : Rec) → W s r R → W t r R) → (v : Value) (m k : ℕ) → m ≤ k → PQ s v m → PQ t v k
-  pq-up s t ext v m k l h = record {
+  quorum-up : (s t : Sys) → ((r : ℕ) (R : Rec) → Was s r R → Was t r R) → (v : Value) (m k : ℕ) → m ≤ k → PreQuorum s v m → PreQuorum t v k
+  quorum-up s t ext v m k l h = record {
     b = h .b;
     low = omega (arith, h .low);
     set = h .set;
@@ -52,20 +52,20 @@ module _ (F : ℕ) where
     votes = λ i li q. let (u, w, x, a, c, d) = h .votes i li q in (u, w, up-vote ext i (h .b) u w x, a, c, d);
   }
 
-  abbrev pub AllPQ : Sys → Type 0
-  AllPQ s = (r : ℕ) (R : Rec) → W s r R → R .st ≡ s3 → PQ s (R .val) (R .voted)
+  abbrev pub AllPreQuorums : Sys → Type 0
+  AllPreQuorums s = (r : ℕ) (R : Rec) → Was s r R → R .status ≡ s3 → PreQuorum s (R .value) (R .voted)
 
-module _ {F owner : ℕ} (inside : owner < suc (2 * F)) {s : Sys} (I : Inv F owner s) (A : AllPQ F s) (r : ℕ) where
-  pq-vote : (i b : ℕ) (v : Value) → Vote s i b s3 v → PQ F s v b
-  pq-vote i b v x = rw (x .eb, x .ev) at (A i (x .R) (x .w) (x .es))
+module _ {F owner : ℕ} (inside : owner < suc (2 * F)) {s : Sys} (I : Inv F owner s) (A : AllPreQuorums F s) (r : ℕ) where
+  quorum-of-vote : (i b : ℕ) (v : Value) → Vote s i b s3 v → PreQuorum F s v b
+  quorum-of-vote i b v x = rw (x .ballot, x .value) at (A i (x .saved) (x .was) (x .status))
 
-  pq-now : s .now r .st ≡ s3 → PQ F s (s .now r .val) (s .now r .voted)
-  pq-now e = A r (s .now r) (now-in I r (λ f. clash (cc))) e
+  quorum-now : s .now r .status ≡ s3 → PreQuorum F s (s .now r .value) (s .now r .voted)
+  quorum-now e = A r (s .now r) (now-in I r (λ f. clash (cc))) e
 
   -- a set of copies that voted s2 for v at 0, with the owner
   with-owner : (v : Value) (P : ℕ → Bool) → F ≤ cnt (suc (2 * F)) P → P owner ≡ false → Vote s (lead owner 0) 0 s2 v
-      → ((i : ℕ) → i < suc (2 * F) → P i ≡ true → Vote s i 0 s2 v) → PQ F s v 0
-  with-owner v P sz out own vs = record {
+      → ((i : ℕ) → i < suc (2 * F) → P i ≡ true → Vote s i 0 s2 v) → PreQuorum F s v 0
+  with-owner v P enough out own vs = record {
     b = 0;
     low = omega arith;
     set = upd P owner true;
@@ -85,115 +85,115 @@ module _ {F owner : ℕ} (inside : owner < suc (2 * F)) {s : Sys} (I : Inv F own
   is2-true s4 e = clash (cc)
 
   -- the fast case of recovery: the owner and the F that had nothing to add
-  pq-fast : (b : ℕ) (Q : ℕ → Bool) (rep : ℕ → Reply) → ((i : ℕ) → Q i ≡ true → OkE s i b (rep i))
+  quorum-fast : (b : ℕ) (Q : ℕ → Bool) (rep : ℕ → Reply) → ((i : ℕ) → Q i ≡ true → Promised s i b (rep i))
       → Top F owner Q rep 0 → Q owner ≡ false → F ≤ twos F owner Q rep
-      → (j : ℕ) → j < suc (2 * F) → Q j ≡ true → rep j .st ≡ s2 → PQ F s (rep j .val) 0
-  pq-fast b Q rep ok top qo tw j lj qj sj = with-owner (rep j .val) (λ i. both (Q i) (is2 (rep i .st))) tw (rw qo refl) (back j lj qj sj) vs
+      → (j : ℕ) → j < suc (2 * F) → Q j ≡ true → rep j .status ≡ s2 → PreQuorum F s (rep j .value) 0
+  quorum-fast b Q rep ok top no-owner twos-enough j lj qj status-is = with-owner (rep j .value) (λ i. both (Q i) (is2 (rep i .status))) twos-enough (rw no-owner refl) (back j lj qj status-is) vs
     where
-      two : (i : ℕ) → i < suc (2 * F) → Q i ≡ true → rep i .st ≡ s2 → Vote s i 0 s2 (rep i .val)
+      two : (i : ℕ) → i < suc (2 * F) → Q i ≡ true → rep i .status ≡ s2 → Vote s i 0 s2 (rep i .value)
       two i li qi si =
           let x = ok i qi in
           let l : rep i .voted ≤ 0 = top .all i li qi (λ e. clash (cc)) in
-          record { R = x .R; w = x .w; eb = omega (arith, x .ev); es = sym (x .es) ∙ si; ev = sym (x .ea); n0 = λ e. clash (cc); n4 = λ e. clash (cc) }
+          record { saved = x .saved; was = x .was; ballot = omega (arith, x .voted); status = sym (x .status) ∙ si; value = sym (x .value); cast = λ e. clash (cc); uncommitted = λ e. clash (cc) }
 
-      back : (i : ℕ) → i < suc (2 * F) → Q i ≡ true → rep i .st ≡ s2 → Vote s (lead owner 0) 0 s2 (rep i .val)
-      back i li qi si = vote-back2 I i 0 (rep i .val) (two i li qi si)
+      back : (i : ℕ) → i < suc (2 * F) → Q i ≡ true → rep i .status ≡ s2 → Vote s (lead owner 0) 0 s2 (rep i .value)
+      back i li qi si = vote-unchanged I i 0 (rep i .value) (two i li qi si)
 
-      vs : (i : ℕ) → i < suc (2 * F) → both (Q i) (is2 (rep i .st)) ≡ true → Vote s i 0 s2 (rep j .val)
+      vs : (i : ℕ) → i < suc (2 * F) → both (Q i) (is2 (rep i .status)) ≡ true → Vote s i 0 s2 (rep j .value)
       vs i li q =
-          let (qi, ti) = both-true (Q i) (is2 (rep i .st)) q in
-          let si : rep i .st ≡ s2 = is2-true (rep i .st) ti in
-          let e : rep i .val ≡ rep j .val = vote-one I (lead owner 0) 0 s2 (rep i .val) (rep j .val) (back i li qi si) (back j lj qj sj) in
+          let (qi, ti) = both-true (Q i) (is2 (rep i .status)) q in
+          let si : rep i .status ≡ s2 = is2-true (rep i .status) ti in
+          let e : rep i .value ≡ rep j .value = vote-one I (lead owner 0) 0 s2 (rep i .value) (rep j .value) (back i li qi si) (back j lj qj status-is) in
           rw e at (two i li qi si)
 
-  pq-dec : (v : Value) → s .now r .ph ≡ preparing → (Q : ℕ → Bool) (rep : ℕ → Reply) → ((i : ℕ) → Q i ≡ true → HasPrep s (s .now r) i (rep i))
-      → {o : Outcome} → Decided F owner Q rep o → o ≡ accept v → PQ F s v (s .now r .joined)
-  pq-dec v ph Q rep hp (none-voted f) e = clash (cc)
-  pq-dec v ph Q rep hp (accepted m j top lj qj ej sj) e =
-      let x = has-prep I r ph j (rep j) (hp j qj) in
-      let y : Vote s j (rep j .voted) s3 (rep j .val)
-      = record { R = x .R; w = x .w; eb = sym (x .ev); es = sym (x .es) ∙ sj; ev = sym (x .ea); n0 = λ e. clash (cc); n4 = λ e. clash (cc) } in
-      let f : rep j .val ≡ v = cc in
-      rw f at (pq-up F s s (λ i X w. w) (rep j .val) (rep j .voted) (s .now r .joined) (omega (arith, x .ev, x .lt)) (pq-vote j (rep j .voted) (rep j .val) y))
-  pq-dec v ph Q rep hp (fast j top na qo tw lj qj ej sj) e =
-      let f : rep j .val ≡ v = cc in
-      rw f at (pq-up F s s (λ i X w. w) (rep j .val) 0 (s .now r .joined) (omega arith)
-      (pq-fast (s .now r .joined) Q rep (λ i q. has-prep I r ph i (rep i) (hp i q)) top qo tw j lj qj sj))
-  pq-dec v ph Q rep hp (anew m j top na nf lj qj at) e = clash (cc)
+  quorum-decided : (v : Value) → s .now r .phase ≡ preparing → (Q : ℕ → Bool) (rep : ℕ → Reply) → ((i : ℕ) → Q i ≡ true → HasPrep s (s .now r) i (rep i))
+      → {o : Outcome} → Decided F owner Q rep o → o ≡ accept v → PreQuorum F s v (s .now r .joined)
+  quorum-decided v phase Q rep has (none-voted f) e = clash (cc)
+  quorum-decided v phase Q rep has (accepted m j top lj qj voted-at status-is) e =
+      let x = has-prep I r phase j (rep j) (has j qj) in
+      let y : Vote s j (rep j .voted) s3 (rep j .value)
+      = record { saved = x .saved; was = x .was; ballot = sym (x .voted); status = sym (x .status) ∙ status-is; value = sym (x .value); cast = λ e. clash (cc); uncommitted = λ e. clash (cc) } in
+      let f : rep j .value ≡ v = cc in
+      rw f at (quorum-up F s s (λ i X w. w) (rep j .value) (rep j .voted) (s .now r .joined) (omega (arith, x .voted, x .below)) (quorum-of-vote j (rep j .voted) (rep j .value) y))
+  quorum-decided v phase Q rep has (fast j top no-accept no-owner twos-enough lj qj voted-at status-is) e =
+      let f : rep j .value ≡ v = cc in
+      rw f at (quorum-up F s s (λ i X w. w) (rep j .value) 0 (s .now r .joined) (omega arith)
+      (quorum-fast (s .now r .joined) Q rep (λ i q. has-prep I r phase i (rep i) (has i q)) top no-owner twos-enough j lj qj status-is))
+  quorum-decided v phase Q rep has (anew m j top no-accept not-fast lj qj at) e = clash (cc)
 
-  pq-join : (w : Value) → s .now r .ph ≡ prephase → cmd w ≡ cmd (s .now r .val) → (Q : ℕ → Bool) → suc F ≤ cnt (suc (2 * F)) Q
-      → ((i : ℕ) → Q i ≡ true → ((i ≡ r) × Sub (s .now r .val) w) ⊎ ((v : Value) × HasPre s (s .now r) i v × Sub v w))
-      → PQ F s w (s .now r .joined)
-  pq-join w ph ce Q sz jo = record { b = s .now r .joined; low = omega arith; set = Q; size = sz; votes = λ i li q. go i (jo i q) }
+  quorum-joined : (w : Value) → s .now r .phase ≡ prephase → cmd w ≡ cmd (s .now r .value) → (Q : ℕ → Bool) → suc F ≤ cnt (suc (2 * F)) Q
+      → ((i : ℕ) → Q i ≡ true → ((i ≡ r) × Sub (s .now r .value) w) ⊎ ((v : Value) × HasPre s (s .now r) i v × Sub v w))
+      → PreQuorum F s w (s .now r .joined)
+  quorum-joined w phase same-cmd Q enough covers-them = record { b = s .now r .joined; low = omega arith; set = Q; size = enough; votes = λ i li q. go i (covers-them i q) }
     where
-      lo : Loc owner r (s .now r)
+      lo : Local owner r (s .now r)
       lo = loc-now I r
 
-      own : Vote s r (s .now r .joined) s2 (s .now r .val)
-      own = own-at I r (s .now r .joined) s2 (lo .l2 ph .1) (lo .l2 ph .2) (λ f. clash (cc)) (λ f. clash (cc))
+      own : Vote s r (s .now r .joined) s2 (s .now r .value)
+      own = own-at I r (s .now r .joined) s2 (lo .when-pre-accepting phase .1) (lo .when-pre-accepting phase .2) (λ f. clash (cc)) (λ f. clash (cc))
 
-      led : Vote s (lead owner (s .now r .joined)) (s .now r .joined) s2 (s .now r .val)
-      led = rw (lo .l2 ph .0) own
+      led : Vote s (lead owner (s .now r .joined)) (s .now r .joined) s2 (s .now r .value)
+      led = rw (lo .when-pre-accepting phase .0) own
 
       by : (i : ℕ) (v : Value) → Sub v w → Vote s i (s .now r .joined) s1 v ⊎ Vote s i (s .now r .joined) s2 v
           → (u : St) × (z : Value) × Vote s i (s .now r .joined) u z × ((u ≡ s1) ⊎ (u ≡ s2)) × (cmd z ≡ cmd w) × Sub z w
-      by i v sb (inl x) = (s1, v, x, inl refl, near I i (s .now r .joined) _ _ led (inl x) ∙ sym ce, sb)
-      by i v sb (inr x) = (s2, v, x, inr refl, near I i (s .now r .joined) _ _ led (inr x) ∙ sym ce, sb)
+      by i v sb (inl x) = (s1, v, x, inl refl, near I i (s .now r .joined) _ _ led (inl x) ∙ sym same-cmd, sb)
+      by i v sb (inr x) = (s2, v, x, inr refl, near I i (s .now r .joined) _ _ led (inr x) ∙ sym same-cmd, sb)
 
-      go : (i : ℕ) → ((i ≡ r) × Sub (s .now r .val) w) ⊎ ((v : Value) × HasPre s (s .now r) i v × Sub v w)
+      go : (i : ℕ) → ((i ≡ r) × Sub (s .now r .value) w) ⊎ ((v : Value) × HasPre s (s .now r) i v × Sub v w)
           → (u : St) × (z : Value) × Vote s i (s .now r .joined) u z × ((u ≡ s1) ⊎ (u ≡ s2)) × (cmd z ≡ cmd w) × Sub z w
-      go i (inl p) = (s2, s .now r .val, rw (p .0) own, inr refl, sym ce, p .1)
-      go i (inr p) = by i (p .0) (p .2) (has-pre I r ph i (p .0) (p .1))
+      go i (inl p) = (s2, s .now r .value, rw (p .0) own, inr refl, sym same-cmd, p .1)
+      go i (inr p) = by i (p .0) (p .2) (has-pre I r phase i (p .0) (p .1))
 
-  pq-new : {Req : Command → Type 0} {R : Rec} {ms : List Msg} → Trans F owner Req s r (s .now r) R ms → R .st ≡ s3 → PQ F s (R .val) (R .voted)
-  pq-new (repeat m h) e = pq-now e
-  pq-new (request v a b c d) e = clash (cc)
-  pq-new (pre-same b v se nl n4 l fr) e = clash (cc)
-  pq-new (pre-more b v w se nl n4 l fr ce ne) e = clash (cc)
-  pq-new (collect-pre i v se ph) e = pq-now e
-  pq-new (fast-commit ph j0 ro P sz out got) e = clash (cc)
-  pq-new (to-accept w ph ce Q sz jo) e = pq-join w ph ce Q sz jo
-  pq-new (acc b v se nl n4 l) e = pq-vote (lead owner b) b v (I .msgs (mAcc b v) se)
-  pq-new (collect-acc i se ph) e = pq-now e
-  pq-new (slow-commit ph Q sz q) e = clash (cc)
-  pq-new (learn v se n4) e = clash (cc)
-  pq-new (join b l n4) e = pq-now e
-  pq-new (promise b l lv n4) e = pq-now e
-  pq-new (recover b l le n4) e = pq-now e
-  pq-new (collect-prep i a se ph) e = pq-now e
-  pq-new (decide-accept v ph Q rep sz hp d) e = pq-dec v ph Q rep hp d refl
-  pq-new (decide-afresh c v ph Q rep sz hp d ce) e = clash (cc)
+  quorum-new : {Req : Command → Type 0} {R : Rec} {ms : List Msg} → Trans F owner Req s r (s .now r) R ms → R .status ≡ s3 → PreQuorum F s (R .value) (R .voted)
+  quorum-new (repeat m h) e = quorum-now e
+  quorum-new (request v a b c d) e = clash (cc)
+  quorum-new (pre-same b v sent not-lead uncommitted l fresh) e = clash (cc)
+  quorum-new (pre-more b v w sent not-lead uncommitted l fresh same-cmd differs) e = clash (cc)
+  quorum-new (collect-pre i v sent phase) e = quorum-now e
+  quorum-new (fast-commit phase at-zero is-owner P enough out got) e = clash (cc)
+  quorum-new (to-accept w phase same-cmd Q enough covers-them) e = quorum-joined w phase same-cmd Q enough covers-them
+  quorum-new (acc b v sent not-lead uncommitted l) e = quorum-of-vote (lead owner b) b v (I .msgs (mAcc b v) sent)
+  quorum-new (collect-acc i sent phase) e = quorum-now e
+  quorum-new (slow-commit phase Q enough q) e = clash (cc)
+  quorum-new (learn v sent uncommitted) e = clash (cc)
+  quorum-new (join b l uncommitted) e = quorum-now e
+  quorum-new (promise b l voted-below uncommitted) e = quorum-now e
+  quorum-new (recover b l le uncommitted) e = quorum-now e
+  quorum-new (collect-prep i a sent phase) e = quorum-now e
+  quorum-new (decide-accept v phase Q rep enough has d) e = quorum-decided v phase Q rep has d refl
+  quorum-new (decide-afresh c v phase Q rep enough has d same-cmd) e = clash (cc)
 
-  pub pq-com : (v : Value) → 0 < F → ComE F owner s v → (m : ℕ) × PQ F s v m
-  pq-com v pos (com-slow b h) = let (i, li, q) = member (suc (2 * F)) (h .set) (omega (arith, h .size)) in (b, pq-vote i b v (h .votes i li q))
-  pq-com v pos (com-fast h) =
+  pub quorum-committed : (v : Value) → 0 < F → Reason F owner s v → (m : ℕ) × PreQuorum F s v m
+  quorum-committed v pos (com-slow b h) = let (i, li, q) = member (suc (2 * F)) (h .set) (omega (arith, h .size)) in (b, quorum-of-vote i b v (h .votes i li q))
+  quorum-committed v pos (com-fast h) =
       let (i, li, q) = member (suc (2 * F)) (h .set) (omega (arith, h .size)) in
-      (0, with-owner v (h .set) (omega (arith, h .size)) (h .out) (vote-back2 I i 0 v (h .votes i li q)) (h .votes))
+      (0, with-owner v (h .set) (omega (arith, h .size)) (h .out) (vote-unchanged I i 0 v (h .votes i li q)) (h .votes))
 
-pub all-pq : {F owner : ℕ} {Req : Command → Type 0} → owner < suc (2 * F) → {s : Sys} → Reach F owner Req s → AllPQ F s
-all-pq inside init r R w e = absurd (List·Memᴰ·not-nil w)
-all-pq {F} inside (step {s = s} r R ms h l t) i X w e = go (λ j Y k f. all-pq inside h j Y k f) (which s r R ms i X w)
+pub all-pre-quorums : {F owner : ℕ} {Req : Command → Type 0} → owner < suc (2 * F) → {s : Sys} → Reach F owner Req s → AllPreQuorums F s
+all-pre-quorums inside init r R w e = absurd (List·Memᴰ·not-nil w)
+all-pre-quorums {F} inside (step {s = s} r R ms h l t) i X w e = go (λ j Y k f. all-pre-quorums inside h j Y k f) (which s r R ms i X w)
   where
-    go : AllPQ F s → ((i ≡ r) × (X ≡ R)) ⊎ W s i X → PQ F (push s r R ms) (X .val) (X .voted)
-    go A (inl p) = pq-up F s _ (λ j Y m. List·Memᴰ·tail m) (X .val) (X .voted) (X .voted) (omega arith)
-        (rw (p .1) (pq-new inside (holds h) A r t (rw (p .1) at e)))
-    go A (inr m) = pq-up F s _ (λ j Y k. List·Memᴰ·tail k) (X .val) (X .voted) (X .voted) (omega arith) (A i X m e)
+    go : AllPreQuorums F s → ((i ≡ r) × (X ≡ R)) ⊎ Was s i X → PreQuorum F (push s r R ms) (X .value) (X .voted)
+    go A (inl p) = quorum-up F s _ (λ j Y m. List·Memᴰ·tail m) (X .value) (X .voted) (X .voted) (omega arith)
+        (rw (p .1) (quorum-new inside (holds h) A r t (rw (p .1) at e)))
+    go A (inr m) = quorum-up F s _ (λ j Y k. List·Memᴰ·tail k) (X .value) (X .voted) (X .voted) (omega arith) (A i X m e)
 
 -- every vote at or after the ballot of a pre-accept quorum is for its command
-pub pq-cmd : {F owner : ℕ} → owner < suc (2 * F) → {s : Sys} → Inv F owner s → AllPQ F s → (v : Value) (m : ℕ) (h : PQ F s v m) → (j c : ℕ) (u : St) (w : Value) → Vote s j c u w → h .b ≤ c → cmd w ≡ cmd v
+pub quorum-command : {F owner : ℕ} → owner < suc (2 * F) → {s : Sys} → Inv F owner s → AllPreQuorums F s → (v : Value) (m : ℕ) (h : PreQuorum F s v m) → (j c : ℕ) (u : St) (w : Value) → Vote s j c u w → h .b ≤ c → cmd w ≡ cmd v
 unfolding hist
-pq-cmd {F} {owner} inside {s} I A v m h j c u w x l =
-    cmd-votes F owner (hist I) (rules I) acc0
+quorum-command {F} {owner} inside {s} I A v m h j c u w x l =
+    cmd-votes F owner (hist I) (rules I) accept-zero
     (h .b) (cmd v) (h .set) (h .size) (λ i li q. let (u, w, y, a, e, d) = h .votes i li q in (u, w, y, e)) j c u w x l
   where
-    acc0 : (v : Value) → Vote s (lead owner 0) 0 s3 v → (w : Value) × Vote s (lead owner 0) 0 s2 w × (cmd v ≡ cmd w)
-    acc0 v x =
-        let q : PQ F s v 0 = pq-vote inside I A (lead owner 0) (lead owner 0) 0 v x in
+    accept-zero : (v : Value) → Vote s (lead owner 0) 0 s3 v → (w : Value) × Vote s (lead owner 0) 0 s2 w × (cmd v ≡ cmd w)
+    accept-zero v x =
+        let q : PreQuorum F s v 0 = quorum-of-vote inside I A (lead owner 0) (lead owner 0) 0 v x in
         let (i, li, m) = member (suc (2 * F)) (q .set) (omega (arith, q .size)) in
         let (u, w, y, a, e, d) = q .votes i li m in
         let z : q .b ≡ 0 = omega (arith, q .low) in
         pick i u w (rw z at y) a e
       where
         pick : (i : ℕ) (u : St) (w : Value) → Vote s i 0 u w → (u ≡ s1) ⊎ (u ≡ s2) → cmd w ≡ cmd v → (z : Value) × Vote s (lead owner 0) 0 s2 z × (cmd v ≡ cmd z)
-        pick i u w y (inl f) e = let (z, t, c, n) = vote-back1 I i 0 w (rw f at y) in (z, t, sym e ∙ c)
-        pick i u w y (inr f) e = (w, vote-back2 I i 0 w (rw f at y), sym e)
+        pick i u w y (inl f) e = let (z, t, c, n) = vote-added I i 0 w (rw f at y) in (z, t, sym e ∙ c)
+        pick i u w y (inr f) e = (w, vote-unchanged I i 0 w (rw f at y), sym e)

@@ -9,7 +9,7 @@ use native.Mathlib.Omega.{arith}
 use native.Mathlib.Decide.{decLt, ℕ-discrete}
 use Rattle.safety.proofs.Hist.{s4}
 use Rattle.safety.proofs.Sys.{Rec, Msg, Sys, upd, upd-cases, push, Trans}
-use Rattle.safety.proofs.Inv.{ComE, Inv}
+use Rattle.safety.proofs.Inv.{Reason, Inv}
 use Rattle.safety.proofs.Inv.Keep.{up-com}
 use Rattle.safety.proofs.Inv.Facts.{now-in}
 use Rattle.safety.proofs.Inv.Good.{good, holds}
@@ -23,24 +23,24 @@ module _ (C : Case) where
   abbrev pub GR : (ℕ → Sys) → Type 0
   GR G = GReach C G
 
-  abbrev pub Cm : (ℕ → Sys) → ℕ → Value → Type 0
-  Cm G J v = ComE F (own C J) (G J) v
+  abbrev pub Committed : (ℕ → Sys) → ℕ → Value → Type 0
+  Committed G J v = Reason F (own C J) (G J) v
 
-  same : (G : ℕ → Sys) → GR G → (J : ℕ) (v w : Value) → Cm G J v → Cm G J w → v ≡ w
+  same : (G : ℕ → Sys) → GR G → (J : ℕ) (v w : Value) → Committed G J v → Committed G J w → v ≡ w
   same G gr J v w x y = agree C gr J v w x y
 
   -- the edges of one copy's table, and of all commits
   abbrev pub Tab : (ℕ → Sys) → ℕ → ℕ → ℕ → Type 0
-  Tab G p b c = Cover C (G b .now p .val) c
+  Tab G p b c = Cover C (G b .now p .value) c
 
   abbrev pub All : (ℕ → Sys) → ℕ → ℕ → Type 0
-  All G b c = (v : Value) × Cm G b v × Cover C v c
+  All G b c = (v : Value) × Committed G b v × Cover C v c
 
   abbrev pub Mem : ℕ → List ℕ → Type 0
   Mem I m = List·Memᴰ I m
 
   abbrev pub Settled : (ℕ → Sys) → ℕ → ℕ → Type 0
-  Settled G p I = (K : ℕ) → Star (Tab G p) I K → G K .now p .st ≡ s4
+  Settled G p I = (K : ℕ) → Star (Tab G p) I K → G K .now p .status ≡ s4
 
   pub record Ready (G : ℕ → Sys) (m : List ℕ) (p I : ℕ) : Type 0 where
     pub settled : Settled G p I
@@ -63,7 +63,7 @@ module _ (C : Case) where
 
   -- what a mark leaves behind: m are the marks before it
   record Mark (G : ℕ → Sys) (I : ℕ) (m : List ℕ) : Type 0 where
-    sett : (K : ℕ) → Star (All G) I K → (v : Value) × Cm G K v
+    settled : (K : ℕ) → Star (All G) I K → (v : Value) × Committed G K v
     past : (K : ℕ) → Star (All G) I K → Star (All G) K I ⊎ Mem K m
     low : (K : ℕ) → Star (All G) I K → Star (All G) K I → K < I → Mem K m
     once : Mem I m → ⊥
@@ -73,22 +73,22 @@ module _ (C : Case) where
     cons : {I : ℕ} {m : List ℕ} → Mark G I m → Marks G m → Marks G (I ∷ m)
 
   -- growth of the commits
-  module _ (G H : ℕ → Sys) (hr : GR H) (up : (K : ℕ) (v : Value) → Cm G K v → Cm H K v) where
+  module _ (G H : ℕ → Sys) (hr : GR H) (up : (K : ℕ) (v : Value) → Committed G K v → Committed H K v) where
     edge-up : (b c : ℕ) → All G b c → All H b c
     edge-up b c e = (e .0, up b (e .0) (e .1), e .2)
 
     star-up : {b c : ℕ} → Star (All G) b c → Star (All H) b c
     star-up p = star-map2 (λ b c q e. edge-up b c e) p
 
-    star-down : {I K : ℕ} → ((L : ℕ) → Star (All G) I L → (v : Value) × Cm G L v) → Star (All H) I K → Star (All G) I K
-    star-down {I} sett p = star-map (λ b c q e. let (v, x) = sett b q in
+    star-down : {I K : ℕ} → ((L : ℕ) → Star (All G) I L → (v : Value) × Committed G L v) → Star (All H) I K → Star (All G) I K
+    star-down {I} settled p = star-map (λ b c q e. let (v, x) = settled b q in
         (v, x, rw (same H hr b (e .0) v (e .1) (up b v x)) at (e .2))) p
 
     mark-up : (I : ℕ) (m : List ℕ) → Mark G I m → Mark H I m
     mark-up I m k = record {
-      sett = λ K p. let (v, x) = k .sett K (star-down (k .sett) p) in (v, up K v x);
-      past = λ K p. ⊎-elim (λ q. inl (star-up q)) (λ q. inr q) (k .past K (star-down (k .sett) p));
-      low = λ K p q l. let a = star-down (k .sett) p in k .low K a (star-down (λ L r. k .sett L (star-trans a r)) q) l;
+      settled = λ K p. let (v, x) = k .settled K (star-down (k .settled) p) in (v, up K v x);
+      past = λ K p. ⊎-elim (λ q. inl (star-up q)) (λ q. inr q) (k .past K (star-down (k .settled) p));
+      low = λ K p q l. let a = star-down (k .settled) p in k .low K a (star-down (λ L r. k .settled L (star-trans a r)) q) l;
       once = k .once;
     }
 
@@ -99,26 +99,26 @@ module _ (C : Case) where
   -- a step only adds commits
   com-up : (G : ℕ → Sys) → GR G → (I r : ℕ) (R : Rec) (ms : List Msg)
       → Trans F (own C I) (Req C I) (G I) r (G I .now r) R ms
-      → (K : ℕ) (v : Value) → Cm G K v → Cm (upd G I (push (G I) r R ms)) K v
-  com-up G gr I r R ms t K v x = upd-cases (λ (S : Sys). ComE F (own C K) S v) G I (push (G I) r R ms) K
-      (λ e. rw e (up-com (G I) r R ms (good iv r t .g-le) v (rw e at x))) (λ n. x)
+      → (K : ℕ) (v : Value) → Committed G K v → Committed (upd G I (push (G I) r R ms)) K v
+  com-up G gr I r R ms t K v x = upd-cases (λ (S : Sys). Reason F (own C K) S v) G I (push (G I) r R ms) K
+      (λ e. rw e (up-com (G I) r R ms (good iv r t .older) v (rw e at x))) (λ n. x)
     where
       iv : Inv F (own C I) (G I)
       iv = holds (alone C gr I)
 
   -- where I is settled at p, p's table shows what all commits show
   module _ (G : ℕ → Sys) (gr : GR G) (p I : ℕ) (st : Settled G p I) where
-    com-at : (K : ℕ) → G K .now p .st ≡ s4 → Cm G K (G K .now p .val)
-    com-at K e = iv .coms p (G K .now p) (now-in iv p (λ f. clash (cc))) e
+    com-at : (K : ℕ) → G K .now p .status ≡ s4 → Committed G K (G K .now p .value)
+    com-at K e = iv .reasons p (G K .now p) (now-in iv p (λ f. clash (cc))) e
       where
         iv : Inv F (own C K) (G K)
         iv = holds (alone C gr K)
 
     out : {K : ℕ} → Star (Tab G p) I K → Star (All G) I K
-    out q = star-map2 (λ b c r e. (G b .now p .val, com-at b (st b r), e)) q
+    out q = star-map2 (λ b c r e. (G b .now p .value, com-at b (st b r), e)) q
 
     back : {K : ℕ} → Star (All G) I K → Star (Tab G p) I K
-    back q = star-map (λ b c r e. rw (same G gr b (e .0) (G b .now p .val) (e .1) (com-at b (st b r))) at (e .2)) q
+    back q = star-map (λ b c r e. rw (same G gr b (e .0) (G b .now p .value) (e .1) (com-at b (st b r))) at (e .2)) q
 
     on-settled : (K : ℕ) → Star (Tab G p) I K → Settled G p K
     on-settled K a L q = st L (star-trans a q)
@@ -134,7 +134,7 @@ module _ (C : Case) where
 
   mark-new : (G : ℕ → Sys) → GR G → (m : List ℕ) (p I : ℕ) → Ready G m p I → ((K : ℕ) → Ready G m p K → I ≤ K) → Mark G I m
   mark-new G gr m p I rd lw = record {
-    sett = λ K q. (G K .now p .val, com-at G gr p I st K (st K (back G gr p I st q)));
+    settled = λ K q. (G K .now p .value, com-at G gr p I st K (st K (back G gr p I st q)));
     past = λ K q. let a = back G gr p I st q in ⊎-elim (λ r. inl (out G gr p K (on-settled G gr p I st K a) r)) (λ r. inr r) (rd .done K a);
     low = λ K q r l. lowest K q r l (mem? K m);
     once = rd .fresh;
@@ -190,7 +190,7 @@ module _ (C : Case) where
       go (cons a r) (below k) = go r k
 
   -- copies mark interfering commands in the same order
-  pub same-order : {G : ℕ → Sys} {M : ℕ → List ℕ} → MReach G M → (p q I J : ℕ) → (I ≡ J → ⊥) → (v w : Value) → Cm G I v → Cm G J w → Interf (cmd v) (cmd w)
+  pub same-order : {G : ℕ → Sys} {M : ℕ → List ℕ} → MReach G M → (p q I J : ℕ) → (I ≡ J → ⊥) → (v w : Value) → Committed G I v → Committed G J w → Interf (cmd v) (cmd w)
       → Before I J (M p) → Before J I (M q) → ⊥
   same-order {G} {M} h p q I J n v w x y it bp bq =
       let (a, ma, na) = earlier G I J (all-marks h p) bp in

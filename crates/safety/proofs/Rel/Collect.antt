@@ -59,11 +59,11 @@ module _ (F c : ℕ) (l7 : c < 7) (fit : F ≤ 3) (r : Record) (A : Rec) (rel : 
       go (yes e) = inl e
       go (no n) = inr (n, ⊎-elim (λ e. absurd (n (eqb-eq i q e))) (λ e. e) (or-cases (eqb i q) (member i (r .set)) (sym (with-q i li) ∙ m)))
 
-  pub rel-collect : (reps : ℕ → Reply) → length (v .deps) ≡ 7 → (A .ph ≡ preparing → Tells v (reps q)) → (A .ph ≡ prephase → reps q .val .deps ≡ v .deps)
-      → ((i : ℕ) → (i ≡ q → ⊥) → reps i ≡ A .reps i) → (c ≡ q → ⊥)
-      → Rel F c (collect r q v) (mk (A .joined) (A .voted) (A .st) (A .val) (A .ph) (upd (A .got) q true) reps)
+  pub rel-collect : (replies : ℕ → Reply) → length (v .deps) ≡ 7 → (A .phase ≡ preparing → Tells v (replies q)) → (A .phase ≡ prephase → replies q .value .deps ≡ v .deps)
+      → ((i : ℕ) → (i ≡ q → ⊥) → replies i ≡ A .replies i) → (c ≡ q → ⊥)
+      → Rel F c (collect r q v) (mk (A .joined) (A .voted) (A .status) (A .value) (A .phase) (upd (A .got) q true) replies)
   unfolding collect
-  rel-collect reps lv tl ad old nc = record {
+  rel-collect replies lv tl ad old nc = record {
     joined = rel .joined;
     voted = rel .voted;
     status = rel .status;

@@ -40,8 +40,8 @@ module _ (F o : ℕ) (fit : F ≤ 3) (pos : 0 < F) (lo : o < suc (2 * F)) (r : R
   abbrev pub Q : ℕ → Bool
   Q = within F fit (λ i. member i (r .set))
 
-  abbrev pub Dec' : Outcome → Type 0
-  Dec' x = Decided F o Q a x
+  abbrev pub Decides : Outcome → Type 0
+  Decides x = Decided F o Q a x
 
   q-in : (i : ℕ) → Q i ≡ true → (i < 7) × (member i (r .set) ≡ true)
   q-in i t = (ltb-lt i 7 (and-l _ (member i (r .set)) t), and-r (ltb i 7) _ t)
@@ -54,7 +54,7 @@ module _ (F o : ℕ) (fit : F ≤ 3) (pos : 0 < F) (lo : o < suc (2 * F)) (r : R
     q : Q i ≡ true
     n : i < suc (2 * F)
     t : Tells (toldBy r i) (a i)
-    some : 1 ≤ num (a i .st)
+    some : 1 ≤ num (a i .status)
 
   of-voter : (i : ℕ) → i < 7 → voter r i ≡ true → Voted i
   of-voter i l v =
@@ -62,10 +62,10 @@ module _ (F o : ℕ) (fit : F ≤ 3) (pos : 0 < F) (lo : o < suc (2 * F)) (r : R
       let t : Tells (toldBy r i) (a i) = tells i l m in
       record { q = in-q i l m; n = bound i l m; t = t; some = omega (arith, t .status, leb-le 1 (toldBy r i .status) (and-r (member i (r .set)) _ v)) }
 
-  is-voter : (i : ℕ) → Q i ≡ true → (a i .st ≡ s0 → ⊥) → voter r i ≡ true
+  is-voter : (i : ℕ) → Q i ≡ true → (a i .status ≡ s0 → ⊥) → voter r i ≡ true
   is-voter i t n =
       let (l, m) = q-in i t in
-      let z : num (a i .st) ≡ 0 → ⊥ = λ e. n (st-eq (a i .st) s0 e) in
+      let z : num (a i .status) ≡ 0 → ⊥ = λ e. n (st-eq (a i .status) s0 e) in
       and-in _ _ m (leb-in 1 (toldBy r i .status) (omega (arith, tells i l m .status, z)))
 
   top-ge : (i : ℕ) → i < 7 → voter r i ≡ true → toldBy r i .voted ≤ topVoted r
@@ -93,60 +93,60 @@ module _ (F o : ℕ) (fit : F ≤ 3) (pos : 0 < F) (lo : o < suc (2 * F)) (r : R
           by false v q = low (sym q)
 
   no-accept : eqb (those (topAccepter r)) 0 ≡ true → NoAcc F o Q a (topVoted r)
-  no-accept e i l t ev es =
+  no-accept e i l t voted-at accepted-at =
       let (l7, m) = q-in i t in
       let w = tells i l7 m in
       tf (topAccepter r i)
-      (and-in _ _ (and-in _ _ (is-voter i t (λ f. clash (cc))) (eqb-same _ _ (sym (w .voted) ∙ ev))) (eqb-same (toldBy r i .status) 3 (sym (w .status) ∙ ap num es)))
+      (and-in _ _ (and-in _ _ (is-voter i t (λ f. clash (cc))) (eqb-same _ _ (sym (w .voted) ∙ voted-at))) (eqb-same (toldBy r i .status) 3 (sym (w .status) ∙ ap num accepted-at)))
       (none-those (topAccepter r) e i l7)
 
   -- the copies with status 2
-  two-told : (i : ℕ) → i < 7 → sameVoter r i ≡ true → both (Q i) (is2 (a i .st)) ≡ true
+  two-told : (i : ℕ) → i < 7 → sameVoter r i ≡ true → both (Q i) (is2 (a i .status)) ≡ true
   two-told i l v =
       let w = of-voter i l (and-l _ (eqb (toldBy r i .status) 2) v) in
-      let e : a i .st ≡ s2 = st-eq (a i .st) s2 (w .t .status ∙ eqb-eq (toldBy r i .status) 2 (and-r (voter r i) _ v)) in
+      let e : a i .status ≡ s2 = st-eq (a i .status) s2 (w .t .status ∙ eqb-eq (toldBy r i .status) 2 (and-r (voter r i) _ v)) in
       rw (w .q, e) refl
 
-  told-two : (i : ℕ) → both (Q i) (is2 (a i .st)) ≡ true → sameVoter r i ≡ true
+  told-two : (i : ℕ) → both (Q i) (is2 (a i .status)) ≡ true → sameVoter r i ≡ true
   told-two i t =
-      let (qi, ti) = both-true (Q i) (is2 (a i .st)) t in
+      let (qi, ti) = both-true (Q i) (is2 (a i .status)) t in
       let (l7, m) = q-in i qi in
-      let z : num (a i .st) ≡ 2 = two-is (a i .st) ti in
+      let z : num (a i .status) ≡ 2 = two-is (a i .status) ti in
       and-in _ _ (is-voter i qi (λ f. absurd (omega (arith, ap num f, z)))) (eqb-same (toldBy r i .status) 2 (sym (tells i l7 m .status) ∙ z))
 
   twos-ge : cnt 7 (sameVoter r) ≤ twos F o Q a
   twos-ge = omega (
     arith,
     among F fit (sameVoter r) (λ i l v. of-voter i l (and-l _ (eqb (toldBy r i .status) 2) v) .n),
-    cnt-mono (suc (2 * F)) (within F fit (sameVoter r)) (λ i. both (Q i) (is2 (a i .st))) (λ i l v. two-told i (ltb-lt i 7 (and-l _ (sameVoter r i) v)) (and-r (ltb i 7) _ v)),
+    cnt-mono (suc (2 * F)) (within F fit (sameVoter r)) (λ i. both (Q i) (is2 (a i .status))) (λ i l v. two-told i (ltb-lt i 7 (and-l _ (sameVoter r i) v)) (and-r (ltb i 7) _ v)),
   )
 
   twos-le : twos F o Q a ≤ cnt 7 (sameVoter r)
   twos-le =
       let e : suc (2 * F) + (7 - suc (2 * F)) ≡ 7 = omega arith in
       let h : cnt (suc (2 * F)) (sameVoter r) ≤ cnt 7 (sameVoter r) = rw e at (cnt-more (suc (2 * F)) (7 - suc (2 * F)) (sameVoter r)) in
-      omega (arith, cnt-mono (suc (2 * F)) (λ i. both (Q i) (is2 (a i .st))) (sameVoter r) (λ i l t. told-two i t))
+      omega (arith, cnt-mono (suc (2 * F)) (λ i. both (Q i) (is2 (a i .status))) (sameVoter r) (λ i l t. told-two i t))
 
   abbrev Chosen : ℕ → Command → Type 0
-  Chosen x k = ((x < 7) × Dec' (accept (valueOf (toldBy r x)))) ⊎ ((x ≡ 7) × Dec' (afresh k))
+  Chosen x k = ((x < 7) × Decides (accept (valueOf (toldBy r x)))) ⊎ ((x ≡ 7) × Decides (afresh k))
 
-  case-none : eqb (those (voter r)) 0 ≡ true → Dec' (afresh noop)
+  case-none : eqb (those (voter r)) 0 ≡ true → Decides (afresh noop)
   case-none e = none-voted (λ i l t.
       let (l7, m) = q-in i t in
-      ⊎-elim (λ z. st-eq (a i .st) s0 z) (λ z. tf (voter r i) (and-in _ _ m (leb-in 1 (toldBy r i .status) (omega (arith, tells i l7 m .status)))) (none-those (voter r) e i l7)) (zero-or (num (a i .st))))
+      ⊎-elim (λ z. st-eq (a i .status) s0 z) (λ z. tf (voter r i) (and-in _ _ m (leb-in 1 (toldBy r i .status) (omega (arith, tells i l7 m .status)))) (none-those (voter r) e i l7)) (zero-or (num (a i .status))))
     where
       zero-or : (x : ℕ) → (x ≡ 0) ⊎ (1 ≤ x)
       zero-or zero = inl refl
       zero-or (suc x) = inr (omega arith)
 
-  case-accept : (x : ℕ) → x < 7 → topAccepter r x ≡ true → Dec' (accept (valueOf (toldBy r x)))
+  case-accept : (x : ℕ) → x < 7 → topAccepter r x ≡ true → Decides (accept (valueOf (toldBy r x)))
   case-accept x l v =
       let tv = and-l _ (eqb (toldBy r x .status) 3) v in
       let w = of-voter x l (and-l _ (eqb (toldBy r x .voted) (topVoted r)) tv) in
       rw (w .t .value) at (accepted (topVoted r) x top (w .n) (w .q) (w .t .voted ∙ eqb-eq _ _ (and-r (voter r x) _ tv))
-      (st-eq (a x .st) s3 (w .t .status ∙ eqb-eq (toldBy r x .status) 3 (and-r (topVoter r x) _ v))))
+      (st-eq (a x .status) s3 (w .t .status ∙ eqb-eq (toldBy r x .status) 3 (and-r (topVoter r x) _ v))))
 
-  case-fast : eqb (those (topAccepter r)) 0 ≡ true → maybeFast (suc (2 * F)) o r ≡ true → (lowest (sameVoter r) < 7) × Dec' (accept (valueOf (toldBy r (lowest (sameVoter r)))))
+  case-fast : eqb (those (topAccepter r)) 0 ≡ true → maybeFast (suc (2 * F)) o r ≡ true → (lowest (sameVoter r) < 7) × Decides (accept (valueOf (toldBy r (lowest (sameVoter r)))))
   unfolding maybeFast
   case-fast e f =
       let z : topVoted r ≡ 0 = eqb-eq _ _ (and-l _ (not (member o (r .set))) (and-l _ (leb (faults (suc (2 * F))) (count (those (sameVoter r)))) f)) in
@@ -156,17 +156,17 @@ module _ (F o : ℕ) (fit : F ≤ 3) (pos : 0 < F) (lo : o < suc (2 * F)) (r : R
       let (l, v) = lowest-any (sameVoter r) i li vi in
       (l, by z out big (lowest (sameVoter r)) l v)
     where
-      by : topVoted r ≡ 0 → member o (r .set) ≡ false → F ≤ cnt 7 (sameVoter r) → (x : ℕ) → x < 7 → sameVoter r x ≡ true → Dec' (accept (valueOf (toldBy r x)))
+      by : topVoted r ≡ 0 → member o (r .set) ≡ false → F ≤ cnt 7 (sameVoter r) → (x : ℕ) → x < 7 → sameVoter r x ≡ true → Decides (accept (valueOf (toldBy r x)))
       by z out big x l v =
           let w = of-voter x l (and-l _ (eqb (toldBy r x .status) 2) v) in
           rw (w .t .value) at (fast x (rw z at top) (rw z at (no-accept e)) (rw out (no-and (ltb o 7))) (omega (arith, twos-ge)) (w .n) (w .q)
-          (omega (arith, w .t .voted, top-ge x l (and-l _ (eqb (toldBy r x .status) 2) v))) (st-eq (a x .st) s2 (w .t .status ∙ eqb-eq (toldBy r x .status) 2 (and-r (voter r x) _ v))))
+          (omega (arith, w .t .voted, top-ge x l (and-l _ (eqb (toldBy r x .status) 2) v))) (st-eq (a x .status) s2 (w .t .status ∙ eqb-eq (toldBy r x .status) 2 (and-r (voter r x) _ v))))
         where
           no-and : (b : Bool) → (b && false) ≡ false
           no-and true = refl
           no-and false = refl
 
-  case-afresh : eqb (those (voter r)) 0 ≡ false → eqb (those (topAccepter r)) 0 ≡ true → maybeFast (suc (2 * F)) o r ≡ false → Dec' (afresh (toldBy r (lowest (topVoter r)) .command))
+  case-afresh : eqb (those (voter r)) 0 ≡ false → eqb (those (topAccepter r)) 0 ≡ true → maybeFast (suc (2 * F)) o r ≡ false → Decides (afresh (toldBy r (lowest (topVoter r)) .command))
   unfolding maybeFast
   case-afresh e0 e f =
       let (i, li, vi) = at-top e0 in
@@ -178,7 +178,7 @@ module _ (F o : ℕ) (fit : F ≤ 3) (pos : 0 < F) (lo : o < suc (2 * F)) (r : R
           let out : member o (r .set) ≡ false = (rw (ltb-in o 7 (omega arith)) at qo) in
           tf (maybeFast (suc (2 * F)) o r) (and-in _ _ (and-in _ _ (eqb-same _ _ z) (rw out refl)) (leb-in (faults (suc (2 * F))) (ones (those (sameVoter r))) (omega (arith, ones-those (sameVoter r), twos-le)))) f
 
-      by : (x : ℕ) → x < 7 → topVoter r x ≡ true → Dec' (afresh (toldBy r x .command))
+      by : (x : ℕ) → x < 7 → topVoter r x ≡ true → Decides (afresh (toldBy r x .command))
       by x l v =
           let w = of-voter x l (and-l _ (eqb (toldBy r x .voted) (topVoted r)) v) in
           rw (w .t .value) at (anew (topVoted r) x top (no-accept e) never (w .n) (w .q) (λ q. absurd (omega (arith, ap num q, w .some)), w .t .voted ∙ eqb-eq _ _ (and-r (voter r x) _ v)))

@@ -46,10 +46,10 @@ module _ (p : Spot) where
 
   module _ (seen : Command → List ℕ) (ls : (k : Command) → length (seen k) ≡ 7) (cov : (k : Command) (d : List ℕ) → Under (seen k) d → Cov (val k d)) where
     -- with replies that each tell what is known of a copy
-    module _ (g : ℕ → Bool) (a : ℕ → Reply) (r' : Record) (rel' : Rel F c r' (mk (A .joined) (A .voted) (A .st) (A .val) (A .ph) g a)) (mk' : r' .mark ≡ r .mark)
-        (ph : A .ph ≡ preparing) (has : (i : ℕ) → i < 7 → member i (r' .set) ≡ true → HasPrep S A i (a i)) where
+    module _ (g : ℕ → Bool) (a : ℕ → Reply) (r' : Record) (rel' : Rel F c r' (mk (A .joined) (A .voted) (A .status) (A .value) (A .phase) g a)) (mk' : r' .mark ≡ r .mark)
+        (phase : A .phase ≡ preparing) (has : (i : ℕ) → i < 7 → member i (r' .set) ≡ true → HasPrep S A i (a i)) where
       abbrev P : ℕ → Bool
-      P = Q F o fit pos lo r' a (rel' .bound) (rel' .told ph)
+      P = Q F o fit pos lo r' a (rel' .bound) (rel' .told phase)
 
       enough : quorum n r' ≡ true → suc F ≤ cnt n P
       unfolding quorum
@@ -60,13 +60,13 @@ module _ (p : Spot) where
 
       to-decided : quorum n r' ≡ true → Goal (decide n c o j r' (seen (afreshCommand r')))
       unfolding decide accepting afresh
-      to-decided e = go (chosen F o fit pos lo r' a (rel' .bound) (rel' .told ph))
+      to-decided e = go (chosen F o fit pos lo r' a (rel' .bound) (rel' .told phase))
         where
           go : ((acceptedFrom n o r' < 7) × Decided F o P a (o-accept (valueOf (toldBy r' (acceptedFrom n o r'))))) ⊎ ((acceptedFrom n o r' ≡ 7) × Decided F o P a (o-afresh (afreshCommand r')))
               → Goal (decide n c o j r' (seen (afreshCommand r')))
           go (inl (l, d)) = by-cond Goal (ltb (acceptedFrom n o r') 7)
-              (λ t. moved (mk (A .joined) (A .joined) s3 v accphase nobody (A .reps)) (mAcc (A .joined) v ∷ [])
-              (decide-accept v ph P a (enough e) each d)
+              (λ t. moved (mk (A .joined) (A .joined) s3 v accphase nobody (A .replies)) (mAcc (A .joined) v ∷ [])
+              (decide-accept v phase P a (enough e) each d)
               (rel-begun F c (seven p) (r' .joined) _ (r' .mark) 3 _ (rel' .joined) (rel' .joined) refl refl (rel' .lens (acceptedFrom n o r')) refl (λ f. clash (cc)) refl)
               mk' (takes refl) (spoken refl refl (rel' .lens (acceptedFrom n o r'), List·Memᴰ·head (ap (λ (b : ℕ). mAcc b v) (sym (rel' .joined))))))
               (λ t. tf (ltb (acceptedFrom n o r') 7) (ltb-in _ _ l) t)
@@ -74,8 +74,8 @@ module _ (p : Spot) where
               v : Value
               v = valueOf (toldBy r' (acceptedFrom n o r'))
           go (inr (q, d)) = by-cond Goal (ltb (acceptedFrom n o r') 7) (λ t. absurd (omega (arith, ltb-lt (acceptedFrom n o r') 7 t)))
-              (λ t. moved (mk (A .joined) (A .joined) s2 v prephase nobody (A .reps)) (mPre (A .joined) v ∷ [])
-              (decide-afresh (afreshCommand r') v ph P a (enough e) each d refl)
+              (λ t. moved (mk (A .joined) (A .joined) s2 v prephase nobody (A .replies)) (mPre (A .joined) v ∷ [])
+              (decide-afresh (afreshCommand r') v phase P a (enough e) each d refl)
               (rel-begun F c (seven p) (r' .joined) _ (r' .mark) 2 _ (rel' .joined) (rel' .joined) refl refl (ls (afreshCommand r')) refl (λ f. clash (cc)) refl)
               mk' (counts (cov (afreshCommand r') (seen (afreshCommand r')) (under-refl (seen (afreshCommand r')))))
               (spoken refl refl (ls (afreshCommand r'), List·Memᴰ·head (ap (λ (b : ℕ). mPre b v) (sym (rel' .joined))))))
@@ -86,29 +86,29 @@ module _ (p : Spot) where
     pub on-prepareok : (m : Message) → m .from < n → (c ≡ m .from → ⊥) → length (m .deps) ≡ 7 → (x : Reply) → Tells (voteIn m) x → Sent S (mPrepOK (m .from) (m .ballot) x)
         → Goal (onPrepareOk n c o j r m seen)
     unfolding onPrepareOk preparedBy collect
-    on-prepareok m lq nc lm x tl se = by-cond Goal (awaited 1 r m)
-        (λ aw. go aw (ph-eq (A .ph) preparing (in-phase p 1 m aw)) (Memᴰ·cast (ap (λ (b : ℕ). mPrepOK (m .from) b x) (sym (at-ballot p 1 m aw))) se))
+    on-prepareok m lq nc lm x tl sent = by-cond Goal (awaited 1 r m)
+        (λ aw. go aw (ph-eq (A .phase) preparing (in-phase p 1 m aw)) (Memᴰ·cast (ap (λ (b : ℕ). mPrepOK (m .from) b x) (sym (at-ballot p 1 m aw))) sent))
         (λ aw. still p)
       where
         q : ℕ
         q = m .from
 
         a : ℕ → Reply
-        a = upd (A .reps) q x
+        a = upd (A .replies) q x
 
-        old : (i : ℕ) → (i ≡ q → ⊥) → a i ≡ A .reps i
-        old i n = upd-cases (λ (y : Reply). y ≡ A .reps i) (A .reps) q x i (λ e. absurd (n e)) (λ e. refl)
+        old : (i : ℕ) → (i ≡ q → ⊥) → a i ≡ A .replies i
+        old i n = upd-cases (λ (y : Reply). y ≡ A .replies i) (A .replies) q x i (λ e. absurd (n e)) (λ e. refl)
 
-        go : awaited 1 r m ≡ true → A .ph ≡ preparing → Sent S (mPrepOK q (A .joined) x) → Goal (preparedBy n c o j (collect r q (voteIn m)) seen)
-        go aw ph se = by-cond Goal (quorum n (collect r q (voteIn m))) (to-decided (upd (A .got) q true) a (collect r q (voteIn m)) rl refl ph has)
-            (λ t. moved _ [] (collect-prep q x se ph) rl refl (kept refl refl refl) (quiet (λ X. tt)))
+        go : awaited 1 r m ≡ true → A .phase ≡ preparing → Sent S (mPrepOK q (A .joined) x) → Goal (preparedBy n c o j (collect r q (voteIn m)) seen)
+        go aw phase sent = by-cond Goal (quorum n (collect r q (voteIn m))) (to-decided (upd (A .got) q true) a (collect r q (voteIn m)) rl refl phase has)
+            (λ t. moved _ [] (collect-prep q x sent phase) rl refl (kept refl refl refl) (quiet (λ X. tt)))
           where
             nw : member q (r .set) ≡ false
             nw = new-sender p 1 m aw
 
-            rl : Rel F c (collect r q (voteIn m)) (mk (A .joined) (A .voted) (A .st) (A .val) (A .ph) (upd (A .got) q true) a)
-            rl = rel-collect F c (seven p) fit r A rel q lq nw (voteIn m) a lm (λ e. rw (upd-same (A .reps) q x) tl) (λ e. clash (cc ph)) old nc
+            rl : Rel F c (collect r q (voteIn m)) (mk (A .joined) (A .voted) (A .status) (A .value) (A .phase) (upd (A .got) q true) a)
+            rl = rel-collect F c (seven p) fit r A rel q lq nw (voteIn m) a lm (λ e. rw (upd-same (A .replies) q x) tl) (λ e. clash (cc phase)) old nc
 
             has : (i : ℕ) → i < 7 → member i (collect r q (voteIn m) .set) ≡ true → HasPrep S A i (a i)
-            has i li t = ⊎-elim (λ e. inr (rw e (rw (upd-same (A .reps) q x) se))) (λ h. inl (rel .got i li ∙ h .1, sym (old i (h .0))))
+            has i li t = ⊎-elim (λ e. inr (rw e (rw (upd-same (A .replies) q x) sent))) (λ h. inl (rel .got i li ∙ h .1, sym (old i (h .0))))
                 (of-with F c (seven p) fit r A rel q lq nw (voteIn m) i li t)

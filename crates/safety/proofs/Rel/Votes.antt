@@ -43,16 +43,16 @@ use Rattle.safety.proofs.Rel.{num, st-eq, val, Rel, rel-begun, quiet, s
 pub blank-facts : (r : Record) → isBlank r ≡ true → (r .joined ≡ 0) × (r .vote .status ≡ 0) × (r .mark ≡ 0)
 unfolding isBlank sameVote
 blank-facts r bl =
-    let b1 = and-l _ (allBelow 7 (λ q. sameVote (getD (r .replies) q noVote) noVote)) bl in
-    let b2 = and-l _ (eqb (r .set) 0) b1 in
-    let b3 = and-l _ (eqb (r .phase) 0) b2 in
-    let b4 = and-l _ (eqb (r .mark) 0) b3 in
-    let v1 = and-r (eqb (r .joined) 0) (sameVote (r .vote) noVote) b4 in
-    let v2 = and-l _ (sameDeps (r .vote .deps) noDeps) v1 in
-    let v3 = and-l _ (sameCommand (r .vote .command) noop) v2 in (
-      eqb-eq _ _ (and-l _ (sameVote (r .vote) noVote) b4),
-      eqb-eq (r .vote .status) 0 (and-r (eqb (r .vote .voted) 0) _ v3),
-      eqb-eq (r .mark) 0 (and-r (eqb (r .joined) 0 && sameVote (r .vote) noVote) _ b3),
+    let but-replies = and-l _ (allBelow 7 (λ q. sameVote (getD (r .replies) q noVote) noVote)) bl in
+    let but-set = and-l _ (eqb (r .set) 0) but-replies in
+    let but-phase = and-l _ (eqb (r .phase) 0) but-set in
+    let but-mark = and-l _ (eqb (r .mark) 0) but-phase in
+    let own = and-r (eqb (r .joined) 0) (sameVote (r .vote) noVote) but-mark in
+    let but-deps = and-l _ (sameDeps (r .vote .deps) noDeps) own in
+    let but-command = and-l _ (sameCommand (r .vote .command) noop) but-deps in (
+      eqb-eq _ _ (and-l _ (sameVote (r .vote) noVote) but-mark),
+      eqb-eq (r .vote .status) 0 (and-r (eqb (r .vote .voted) 0) _ but-command),
+      eqb-eq (r .mark) 0 (and-r (eqb (r .joined) 0 && sameVote (r .vote) noVote) _ but-phase),
     )
 
 module _ (p : Spot) where
@@ -64,8 +64,8 @@ module _ (p : Spot) where
   abbrev Goal : Step → Type 0
   Goal = Ref p
 
-  vj : A .voted ≤ A .joined
-  vj = loc-now I c .vj
+  voted-joined : A .voted ≤ A .joined
+  voted-joined = loc-now I c .voted-joined
 
   -- a lower ballot is refused, a committed record tells its commit
   or-refused : (m : Message) {x : Step} → (isCommitted r ≡ false → A .joined ≤ m .ballot → Goal x)
@@ -76,17 +76,17 @@ module _ (p : Spot) where
   pub on-prepare : (m : Message) → Goal (prepare c o j r m)
   unfolding prepare
   on-prepare m = or-refused m λ e l. by-cond Goal (eqb (r .vote .voted) (m .ballot)) (λ q. still p)
-      (λ q. moved (mk (m .ballot) (A .voted) (A .st) (A .val) idle nobody (A .reps)) (mPrepOK c (m .ballot) (reply-of A) ∷ [])
-      (promise (m .ballot) l (omega (arith, vj, rel .voted, eqb-ne (r .vote .voted) (m .ballot) q)) (open-st rel e))
+      (λ q. moved (mk (m .ballot) (A .voted) (A .status) (A .value) idle nobody (A .replies)) (mPrepOK c (m .ballot) (reply-of A) ∷ [])
+      (promise (m .ballot) l (omega (arith, voted-joined, rel .voted, eqb-ne (r .vote .voted) (m .ballot) q)) (open-st rel e))
       (rel-begun F c (seven p) (m .ballot) (r .vote) (r .mark) 0 _ refl (rel .voted) (rel .status) (rel .value) (rel .len) refl (λ f. clash (cc)) refl)
       refl (kept refl refl refl)
-      (spoken refl refl (rel .len, (A .st, rel .status, List·Memᴰ·head (ap (mPrepOK c (m .ballot)) (λ i. record { voted = sym (rel .voted) i; st = A .st; val = sym (rel .value) i }))))))
+      (spoken refl refl (rel .len, (A .status, rel .status, List·Memᴰ·head (ap (mPrepOK c (m .ballot)) (λ i. record { voted = sym (rel .voted) i; status = A .status; value = sym (rel .value) i }))))))
 
   -- a PreAccept from the lead of its ballot, who is another copy
-  module _ (m : Message) (k : Command) (nl : lead o (m .ballot) ≡ c → ⊥) (ml : length (m .deps) ≡ 7) where
+  module _ (m : Message) (k : Command) (not-lead : lead o (m .ballot) ≡ c → ⊥) (ml : length (m .deps) ≡ 7) where
     -- the vote was cast before: it is told again
     told-again : votedAt r (m .ballot) ≡ true → leb (r .vote .status) 2 ≡ true → Goal (preAcceptOk c o j m r)
-    told-again v t = go (A .st) refl
+    told-again v t = go (A .status) refl
       where
         at : r .vote .voted ≡ m .ballot
         at = eqb-eq _ _ (and-r (leb 1 (r .vote .status)) _ v)
@@ -97,11 +97,11 @@ module _ (p : Spot) where
         high : r .vote .status ≤ 2
         high = leb-le _ _ t
 
-        told : Says c A (mPreOK c (A .voted) (A .val)) → Goal (preAcceptOk c o j m r)
-        told s = moved A (mPreOK c (A .voted) (A .val) ∷ []) (repeat (mPreOK c (A .voted) (A .val)) s) rel refl (kept refl refl refl)
+        told : Says c A (mPreOK c (A .voted) (A .value)) → Goal (preAcceptOk c o j m r)
+        told s = moved A (mPreOK c (A .voted) (A .value) ∷ []) (repeat (mPreOK c (A .voted) (A .value)) s) rel refl (kept refl refl refl)
             (spoken refl refl (rel .len, (r .vote .command, List·Memᴰ·head (λ i. mPreOK c (sym (rel .voted ∙ at) i) (sym (rel .value) i)))))
 
-        go : (u : St) → A .st ≡ u → Goal (preAcceptOk c o j m r)
+        go : (u : St) → A .status ≡ u → Goal (preAcceptOk c o j m r)
         go s0 e = absurd (omega (arith, rel .status, ap num e, low))
         go s1 e = told (say-ok1 e)
         go s2 e = told (say-ok2 e)
@@ -110,7 +110,7 @@ module _ (p : Spot) where
 
     pub on-preaccept : Sent S (mPre (m .ballot) (val k (m .deps))) → (seen : List ℕ) → ((d : List ℕ) → Under seen d → Cov (val k d)) → Goal (preAccept c o j r m k seen)
     unfolding preAccept
-    on-preaccept se seen cov = or-refused m λ e l. by-cond Goal (votedAt r (m .ballot))
+    on-preaccept sent seen cov = or-refused m λ e l. by-cond Goal (votedAt r (m .ballot))
         (λ v. by-cond Goal (leb (r .vote .status) 2) (told-again v) (λ t. still p))
         (λ v. new e l v (sameDeps d (m .deps)) refl)
       where
@@ -122,46 +122,46 @@ module _ (p : Spot) where
           where
             go : (x : Bool) → leb 1 (r .vote .status) ≡ x → (y : Bool) → eqb (r .vote .voted) (m .ballot) ≡ y → (x && y) ≡ false → Fresh A (m .ballot)
             go true p true q h = clash (cc)
-            go true p false q h = inr (omega (arith, vj, rel .voted, eqb-ne (r .vote .voted) (m .ballot) q))
-            go false p y q h = inl (st-eq (A .st) s0 (omega (arith, rel .status, leb-gt 1 (r .vote .status) p)))
+            go true p false q h = inr (omega (arith, voted-joined, rel .voted, eqb-ne (r .vote .voted) (m .ballot) q))
+            go false p y q h = inl (st-eq (A .status) s0 (omega (arith, rel .status, leb-gt 1 (r .vote .status) p)))
 
         new : isCommitted r ≡ false → A .joined ≤ m .ballot → votedAt r (m .ballot) ≡ false → (b : Bool) → sameDeps d (m .deps) ≡ b
             → Goal (preAcceptOk c o j m (Rattle.rules.specs.Step.idle (m .ballot) (record { voted = m .ballot; status = cond b 2 1; command = k; deps = d }) (r .mark)))
         new e l v true q =
             let de : m .deps ≡ d = sym (sameDeps-eq d (m .deps) (join-seven (m .deps) seen) ml q) in
-            moved (mk (m .ballot) (m .ballot) s2 (val k d) idle nobody (A .reps)) (mPreOK c (m .ballot) (val k d) ∷ [])
-            (pre-same (m .ballot) (val k d) (Memᴰ·cast (ap (λ (x : List ℕ). mPre (m .ballot) (val k x)) (sym de)) se) nl (open-st rel e) l (fresh v l))
+            moved (mk (m .ballot) (m .ballot) s2 (val k d) idle nobody (A .replies)) (mPreOK c (m .ballot) (val k d) ∷ [])
+            (pre-same (m .ballot) (val k d) (Memᴰ·cast (ap (λ (x : List ℕ). mPre (m .ballot) (val k x)) (sym de)) sent) not-lead (open-st rel e) l (fresh v l))
             (rel-begun F c (seven p) (m .ballot) _ (r .mark) 0 _ refl refl refl refl (join-seven (m .deps) seen) refl (λ f. clash (cc)) refl)
             refl (counts (cov d (join-r (m .deps) seen))) (spoken refl refl (join-seven (m .deps) seen, (k, List·Memᴰ·head refl)))
         new e l v false q =
-            moved (mk (m .ballot) (m .ballot) s1 (val k d) idle nobody (A .reps)) (mPreOK c (m .ballot) (val k d) ∷ [])
-            (pre-more (m .ballot) (val k (m .deps)) (val k d) se nl (open-st rel e) l (fresh v l) refl
+            moved (mk (m .ballot) (m .ballot) s1 (val k d) idle nobody (A .replies)) (mPreOK c (m .ballot) (val k d) ∷ [])
+            (pre-more (m .ballot) (val k (m .deps)) (val k d) sent not-lead (open-st rel e) l (fresh v l) refl
             (λ f. tf (sameDeps d (m .deps)) (same-deps-refl d (m .deps) (ap (λ (x : Value). x .deps) f)) q))
             (rel-begun F c (seven p) (m .ballot) _ (r .mark) 0 _ refl refl refl refl (join-seven (m .deps) seen) refl (λ f. clash (cc)) refl)
             refl (counts (cov d (join-r (m .deps) seen))) (spoken refl refl (join-seven (m .deps) seen, (k, List·Memᴰ·head refl)))
 
     pub on-accept : Sent S (mAcc (m .ballot) (val k (m .deps))) → Goal (accept c o j r m k)
     unfolding accept
-    on-accept se = or-refused m λ e l.
-        moved (mk (m .ballot) (m .ballot) s3 (val k (m .deps)) idle nobody (A .reps)) (mAccOK c (m .ballot) ∷ [])
-        (acc (m .ballot) (val k (m .deps)) se nl (open-st rel e) l)
+    on-accept sent = or-refused m λ e l.
+        moved (mk (m .ballot) (m .ballot) s3 (val k (m .deps)) idle nobody (A .replies)) (mAccOK c (m .ballot) ∷ [])
+        (acc (m .ballot) (val k (m .deps)) sent not-lead (open-st rel e) l)
         (rel-begun F c (seven p) (m .ballot) _ (r .mark) 0 _ refl refl refl refl ml refl (λ f. clash (cc)) refl)
         refl (takes refl) (spoken refl refl (List·Memᴰ·head refl))
 
   pub on-commit : (m : Message) (k : Command) → length (m .deps) ≡ 7 → Sent S (mCommit (val k (m .deps))) → Goal (commit r m k)
   unfolding commit
-  on-commit m k ml se = by-cond Goal (isCommitted r) (λ e. still p) λ e.
-      moved (mk (A .joined) (A .voted) s4 (val k (m .deps)) idle nobody (A .reps)) []
-      (learn (val k (m .deps)) se (open-st rel e))
+  on-commit m k ml sent = by-cond Goal (isCommitted r) (λ e. still p) λ e.
+      moved (mk (A .joined) (A .voted) s4 (val k (m .deps)) idle nobody (A .replies)) []
+      (learn (val k (m .deps)) sent (open-st rel e))
       (rel-begun F c (seven p) (r .joined) _ (r .mark) 0 _ (rel .joined) (rel .voted) refl refl ml refl (λ f. clash (cc)) refl)
       refl (commits refl) (quiet (λ X. tt))
 
   pub on-nack : (m : Message) (x : ℕ) → m .ballot < x → Goal (nack r m x)
   unfolding nack
   on-nack m x lx = by-cond Goal (not (isCommitted r) && eqb (r .joined) (m .ballot))
-      (λ e. let j0 : r .joined ≡ m .ballot = eqb-eq _ _ (and-r (not (isCommitted r)) _ e) in
-      moved (mk x (A .voted) (A .st) (A .val) idle nobody (A .reps)) []
-      (mv-join x (omega (arith, rel .joined, j0)) (open-st rel (not-not (isCommitted r) (and-l _ (eqb (r .joined) (m .ballot)) e))))
+      (λ e. let same-ballot : r .joined ≡ m .ballot = eqb-eq _ _ (and-r (not (isCommitted r)) _ e) in
+      moved (mk x (A .voted) (A .status) (A .value) idle nobody (A .replies)) []
+      (mv-join x (omega (arith, rel .joined, same-ballot)) (open-st rel (not-not (isCommitted r) (and-l _ (eqb (r .joined) (m .ballot)) e))))
       (rel-begun F c (seven p) x (r .vote) (r .mark) 0 _ refl (rel .voted) (rel .status) (rel .value) (rel .len) refl (λ f. clash (cc)) refl)
       refl (kept refl refl refl) (quiet (λ X. tt)))
       (λ e. still p)
@@ -179,7 +179,7 @@ module _ (p : Spot) where
       b = nextBallot c (r .joined)
 
       R : Rec
-      R = mk b (A .voted) (A .st) (A .val) preparing (upd nobody c true) (upd (A .reps) c (reply-of A))
+      R = mk b (A .voted) (A .status) (A .value) preparing (upd nobody c true) (upd (A .replies) c (reply-of A))
 
       only-c : (i : ℕ) → i < 7 → member i (2 ^ c) ≡ true → i ≡ c
       only-c i li m = eqb-eq i c (sym (member-only c i (seven p) li) ∙ m)
@@ -197,7 +197,7 @@ module _ (p : Spot) where
         got = λ i li. upd-cases (λ (y : Bool). y ≡ member i (2 ^ c)) nobody c true i (λ q. sym (member-only c i (seven p) li ∙ eqb-same i c q)) (λ q. sym (member-only c i (seven p) li ∙ not-true (eqb i c) (λ z. q (eqb-eq i c z))));
         size = length-set noReplies c (r .vote);
         lens = λ i. lens i (ℕ-discrete i c);
-        told = λ h i li m. rw (only-c i li m) (rw (getD-set-same noReplies c (r .vote) noVote (seven p), upd-same (A .reps) c (reply-of A)) (record { voted = rel .voted; status = rel .status; value = rel .value }));
+        told = λ h i li m. rw (only-c i li m) (rw (getD-set-same noReplies c (r .vote) noVote (seven p), upd-same (A .replies) c (reply-of A)) (record { voted = rel .voted; status = rel .status; value = rel .value }));
         added = λ h. clash (cc);
         self = λ n. absurd (n refl);
       }
@@ -210,8 +210,8 @@ module _ (p : Spot) where
   pub on-request : c ≡ o → (n : ℕ) (k : Command) (d : List ℕ) → isBlank r ≡ true → Req k → Cov (val k d) → length d ≡ 7 → Goal (request n c j k d)
   unfolding request afresh
   on-request own n k d bl rq cv ld =
-      let (jz, sz, mz) = blank-facts r bl in
-      moved (mk 0 0 s2 (val k d) prephase nobody (A .reps)) (mPre 0 (val k d) ∷ [])
-      (mv-request (val k d) own (rel .joined ∙ jz) (st-eq (A .st) s0 (rel .status ∙ sz)) rq)
+      let (unjoined, unvoted, unmarked) = blank-facts r bl in
+      moved (mk 0 0 s2 (val k d) prephase nobody (A .replies)) (mPre 0 (val k d) ∷ [])
+      (mv-request (val k d) own (rel .joined ∙ unjoined) (st-eq (A .status) s0 (rel .status ∙ unvoted)) rq)
       (rel-begun F c (seven p) 0 _ 0 2 _ refl refl refl refl ld refl (λ f. clash (cc)) refl)
-      (sym mz) (counts cv) (spoken own refl (ld, List·Memᴰ·head refl))
+      (sym unmarked) (counts cv) (spoken own refl (ld, List·Memᴰ·head refl))
