@@ -9,7 +9,7 @@ use native.Mathlib.Omega.{arith}
 use native.Mathlib.Decide.{decLt}
 use native.Mathlib.Nat.{eq-or-lt-of-le}
 use Rattle.reach.proofs.Count.{cnt, both, both-true, member, quorums-meet, fast-meet, cnt-mono}
-use Rattle.safety.proofs.Hist.{St, s0, s1, s2, s3, s4, is2, Upto, u22, u23, u33, Reply, Outcome, accept, afresh, NoAcc, Decided, none-voted, accepted, fast, anew, Obeys, Hist, Rules, Slow}
+use Rattle.safety.proofs.Hist.{Status, s0, s1, s2, s3, s4, is2, Upto, u22, u23, u33, Reply, Outcome, accept, afresh, NoAcc, Decided, none-voted, accepted, fast, anew, Obeys, Hist, Rules, Slow}
 
 3≢0 : s3 ≡ s0 → ⊥
 3≢0 e = let z : _≡_ {A = ℕ} 0 1 = cc in omega arith
@@ -17,10 +17,10 @@ use Rattle.safety.proofs.Hist.{St, s0, s1, s2, s3, s4, is2, Upto, u22, 
 2≢0 : s2 ≡ s0 → ⊥
 2≢0 e = let z : _≡_ {A = ℕ} 0 1 = cc in omega arith
 
-up3 : {s : St} → Upto s3 s → s ≡ s3
+up3 : {s : Status} → Upto s3 s → s ≡ s3
 up3 u33 = refl
 
-up2 : {s : St} → Upto s2 s → (s ≡ s3 → ⊥) → s ≡ s2
+up2 : {s : Status} → Upto s2 s → (s ≡ s3 → ⊥) → s ≡ s2
 up2 u22 n = refl
 up2 u23 n = absurd (n refl)
 
@@ -40,7 +40,7 @@ module _ (F owner : ℕ)
   below lo v step (suc k) b l h = step b h (λ m p q. below lo v step k m (omega arith) p)
 
   -- a vote of status 1 or 2 in a reply at a ballot with no PreAccept is refuted
-  no-pre : (r m : ℕ) (s : St) (u : Value) → H .Vote r m s u → (s ≡ s3 → ⊥) → ((w : Value) → H .Pre m w → ⊥) → ⊥
+  no-pre : (r m : ℕ) (s : Status) (u : Value) → H .Vote r m s u → (s ≡ s3 → ⊥) → ((w : Value) → H .Pre m w → ⊥) → ⊥
   no-pre r m s0 u h n f = R .vote-0 r m u h
   no-pre r m s1 u h n f = let (w, p, e) = R .vote-1 r m u h in f w p
   no-pre r m s2 u h n f = f u (R .vote-2 r m u h)
@@ -219,14 +219,14 @@ module _ (F owner : ℕ)
         go (inr pos) = let (Q, rep, o, enough, ok, d, obeys) = R .decided b v pos (inl x) in by o obeys
 
     -- a vote is for the command of its ballot's PreAccept, or for its Accept
-    cast-as : (r b : ℕ) (u : St) (v : Value) → H .Vote r b u v → ((w : Value) × H .Pre b w × (cmd v ≡ cmd w)) ⊎ H .Acc b v
+    cast-as : (r b : ℕ) (u : Status) (v : Value) → H .Vote r b u v → ((w : Value) × H .Pre b w × (cmd v ≡ cmd w)) ⊎ H .Acc b v
     cast-as r b s0 v h = absurd (R .vote-0 r b v h)
     cast-as r b s1 v h = inl (R .vote-1 r b v h)
     cast-as r b s2 v h = inl (v, R .vote-2 r b v h, refl)
     cast-as r b s3 v h = inr (R .vote-3 r b v h)
     cast-as r b s4 v h = absurd (R .vote-4 r b v h)
 
-    same-ballot : (r q b : ℕ) (u t : St) (v w : Value) → H .Vote r b u v → H .Vote q b t w → cmd v ≡ cmd w
+    same-ballot : (r q b : ℕ) (u t : Status) (v w : Value) → H .Vote r b u v → H .Vote q b t w → cmd v ≡ cmd w
     same-ballot r q b u t v w x y = go (cast-as r b u v x) (cast-as q b t w y)
       where
         go : ((z : Value) × H .Pre b z × (cmd v ≡ cmd z)) ⊎ H .Acc b v → ((z : Value) × H .Pre b z × (cmd w ≡ cmd z)) ⊎ H .Acc b w → cmd v ≡ cmd w
@@ -236,9 +236,9 @@ module _ (F owner : ℕ)
         go (inr a) (inr c) = ap cmd (R .acc-one b v w a c)
 
     module _ (b0 : ℕ) (x : Command) (Q0 : ℕ → Bool) (enough0 : suc F ≤ cnt (suc (2 * F)) Q0)
-        (vs : (i : ℕ) → i < suc (2 * F) → Q0 i ≡ true → (u : St) × (v : Value) × H .Vote i b0 u v × (cmd v ≡ x)) where
+        (vs : (i : ℕ) → i < suc (2 * F) → Q0 i ≡ true → (u : Status) × (v : Value) × H .Vote i b0 u v × (cmd v ≡ x)) where
       -- a vote at b0 or later, below b
-      later : (b : ℕ) → ((m : ℕ) → b0 < m → m < b → KeptC x m) → (j m : ℕ) (u : St) (v : Value) → H .Vote j m u v → b0 ≤ m → m < b → cmd v ≡ x
+      later : (b : ℕ) → ((m : ℕ) → b0 < m → m < b → KeptC x m) → (j m : ℕ) (u : Status) (v : Value) → H .Vote j m u v → b0 ≤ m → m < b → cmd v ≡ x
       later b ih j m u v h l k = go (eq-or-lt-of-le l)
         where
           go : (b0 ≡ m) ⊎ (b0 < m) → cmd v ≡ x
@@ -290,5 +290,5 @@ module _ (F owner : ℕ)
                   obey-of b o (cmd-out b l ih Q rep ok i li qi cast le d) obeys
 
       -- every vote at b0 or later is for x
-      pub cmd-votes : (j m : ℕ) (u : St) (v : Value) → H .Vote j m u v → b0 ≤ m → cmd v ≡ x
+      pub cmd-votes : (j m : ℕ) (u : Status) (v : Value) → H .Vote j m u v → b0 ≤ m → cmd v ≡ x
       cmd-votes j m u v h l = later (suc m) (λ k p q. cmd-kept k p) j m u v h l (omega arith)

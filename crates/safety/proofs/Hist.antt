@@ -8,18 +8,19 @@ use mathlib.Core.Logic.{_⊎_}
 use mathlib.Core.Bool.{Bool, true, false}
 use Rattle.reach.proofs.Count.{cnt, both}
 
-pub data St : Type 0 where
-  s0 s1 s2 s3 s4 : St
+-- the statuses 0 to 4
+pub data Status : Type 0 where
+  s0 s1 s2 s3 s4 : Status
 
-abbrev pub is2 : St → Bool
+abbrev pub is2 : Status → Bool
 is2 s0 = false
 is2 s1 = false
 is2 s2 = true
 is2 s3 = false
 is2 s4 = false
 
--- what a vote of status s can have become within its ballot
-pub data Upto : St → St → Type 0 where
+-- what a vote of status s can have become within its ballot: u13 is from 1 to 3
+pub data Upto : Status → Status → Type 0 where
   u11 : Upto s1 s1
   u13 : Upto s1 s3
   u22 : Upto s2 s2
@@ -28,7 +29,7 @@ pub data Upto : St → St → Type 0 where
 
 pub record Reply : Type 0 where
   pub voted : ℕ
-  pub status : St
+  pub status : Status
   pub value : Value
 
 pub data Outcome : Type 0 where
@@ -67,7 +68,7 @@ module _ (F owner : ℕ) where
   pub record Hist : Type 1 where
     pub Pre : ℕ → Value → Type 0
     pub Acc : ℕ → Value → Type 0
-    pub Vote : ℕ → ℕ → St → Value → Type 0
+    pub Vote : ℕ → ℕ → Status → Value → Type 0
     pub Ok : ℕ → ℕ → Reply → Type 0
     pub Fast : Value → Type 0
 
@@ -80,7 +81,7 @@ module _ (F owner : ℕ) where
     pub vote-2 : (r b : ℕ) (v : Value) → H .Vote r b s2 v → H .Pre b v
     pub vote-3 : (r b : ℕ) (v : Value) → H .Vote r b s3 v → H .Acc b v
     pub ok-vote : (r b : ℕ) (a : Reply) → H .Ok r b a → (a .status ≡ s0 → ⊥) → H .Vote r (a .voted) (a .status) (a .value) × (a .voted < b)
-    pub ok-last : (r b c : ℕ) (s : St) (v : Value) (a : Reply) → H .Ok r b a → H .Vote r c s v → c < b
+    pub ok-last : (r b c : ℕ) (s : Status) (v : Value) (a : Reply) → H .Ok r b a → H .Vote r c s v → c < b
         → (a .status ≡ s0 → ⊥) × (c ≤ a .voted) × (c ≡ a .voted → Upto s (a .status))
     pub decided : (b : ℕ) (v : Value) → 0 < b → H .Acc b v ⊎ H .Pre b v
         → (Q : ℕ → Bool) × (rep : ℕ → Reply) × (o : Outcome)

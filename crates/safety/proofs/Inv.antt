@@ -14,12 +14,12 @@ use mathlib.Core.Path.{_≡_}
 use mathlib.Core.Logic.{_⊎_}
 use mathlib.Core.Bool.{Bool, true, false}
 use Rattle.reach.proofs.Count.{cnt}
-use Rattle.safety.proofs.Hist.{St, s0, s1, s2, s3, s4, Reply, Outcome, accept, afresh, Decided}
+use Rattle.safety.proofs.Hist.{Status, s0, s1, s2, s3, s4, Reply, Outcome, accept, afresh, Decided}
 use Rattle.safety.proofs.Sys.{idle, preparing, prephase, accphase, Rec, Msg, mPre, mPreOK, mAcc, mAccOK, mCommit, mPrepOK, Sys, Was, Sent}
 use Rattle.safety.proofs.Older.{Le}
 
 -- copy r voted at b, in status t, for v: some record that it saved says so
-pub record Vote (s : Sys) (r b : ℕ) (t : St) (v : Value) : Type 0 where
+pub record Vote (s : Sys) (r b : ℕ) (t : Status) (v : Value) : Type 0 where
   pub saved : Rec
   pub was : Was s r saved
   pub ballot : saved .voted ≡ b

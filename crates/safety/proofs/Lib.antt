@@ -1,4 +1,5 @@
--- Demand 3 is proved in four floors.
+-- Demand 3 is proved in four floors. In all of it r, i and q are copies, b is a ballot, v and w are values, R and X records of the
+-- model, Q a set of copies, I and J instances; e and f are equations, n says that something is not so, li that i is in range.
 -- Plain facts: sets of bits, dependencies.
 pub mod Sets
 pub mod Deps

@@ -2,17 +2,17 @@
 use Prim.Native.Nat.{ℕ, _+_, _*_, _≤_, _<_}
 use mathlib.Core.Path.{_≡_, refl, ap}
 use native.Mathlib.Omega.{arith}
-use Rattle.safety.proofs.Hist.{St, s0, s1, s2, s3, s4}
+use Rattle.safety.proofs.Hist.{Status, s0, s1, s2, s3, s4}
 use Rattle.safety.proofs.Sys.{Rec}
 
-abbrev pub rank : St → ℕ
+abbrev pub rank : Status → ℕ
 rank s0 = 0
 rank s1 = 1
 rank s2 = 1
 rank s3 = 2
 rank s4 = 2
 
-pub rank-le : (s : St) → rank s ≤ 2
+pub rank-le : (s : Status) → rank s ≤ 2
 rank-le s0 = omega arith
 rank-le s1 = omega arith
 rank-le s2 = omega arith

@@ -23,32 +23,32 @@ use Rattle.rules.specs.Step.{isCommitted, noReplies, begun, say, silent, sendin
 use Rattle.reach.proofs.Tests.{tf, eqb-eq, eqb-ne}
 use Rattle.safety.proofs.Sets.{member-none}
 use Rattle.safety.proofs.Value.{Value}
-use Rattle.safety.proofs.Hist.{St, s0, s1, s2, s3, s4, Reply}
+use Rattle.safety.proofs.Hist.{Status, s0, s1, s2, s3, s4, Reply}
 use Rattle.safety.proofs.Inv.{Inv}
-use Rattle.safety.proofs.Sys.{Ph, idle, preparing, prephase, accphase, Rec, Msg, mPre, mPreOK, mAcc, mAccOK, mCommit, mPrepOK, Sys, nobody, push, Sent, say-commit, Trans, repeat}
+use Rattle.safety.proofs.Sys.{Phase, idle, preparing, prephase, accphase, Rec, Msg, mPre, mPreOK, mAcc, mAccOK, mCommit, mPrepOK, Sys, nobody, push, Sent, say-commit, Trans, repeat}
 
-abbrev pub num : St → ℕ
+abbrev pub num : Status → ℕ
 num s0 = 0
 num s1 = 1
 num s2 = 2
 num s3 = 3
 num s4 = 4
 
-abbrev pub phase-num : Ph → ℕ
+abbrev pub phase-num : Phase → ℕ
 phase-num idle = 0
 phase-num preparing = 1
 phase-num prephase = 2
 phase-num accphase = 3
 
 -- a status and a phase are told by their numbers
-st-of : ℕ → St
+st-of : ℕ → Status
 st-of zero = s0
 st-of (suc zero) = s1
 st-of (suc (suc zero)) = s2
 st-of (suc (suc (suc zero))) = s3
 st-of (suc (suc (suc (suc n)))) = s4
 
-st-num : (u : St) → st-of (num u) ≡ u
+st-num : (u : Status) → st-of (num u) ≡ u
 unfolding st-of
 st-num s0 = refl
 st-num s1 = refl
@@ -56,26 +56,26 @@ st-num s2 = refl
 st-num s3 = refl
 st-num s4 = refl
 
-pub st-eq : (u v : St) → num u ≡ num v → u ≡ v
+pub st-eq : (u v : Status) → num u ≡ num v → u ≡ v
 st-eq u v e = sym (st-num u) ∙ ap st-of e ∙ st-num v
 
-ph-of : ℕ → Ph
+ph-of : ℕ → Phase
 ph-of zero = idle
 ph-of (suc zero) = preparing
 ph-of (suc (suc zero)) = prephase
 ph-of (suc (suc (suc n))) = accphase
 
-ph-num : (p : Ph) → ph-of (phase-num p) ≡ p
+ph-num : (p : Phase) → ph-of (phase-num p) ≡ p
 unfolding ph-of
 ph-num idle = refl
 ph-num preparing = refl
 ph-num prephase = refl
 ph-num accphase = refl
 
-pub ph-eq : (p q : Ph) → phase-num p ≡ phase-num q → p ≡ q
+pub ph-eq : (p q : Phase) → phase-num p ≡ phase-num q → p ≡ q
 ph-eq p q e = sym (ph-num p) ∙ ap ph-of e ∙ ph-num q
 
-pub is-accphase : (p : Ph) → (phase-num p ≡ 0 → ⊥) → (phase-num p ≡ 1 → ⊥) → (phase-num p ≡ 2 → ⊥) → p ≡ accphase
+pub is-accphase : (p : Phase) → (phase-num p ≡ 0 → ⊥) → (phase-num p ≡ 1 → ⊥) → (phase-num p ≡ 2 → ⊥) → p ≡ accphase
 is-accphase idle a b c = absurd (a refl)
 is-accphase preparing a b c = absurd (b refl)
 is-accphase prephase a b c = absurd (c refl)
@@ -149,7 +149,7 @@ Means S m (Accept k) = (length (m .deps) ≡ 7) × Sent S (mAcc (m .ballot) (val
 Means S m AcceptOk = Sent S (mAccOK (m .from) (m .ballot))
 Means S m (Commit k) = (length (m .deps) ≡ 7) × Sent S (mCommit (val k (m .deps)))
 Means S m Prepare = T true
-Means S m (PrepareOk v t k) = (length (m .deps) ≡ 7) × ((u : St) × (num u ≡ t) × Sent S (mPrepOK (m .from) (m .ballot) (record { voted = v; status = u; value = val k (m .deps) })))
+Means S m (PrepareOk v t k) = (length (m .deps) ≡ 7) × ((u : Status) × (num u ≡ t) × Sent S (mPrepOK (m .from) (m .ballot) (record { voted = v; status = u; value = val k (m .deps) })))
 Means S m (Nack x) = T true
 
 -- a message of o.j, or one that tells nothing

@@ -9,21 +9,22 @@ use mathlib.Core.Bool.{Bool, true, false}
 use mathlib.Core.List.{List, [], _∷_, _++_, List·Memᴰ}
 use native.Mathlib.Decide.{ℕ-discrete}
 use Rattle.reach.proofs.Count.{cnt}
-use Rattle.safety.proofs.Hist.{St, s0, s1, s2, s3, s4, Reply, accept, afresh, Decided}
+use Rattle.safety.proofs.Hist.{Status, s0, s1, s2, s3, s4, Reply, accept, afresh, Decided}
 
-pub data Ph : Type 0 where
-  idle preparing prephase accphase : Ph
+-- the phases 0 to 3
+pub data Phase : Type 0 where
+  idle preparing prephase accphase : Phase
 
 pub record Rec : Type 0 where
   pub joined : ℕ
   pub voted : ℕ
-  pub status : St
+  pub status : Status
   pub value : Value
-  pub phase : Ph
+  pub phase : Phase
   pub got : ℕ → Bool
   pub replies : ℕ → Reply
 
-abbrev pub mk : ℕ → ℕ → St → Value → Ph → (ℕ → Bool) → (ℕ → Reply) → Rec
+abbrev pub mk : ℕ → ℕ → Status → Value → Phase → (ℕ → Bool) → (ℕ → Reply) → Rec
 mk j b s v p g a = record { joined = j; voted = b; status = s; value = v; phase = p; got = g; replies = a }
 
 abbrev pub reply-of : Rec → Reply

@@ -10,12 +10,12 @@ use mathlib.Core.List.{List, List·Memᴰ·tail, List·Memᴰ·not-nil}
 use native.Mathlib.Omega.{arith}
 use native.Mathlib.Decide.{ℕ-discrete}
 use Rattle.reach.proofs.Count.{cnt, one-if, both, both-true, member}
-use Rattle.safety.proofs.Hist.{St, s0, s1, s2, s3, s4, is2, Reply, Outcome, accept, Top, twos, Decided, none-voted, accepted, fast, anew}
+use Rattle.safety.proofs.Hist.{Status, s0, s1, s2, s3, s4, is2, Reply, Outcome, accept, Top, twos, Decided, none-voted, accepted, fast, anew}
 use Rattle.safety.proofs.Agree.{cmd-votes}
 use Rattle.safety.proofs.Sys.{preparing, prephase, Rec, Msg, mAcc, Sys, upd, upd-cases, push, Was, HasPre, HasPrep, Trans, repeat, request, pre-same, pre-more, collect-pre, fast-commit, to-accept, acc, collect-acc, slow-commit, learn, join, promise, recover, collect-prep, decide-accept, decide-afresh, Reach, init, step}
 use Rattle.safety.proofs.Inv.{Local, Vote, Promised, Reason, com-slow, com-fast, Inv}
 use Rattle.safety.proofs.Inv.Keep.{up-vote, which}
-use Rattle.safety.proofs.Inv.Facts.{vote-one, vote-added, vote-unchanged, near, now-in, loc-now, own-at, has-pre, has-prep}
+use Rattle.safety.proofs.Inv.Facts.{vote-one, vote-added, vote-unchanged, near, now-in, local-now, own-at, has-pre, has-prep}
 use Rattle.safety.proofs.Inv.Good.{holds}
 use Rattle.safety.proofs.Inv.Laws.{hist, rules}
 use Rattle.reach.proofs.Tests.{clash}
@@ -41,7 +41,7 @@ module _ (F : ℕ) where
     pub set : ℕ → Bool
     pub size : suc F ≤ cnt (suc (2 * F)) set
     pub votes : (i : ℕ) → i < suc (2 * F) → set i ≡ true
-        → (u : St) × (w : Value) × Vote s i b u w × ((u ≡ s1) ⊎ (u ≡ s2)) × (cmd w ≡ cmd v) × Sub w v
+        → (u : Status) × (w : Value) × Vote s i b u w × ((u ≡ s1) ⊎ (u ≡ s2)) × (cmd w ≡ cmd v) × Sub w v
 
   quorum-up : (s t : Sys) → ((r : ℕ) (R : Rec) → Was s r R → Was t r R) → (v : Value) (m k : ℕ) → m ≤ k → PreQuorum s v m → PreQuorum t v k
   quorum-up s t ext v m k l h = record {
@@ -77,7 +77,7 @@ module _ {F owner : ℕ} (inside : owner < suc (2 * F)) {s : Sys} (I : Inv F own
       go i li (yes e) q = rw (e ∙ sym (lead-0 owner)) own
       go i li (no n) q = vs i li (upd-cases (λ (y : Bool). y ≡ true → P i ≡ true) P owner true i (λ e. absurd (n e)) (λ k h. h) q)
 
-  is2-true : (u : St) → is2 u ≡ true → u ≡ s2
+  is2-true : (u : Status) → is2 u ≡ true → u ≡ s2
   is2-true s0 e = clash (cc)
   is2-true s1 e = clash (cc)
   is2-true s2 e = refl
@@ -127,7 +127,7 @@ module _ {F owner : ℕ} (inside : owner < suc (2 * F)) {s : Sys} (I : Inv F own
   quorum-joined w phase same-cmd Q enough covers-them = record { b = s .now r .joined; low = omega arith; set = Q; size = enough; votes = λ i li q. go i (covers-them i q) }
     where
       lo : Local owner r (s .now r)
-      lo = loc-now I r
+      lo = local-now I r
 
       own : Vote s r (s .now r .joined) s2 (s .now r .value)
       own = own-at I r (s .now r .joined) s2 (lo .when-pre-accepting phase .1) (lo .when-pre-accepting phase .2) (λ f. clash (cc)) (λ f. clash (cc))
@@ -136,12 +136,12 @@ module _ {F owner : ℕ} (inside : owner < suc (2 * F)) {s : Sys} (I : Inv F own
       led = rw (lo .when-pre-accepting phase .0) own
 
       by : (i : ℕ) (v : Value) → Sub v w → Vote s i (s .now r .joined) s1 v ⊎ Vote s i (s .now r .joined) s2 v
-          → (u : St) × (z : Value) × Vote s i (s .now r .joined) u z × ((u ≡ s1) ⊎ (u ≡ s2)) × (cmd z ≡ cmd w) × Sub z w
+          → (u : Status) × (z : Value) × Vote s i (s .now r .joined) u z × ((u ≡ s1) ⊎ (u ≡ s2)) × (cmd z ≡ cmd w) × Sub z w
       by i v sb (inl x) = (s1, v, x, inl refl, near I i (s .now r .joined) _ _ led (inl x) ∙ sym same-cmd, sb)
       by i v sb (inr x) = (s2, v, x, inr refl, near I i (s .now r .joined) _ _ led (inr x) ∙ sym same-cmd, sb)
 
       go : (i : ℕ) → ((i ≡ r) × Sub (s .now r .value) w) ⊎ ((v : Value) × HasPre s (s .now r) i v × Sub v w)
-          → (u : St) × (z : Value) × Vote s i (s .now r .joined) u z × ((u ≡ s1) ⊎ (u ≡ s2)) × (cmd z ≡ cmd w) × Sub z w
+          → (u : Status) × (z : Value) × Vote s i (s .now r .joined) u z × ((u ≡ s1) ⊎ (u ≡ s2)) × (cmd z ≡ cmd w) × Sub z w
       go i (inl p) = (s2, s .now r .value, rw (p .0) own, inr refl, sym same-cmd, p .1)
       go i (inr p) = by i (p .0) (p .2) (has-pre I r phase i (p .0) (p .1))
 
@@ -180,7 +180,7 @@ all-pre-quorums {F} inside (step {s = s} r R ms h l t) i X w e = go (λ j Y k f.
     go A (inr m) = quorum-up F s _ (λ j Y k. List·Memᴰ·tail k) (X .value) (X .voted) (X .voted) (omega arith) (A i X m e)
 
 -- every vote at or after the ballot of a pre-accept quorum is for its command
-pub quorum-command : {F owner : ℕ} → owner < suc (2 * F) → {s : Sys} → Inv F owner s → AllPreQuorums F s → (v : Value) (m : ℕ) (h : PreQuorum F s v m) → (j c : ℕ) (u : St) (w : Value) → Vote s j c u w → h .b ≤ c → cmd w ≡ cmd v
+pub quorum-command : {F owner : ℕ} → owner < suc (2 * F) → {s : Sys} → Inv F owner s → AllPreQuorums F s → (v : Value) (m : ℕ) (h : PreQuorum F s v m) → (j c : ℕ) (u : Status) (w : Value) → Vote s j c u w → h .b ≤ c → cmd w ≡ cmd v
 unfolding hist
 quorum-command {F} {owner} inside {s} I A v m h j c u w x l =
     cmd-votes F owner (hist I) (rules I) accept-zero
@@ -194,6 +194,6 @@ quorum-command {F} {owner} inside {s} I A v m h j c u w x l =
         let z : q .b ≡ 0 = omega (arith, q .low) in
         pick i u w (rw z at y) a e
       where
-        pick : (i : ℕ) (u : St) (w : Value) → Vote s i 0 u w → (u ≡ s1) ⊎ (u ≡ s2) → cmd w ≡ cmd v → (z : Value) × Vote s (lead owner 0) 0 s2 z × (cmd v ≡ cmd z)
+        pick : (i : ℕ) (u : Status) (w : Value) → Vote s i 0 u w → (u ≡ s1) ⊎ (u ≡ s2) → cmd w ≡ cmd v → (z : Value) × Vote s (lead owner 0) 0 s2 z × (cmd v ≡ cmd z)
         pick i u w y (inl f) e = let (z, t, c, n) = vote-added I i 0 w (rw f at y) in (z, t, sym e ∙ c)
         pick i u w y (inr f) e = (w, vote-unchanged I i 0 w (rw f at y), sym e)

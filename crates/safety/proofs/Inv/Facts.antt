@@ -6,13 +6,13 @@ use mathlib.Core.Path.{_≡_, refl, sym, ap, _∙_}
 use mathlib.Core.Logic.{_⊎_, inl, inr}
 use native.Mathlib.Omega.{arith}
 use Rattle.reach.proofs.Tests.{clash}
-use Rattle.safety.proofs.Hist.{St, s0, s1, s2, s3, s4, Reply}
+use Rattle.safety.proofs.Hist.{Status, s0, s1, s2, s3, s4, Reply}
 use Rattle.safety.proofs.Sys.{preparing, prephase, Rec, Sys, Was, HasPre, HasPrep}
 use Rattle.safety.proofs.Older.{rank, Le, le-same, le-new, le-com}
 use Rattle.safety.proofs.Inv.{Local, Vote, Promised, Backed, Collected, Blank, Inv}
 
 module _ {F owner : ℕ} {s : Sys} (I : Inv F owner s) where
-  pub vote-one : (r b : ℕ) (u : St) (v w : Value) → Vote s r b u v → Vote s r b u w → v ≡ w
+  pub vote-one : (r b : ℕ) (u : Status) (v w : Value) → Vote s r b u v → Vote s r b u w → v ≡ w
   vote-one r b u v w x y = go (I .pair r (x .saved) (y .saved) (x .was) (y .was)) (x .ballot) (x .status) (x .value) (y .ballot) (y .status) (y .value) (x .uncommitted)
     where
       half : {R S : Rec} {v w : Value} → Le R S → R .voted ≡ b → R .status ≡ u → R .value ≡ v → S .voted ≡ b → S .status ≡ u → S .value ≡ w → (u ≡ s4 → ⊥) → v ≡ w
@@ -46,35 +46,35 @@ module _ {F owner : ℕ} {s : Sys} (I : Inv F owner s) where
         go (inl m) = m
         go (inr z) = absurd (n (z .2))
 
-    pub loc-now : Local owner r (s .now r)
-    loc-now = go (I .current r)
+    pub local-now : Local owner r (s .now r)
+    local-now = go (I .current r)
       where
         go : Was s r (s .now r) ⊎ Blank (s .now r) → Local owner r (s .now r)
         go (inl m) = I .local r (s .now r) m
         go (inr q) = record { voted-joined = omega (arith, q .0, q .1); unvoted = λ e. q .1; when-preparing = λ e. clash (cc (q .3)); when-pre-accepting = λ e. clash (cc (q .3)); when-accepting = λ e. clash (cc (q .3)) }
 
-    pub coll-now : Collected s (s .now r)
-    coll-now = go (I .current r)
+    pub collected-now : Collected s (s .now r)
+    collected-now = go (I .current r)
       where
         go : Was s r (s .now r) ⊎ Blank (s .now r) → Collected s (s .now r)
         go (inl m) = I .collected r (s .now r) m
         go (inr q) = record { promises = λ e. clash (cc (q .3)); pre-accepts = λ e. clash (cc (q .3)); accepts = λ e. clash (cc (q .3)) }
 
-    pub back-now : Backed owner s (s .now r)
-    back-now = record {
+    pub backed-now : Backed owner s (s .now r)
+    backed-now = record {
       added = λ e. I .backed r (s .now r) (now-in (λ f. clash (cc))) .added e;
       unchanged = λ e. I .backed r (s .now r) (now-in (λ f. clash (cc))) .unchanged e;
       accepted = λ e. I .backed r (s .now r) (now-in (λ f. clash (cc))) .accepted e;
     }
 
-    pub own-at : (b : ℕ) (u : St) → s .now r .voted ≡ b → s .now r .status ≡ u → (u ≡ s0 → ⊥) → (u ≡ s4 → ⊥) → Vote s r b u (s .now r .value)
+    pub own-at : (b : ℕ) (u : Status) → s .now r .voted ≡ b → s .now r .status ≡ u → (u ≡ s0 → ⊥) → (u ≡ s4 → ⊥) → Vote s r b u (s .now r .value)
     own-at b u f e cast uncommitted = record { saved = s .now r; was = now-in (λ g. cast (sym e ∙ g)); ballot = f; status = e; value = refl; cast = cast; uncommitted = uncommitted }
 
     -- what a lead has of a pre-accepting copy is a vote; of a preparing one, a promise
     pub has-pre : s .now r .phase ≡ prephase → (i : ℕ) (v : Value) → HasPre s (s .now r) i v → Vote s i (s .now r .joined) s1 v ⊎ Vote s i (s .now r .joined) s2 v
-    has-pre phase i v (inl g) = rw (g .1) at (coll-now .pre-accepts phase i (g .0))
+    has-pre phase i v (inl g) = rw (g .1) at (collected-now .pre-accepts phase i (g .0))
     has-pre phase i v (inr m) = I .msgs _ m
 
     pub has-prep : s .now r .phase ≡ preparing → (i : ℕ) (a : Reply) → HasPrep s (s .now r) i a → Promised s i (s .now r .joined) a
-    has-prep phase i a (inl g) = rw (g .1) at (coll-now .promises phase i (g .0))
+    has-prep phase i a (inl g) = rw (g .1) at (collected-now .promises phase i (g .0))
     has-prep phase i a (inr m) = I .msgs _ m

@@ -12,29 +12,29 @@ use Rattle.reach.proofs.Tests.{clash}
 use native.Mathlib.Decide.{ℕ-discrete}
 use native.Mathlib.Nat.{eq-or-lt-of-le}
 use Rattle.reach.proofs.Count.{cnt}
-use Rattle.safety.proofs.Hist.{St, s0, s1, s2, s3, s4, Reply, Outcome, accept, afresh}
-use Rattle.safety.proofs.Sys.{Ph, idle, preparing, prephase, accphase, Rec, mk, reply-of, Msg, mPre, mPreOK, mAcc, mAccOK, mCommit, mPrepOK, Sys, if-eq, upd, upd-same, nobody, push, Was, Fresh, Says, say-ok1, say-ok2, say-pre, say-acc, say-commit, HasPre, HasAcc, Trans, repeat, request, pre-same, pre-more, collect-pre, fast-commit, to-accept, acc, collect-acc, slow-commit, learn, join, promise, recover, collect-prep, decide-accept, decide-afresh, Reach, init, step}
+use Rattle.safety.proofs.Hist.{Status, s0, s1, s2, s3, s4, Reply, Outcome, accept, afresh}
+use Rattle.safety.proofs.Sys.{Phase, idle, preparing, prephase, accphase, Rec, mk, reply-of, Msg, mPre, mPreOK, mAcc, mAccOK, mCommit, mPrepOK, Sys, if-eq, upd, upd-same, nobody, push, Was, Fresh, Says, say-ok1, say-ok2, say-pre, say-acc, say-commit, HasPre, HasAcc, Trans, repeat, request, pre-same, pre-more, collect-pre, fast-commit, to-accept, acc, collect-acc, slow-commit, learn, join, promise, recover, collect-prep, decide-accept, decide-afresh, Reach, init, step}
 use Rattle.safety.proofs.Older.{rank, rank-le, Le, le-same, le-new, le-com, le-refl}
 use Rattle.safety.proofs.Inv.{Local, Vote, Promised, Backed, SlowVotes, FastVotes, Reason, com-slow, com-fast, Vouched, Collected, ObeysR, Decision, Inv}
 use Rattle.safety.proofs.Inv.Keep.{up-vote, up-ok, up-back, up-two, up-coll, Good, obey-same, which, up-com, keep}
-use Rattle.safety.proofs.Inv.Facts.{vote-one, vote-added, vote-accepted, now-in, loc-now, coll-now, back-now, own-at, has-pre, has-prep}
+use Rattle.safety.proofs.Inv.Facts.{vote-one, vote-added, vote-accepted, now-in, local-now, collected-now, backed-now, own-at, has-pre, has-prep}
 
 module _ {F owner : ℕ} {s : Sys} (I : Inv F owner s) (r : ℕ) where
   module _ (R : Rec) (ms : List Msg) where
     grow : (i : ℕ) (X : Rec) → Was s i X → Was (push s r R ms) i X
     grow i X h = List·Memᴰ·tail h
 
-    new-vote : (u : St) → R .status ≡ u → (u ≡ s0 → ⊥) → (u ≡ s4 → ⊥) → Vote (push s r R ms) r (R .voted) u (R .value)
+    new-vote : (u : Status) → R .status ≡ u → (u ≡ s0 → ⊥) → (u ≡ s4 → ⊥) → Vote (push s r R ms) r (R .voted) u (R .value)
     new-vote u e cast uncommitted = record { saved = R; was = List·Memᴰ·head refl; ballot = refl; status = e; value = refl; cast = cast; uncommitted = uncommitted }
 
-    new-at : (b : ℕ) (u : St) → R .voted ≡ b → R .status ≡ u → (u ≡ s0 → ⊥) → (u ≡ s4 → ⊥) → Vote (push s r R ms) r b u (R .value)
+    new-at : (b : ℕ) (u : Status) → R .voted ≡ b → R .status ≡ u → (u ≡ s0 → ⊥) → (u ≡ s4 → ⊥) → Vote (push s r R ms) r b u (R .value)
     new-at b u f e cast uncommitted = record { saved = R; was = List·Memᴰ·head refl; ballot = f; status = e; value = refl; cast = cast; uncommitted = uncommitted }
 
-    vote-up : (i b : ℕ) (u : St) (v : Value) → Vote s i b u v → Vote (push s r R ms) i b u v
+    vote-up : (i b : ℕ) (u : Status) (v : Value) → Vote s i b u v → Vote (push s r R ms) i b u v
     vote-up = up-vote grow
 
   -- the vote stays
-  good-same : (j : ℕ) (p : Ph) (g : ℕ → Bool) (a : ℕ → Reply) (ms : List Msg)
+  good-same : (j : ℕ) (p : Phase) (g : ℕ → Bool) (a : ℕ → Reply) (ms : List Msg)
       → s .now r .joined ≤ j
       → Local owner r (mk j (s .now r .voted) (s .now r .status) (s .now r .value) p g a)
       → Collected (push s r (mk j (s .now r .voted) (s .now r .status) (s .now r .value) p g a) ms) (mk j (s .now r .voted) (s .now r .status) (s .now r .value) p g a)
@@ -51,7 +51,7 @@ module _ {F owner : ℕ} {s : Sys} (I : Inv F owner s) (r : ℕ) where
   }
     where
       backed : Backed owner (push s r (mk j (s .now r .voted) (s .now r .status) (s .now r .value) p g a) ms) (s .now r)
-      backed = up-back (grow _ ms) (s .now r) (back-now I r)
+      backed = up-back (grow _ ms) (s .now r) (backed-now I r)
 
   -- a commit
   good-com : (v : Value) (ms : List Msg) → (s .now r .status ≡ s4 → ⊥)
@@ -60,7 +60,7 @@ module _ {F owner : ℕ} {s : Sys} (I : Inv F owner s) (r : ℕ) where
       → Good F owner s r (mk (s .now r .joined) (s .now r .voted) s4 v idle nobody (s .now r .replies)) ms
   good-com v ms n c vouched = record {
     older = le-com n refl;
-    local = record { voted-joined = loc-now I r .voted-joined; unvoted = λ e. clash (cc); when-preparing = λ e. clash (cc); when-pre-accepting = λ e. clash (cc); when-accepting = λ e. clash (cc) };
+    local = record { voted-joined = local-now I r .voted-joined; unvoted = λ e. clash (cc); when-preparing = λ e. clash (cc); when-pre-accepting = λ e. clash (cc); when-accepting = λ e. clash (cc) };
     backed = record { added = λ e. clash (cc); unchanged = λ e. clash (cc); accepted = λ e. clash (cc) };
     collected = record { promises = λ e. clash (cc); pre-accepts = λ e. clash (cc); accepts = λ e. clash (cc) };
     reason = λ e. c;
@@ -69,7 +69,7 @@ module _ {F owner : ℕ} {s : Sys} (I : Inv F owner s) (r : ℕ) where
   }
 
   -- a vote at b of a copy that does not lead b
-  good-vote : (b : ℕ) (u : St) (v : Value) (m : Msg)
+  good-vote : (b : ℕ) (u : Status) (v : Value) (m : Msg)
       → (lead owner b ≡ r → ⊥)
       → Le (s .now r) (mk b b u v idle nobody (s .now r .replies))
       → (u ≡ s0 → ⊥) → (u ≡ s4 → ⊥)
@@ -87,7 +87,7 @@ module _ {F owner : ℕ} {s : Sys} (I : Inv F owner s) (r : ℕ) where
   }
 
   -- a vote of the lead at its own ballot
-  good-lead : (b : ℕ) (u : St) (v : Value) (p : Ph) (m : Msg)
+  good-lead : (b : ℕ) (u : Status) (v : Value) (p : Phase) (m : Msg)
       → lead owner b ≡ r
       → Le (s .now r) (mk b b u v p nobody (s .now r .replies))
       → (u ≡ s0 → ⊥) → (u ≡ s4 → ⊥) → (u ≡ s1 → ⊥) → (p ≡ preparing → ⊥) → (p ≡ prephase → u ≡ s2) → (p ≡ accphase → u ≡ s3)
@@ -111,18 +111,18 @@ module _ {F owner : ℕ} {s : Sys} (I : Inv F owner s) (r : ℕ) where
   }
 
   key-fresh : (b : ℕ) → s .now r .joined ≤ b → Fresh (s .now r) b → s .now r .voted * 3 + rank (s .now r .status) < b * 3 + 1
-  key-fresh b l (inl e) = omega (arith, loc-now I r .unvoted e, ap rank e)
+  key-fresh b l (inl e) = omega (arith, local-now I r .unvoted e, ap rank e)
   key-fresh b l (inr h) = omega (arith, rank-le (s .now r .status))
 
   -- the order after an Accept: a new vote, or the same again
-  le-acc : (b : ℕ) (v : Value) (p : Ph) → s .now r .joined ≤ b → (s .now r .status ≡ s4 → ⊥) → (s .now r .voted ≡ b → s .now r .status ≡ s3 → s .now r .value ≡ v)
+  le-acc : (b : ℕ) (v : Value) (p : Phase) → s .now r .joined ≤ b → (s .now r .status ≡ s4 → ⊥) → (s .now r .voted ≡ b → s .now r .status ≡ s3 → s .now r .value ≡ v)
       → Le (s .now r) (mk b b s3 v p nobody (s .now r .replies))
-  le-acc b v p l n h = go (s .now r .status) refl (eq-or-lt-of-le (omega (arith, loc-now I r .voted-joined)))
+  le-acc b v p l n h = go (s .now r .status) refl (eq-or-lt-of-le (omega (arith, local-now I r .voted-joined)))
     where
       new : s .now r .voted * 3 + rank (s .now r .status) < b * 3 + 2 → Le (s .now r) (mk b b s3 v p nobody (s .now r .replies))
       new k = le-new l l k n (λ e. clash (cc))
 
-      go : (u : St) → s .now r .status ≡ u → (s .now r .voted ≡ b) ⊎ (s .now r .voted < b) → Le (s .now r) (mk b b s3 v p nobody (s .now r .replies))
+      go : (u : Status) → s .now r .status ≡ u → (s .now r .voted ≡ b) ⊎ (s .now r .voted < b) → Le (s .now r) (mk b b s3 v p nobody (s .now r .replies))
       go u e (inr k) = new (omega (arith, rank-le (s .now r .status)))
       go s0 e (inl k) = new (omega (arith, ap rank e))
       go s1 e (inl k) = new (omega (arith, ap rank e))
@@ -131,16 +131,16 @@ module _ {F owner : ℕ} {s : Sys} (I : Inv F owner s) (r : ℕ) where
       go s4 e (inl k) = absurd (n e)
 
   good-say : (m : Msg) → Says r (s .now r) m → Good F owner s r (s .now r) (m ∷ [])
-  good-say m sy = good-same (s .now r .joined) (s .now r .phase) (s .now r .got) (s .now r .replies) (m ∷ []) (omega arith) (loc-now I r)
-      (up-coll (grow (s .now r) (m ∷ [])) (s .now r) (coll-now I r))
+  good-say m sy = good-same (s .now r .joined) (s .now r .phase) (s .now r .got) (s .now r .replies) (m ∷ []) (omega arith) (local-now I r)
+      (up-coll (grow (s .now r) (m ∷ [])) (s .now r) (collected-now I r))
       (λ x k. subst (λ (y : Msg). Vouched F owner (push s r (s .now r) (m ∷ [])) y) (sym (List·Memᴰ·eq-of-singleton k)) (ok sy))
     where
       ok : {m' : Msg} → Says r (s .now r) m' → Vouched F owner (push s r (s .now r) (m ∷ [])) m'
       ok (say-ok1 e) = inl (new-vote (s .now r) (m ∷ []) s1 e (λ f. clash (cc)) (λ f. clash (cc)))
       ok (say-ok2 e) = inr (new-vote (s .now r) (m ∷ []) s2 e (λ f. clash (cc)) (λ f. clash (cc)))
-      ok (say-pre e) = let (l, j, u) = loc-now I r .when-pre-accepting e in
+      ok (say-pre e) = let (l, j, u) = local-now I r .when-pre-accepting e in
           rw l (new-at (s .now r) (m ∷ []) (s .now r .joined) s2 j u (λ f. clash (cc)) (λ f. clash (cc)))
-      ok (say-acc e) = let (l, j, u) = loc-now I r .when-accepting e in
+      ok (say-acc e) = let (l, j, u) = local-now I r .when-accepting e in
           rw l (new-at (s .now r) (m ∷ []) (s .now r .joined) s3 j u (λ f. clash (cc)) (λ f. clash (cc)))
       ok (say-commit e) = up-com s r (s .now r) (m ∷ []) (le-refl (s .now r)) _ (I .reasons r (s .now r) (now-in I r (λ f. clash (cc))) e)
 
@@ -153,17 +153,17 @@ module _ {F owner : ℕ} {s : Sys} (I : Inv F owner s) (r : ℕ) where
   slow-votes ms T phase Q enough q = record { set = Q; size = enough; votes = λ i l m. vote-up T ms i (s .now r .joined) s3 (s .now r .value) (go i (q i m)) }
     where
       own : Vote s r (s .now r .joined) s3 (s .now r .value)
-      own = own-at I r (s .now r .joined) s3 (loc-now I r .when-accepting phase .1) (loc-now I r .when-accepting phase .2) (λ f. clash (cc)) (λ f. clash (cc))
+      own = own-at I r (s .now r .joined) s3 (local-now I r .when-accepting phase .1) (local-now I r .when-accepting phase .2) (λ f. clash (cc)) (λ f. clash (cc))
 
       has : (i : ℕ) → HasAcc s (s .now r) i → (v : Value) × Vote s i (s .now r .joined) s3 v
-      has i (inl g) = coll-now I r .accepts phase i g
+      has i (inl g) = collected-now I r .accepts phase i g
       has i (inr m) = I .msgs _ m
 
       go : (i : ℕ) → (i ≡ r) ⊎ HasAcc s (s .now r) i → Vote s i (s .now r .joined) s3 (s .now r .value)
       go i (inl e) = rw e own
       go i (inr g) =
           let (v, x) = has i g in
-          let e : v ≡ s .now r .value = vote-one I r (s .now r .joined) s3 _ _ (rw (loc-now I r .when-accepting phase .0) at (vote-accepted I i (s .now r .joined) v x)) own in
+          let e : v ≡ s .now r .value = vote-one I r (s .now r .joined) s3 _ _ (rw (local-now I r .when-accepting phase .0) at (vote-accepted I i (s .now r .joined) v x)) own in
           rw e at x
 
   coll-upd : {A : Type 0} (P : ℕ → A → Type 0) (g : ℕ → Bool) (f : ℕ → A) (i : ℕ) (a : A) → P i a → ((j : ℕ) → g j ≡ true → P j (f j))
@@ -180,7 +180,7 @@ module _ {F owner : ℕ} {s : Sys} (I : Inv F owner s) (r : ℕ) where
   fast-votes-ok phase at-zero is-owner i g = go (has-pre I r phase i (s .now r .value) g)
     where
       own : Vote s r 0 s2 (s .now r .value)
-      own = own-at I r 0 s2 (loc-now I r .when-pre-accepting phase .1 ∙ at-zero) (loc-now I r .when-pre-accepting phase .2) (λ f. clash (cc)) (λ f. clash (cc))
+      own = own-at I r 0 s2 (local-now I r .when-pre-accepting phase .1 ∙ at-zero) (local-now I r .when-pre-accepting phase .2) (λ f. clash (cc)) (λ f. clash (cc))
 
       go : Vote s i (s .now r .joined) s1 (s .now r .value) ⊎ Vote s i (s .now r .joined) s2 (s .now r .value) → Vote s i 0 s2 (s .now r .value)
       go (inr x) = rw at-zero at x
@@ -192,10 +192,10 @@ module _ {F owner : ℕ} {s : Sys} (I : Inv F owner s) (r : ℕ) where
   fast-quiet phase at-zero X w = go (I .chain r X w)
     where
       u : s .now r .status ≡ s2
-      u = loc-now I r .when-pre-accepting phase .2
+      u = local-now I r .when-pre-accepting phase .2
 
       voted-joined : s .now r .voted ≡ s .now r .joined
-      voted-joined = loc-now I r .when-pre-accepting phase .1
+      voted-joined = local-now I r .when-pre-accepting phase .1
 
       go : Le X (s .now r) → (X .joined ≡ 0) × (X .status ≡ s3 → ⊥)
       go (le-same a b c d) = (omega arith, λ e. clash (cc u))
@@ -221,7 +221,7 @@ module _ {F owner : ℕ} {s : Sys} (I : Inv F owner s) (r : ℕ) where
   pub good : {Req : Command → Type 0} {R : Rec} {ms : List Msg} → Trans F owner Req s r (s .now r) R ms → Good F owner s r R ms
   good (repeat m h) = good-say m h
   good (request v e j z rq) = good-lead 0 s2 v prephase (mPre 0 v) (lead-0 owner ∙ sym e)
-      (le-new (omega arith) (omega arith) (omega (arith, loc-now I r .unvoted z, ap rank z)) (λ f. clash (cc)) (λ f. clash (cc)))
+      (le-new (omega arith) (omega arith) (omega (arith, local-now I r .unvoted z, ap rank z)) (λ f. clash (cc)) (λ f. clash (cc)))
       (λ f. clash (cc)) (λ f. clash (cc)) (λ f. clash (cc)) (λ f. clash (cc)) (λ f. refl) (λ f. clash (cc))
       (rw (lead-0 owner ∙ sym e) (new-at (mk 0 0 s2 v prephase nobody (s .now r .replies)) (mPre 0 v ∷ []) 0 s2 refl refl (λ f. clash (cc)) (λ f. clash (cc))))
       (λ p. absurd (omega arith))
@@ -237,25 +237,25 @@ module _ {F owner : ℕ} {s : Sys} (I : Inv F owner s) (r : ℕ) where
       let T : Rec = mk (s .now r .joined) (s .now r .voted) (s .now r .status) (s .now r .value) (s .now r .phase) (upd (s .now r .got) i true) (upd (s .now r .replies) i (record { voted = s .now r .joined; status = s1; value = v })) in
       let S : Sys = push s r T [] in
       good-same (s .now r .joined) (s .now r .phase) (upd (s .now r .got) i true) (upd (s .now r .replies) i (record { voted = s .now r .joined; status = s1; value = v })) [] (omega arith)
-      (record { voted-joined = loc-now I r .voted-joined; unvoted = loc-now I r .unvoted; when-preparing = loc-now I r .when-preparing; when-pre-accepting = loc-now I r .when-pre-accepting; when-accepting = loc-now I r .when-accepting })
+      (record { voted-joined = local-now I r .voted-joined; unvoted = local-now I r .unvoted; when-preparing = local-now I r .when-preparing; when-pre-accepting = local-now I r .when-pre-accepting; when-accepting = local-now I r .when-accepting })
       (record {
         promises = λ e. clash (cc);
         accepts = λ e. clash (cc);
         pre-accepts = λ e. coll-upd (λ (j : ℕ) (a : Reply). Vote S j (s .now r .joined) s1 (a .value) ⊎ Vote S j (s .now r .joined) s2 (a .value)) (s .now r .got) (s .now r .replies) i (record { voted = s .now r .joined; status = s1; value = v })
-            (up-two (grow T []) i (s .now r .joined) v (I .msgs _ sent)) (λ j g. up-two (grow T []) j _ _ (coll-now I r .pre-accepts phase j g));
+            (up-two (grow T []) i (s .now r .joined) v (I .msgs _ sent)) (λ j g. up-two (grow T []) j _ _ (collected-now I r .pre-accepts phase j g));
       })
       (λ m k. absurd (List·Memᴰ·not-nil k))
-  good (fast-commit phase at-zero is-owner P enough out got) = good-com (s .now r .value) (mCommit (s .now r .value) ∷ []) (λ f. clash (cc (loc-now I r .when-pre-accepting phase .2))) (com-fast (fast-ev phase at-zero is-owner P enough out got _ (mCommit (s .now r .value) ∷ []) refl))
+  good (fast-commit phase at-zero is-owner P enough out got) = good-com (s .now r .value) (mCommit (s .now r .value) ∷ []) (λ f. clash (cc (local-now I r .when-pre-accepting phase .2))) (com-fast (fast-ev phase at-zero is-owner P enough out got _ (mCommit (s .now r .value) ∷ []) refl))
       (λ m k. List·Memᴰ·eq-of-singleton k)
   good (to-accept w phase same-cmd Q enough covers-them) =
-      let (l, j, u) = loc-now I r .when-pre-accepting phase in
+      let (l, j, u) = local-now I r .when-pre-accepting phase in
       good-lead (s .now r .joined) s3 w accphase (mAcc (s .now r .joined) w) l
       (le-acc (s .now r .joined) w accphase (omega arith) (λ f. clash (cc)) (λ e f. clash (cc)))
       (λ f. clash (cc)) (λ f. clash (cc)) (λ f. clash (cc)) (λ f. clash (cc)) (λ f. clash (cc)) (λ f. refl)
       (rw l (new-at (mk (s .now r .joined) (s .now r .joined) s3 w accphase nobody (s .now r .replies)) (mAcc (s .now r .joined) w ∷ []) (s .now r .joined) s3 refl refl (λ f. clash (cc)) (λ f. clash (cc))))
       (λ p. inl (j, λ f. clash (cc), obey-acc (s .now r .joined) w u same-cmd))
   good (acc b v sent not-lead uncommitted l) = good-vote b s3 v (mAccOK r b) not-lead
-      (le-acc b v idle l uncommitted (λ e f. vote-one I (lead owner b) b s3 _ _ (rw e at (back-now I r .accepted f)) (I .msgs (mAcc b v) sent)))
+      (le-acc b v idle l uncommitted (λ e f. vote-one I (lead owner b) b s3 _ _ (rw e at (backed-now I r .accepted f)) (I .msgs (mAcc b v) sent)))
       (λ f. clash (cc)) (λ f. clash (cc))
       (record { added = λ e. clash (cc); unchanged = λ e. clash (cc); accepted = λ e. I .msgs (mAcc b v) sent })
       (v, new-vote (mk b b s3 v idle nobody (s .now r .replies)) (mAccOK r b ∷ []) s3 refl (λ f. clash (cc)) (λ f. clash (cc)))
@@ -263,26 +263,26 @@ module _ {F owner : ℕ} {s : Sys} (I : Inv F owner s) (r : ℕ) where
       let T : Rec = mk (s .now r .joined) (s .now r .voted) (s .now r .status) (s .now r .value) (s .now r .phase) (upd (s .now r .got) i true) (s .now r .replies) in
       let S : Sys = push s r T [] in
       good-same (s .now r .joined) (s .now r .phase) (upd (s .now r .got) i true) (s .now r .replies) [] (omega arith)
-      (record { voted-joined = loc-now I r .voted-joined; unvoted = loc-now I r .unvoted; when-preparing = loc-now I r .when-preparing; when-pre-accepting = loc-now I r .when-pre-accepting; when-accepting = loc-now I r .when-accepting })
+      (record { voted-joined = local-now I r .voted-joined; unvoted = local-now I r .unvoted; when-preparing = local-now I r .when-preparing; when-pre-accepting = local-now I r .when-pre-accepting; when-accepting = local-now I r .when-accepting })
       (record {
         promises = λ e. clash (cc);
         pre-accepts = λ e. clash (cc);
         accepts = λ e. coll-upd (λ (j : ℕ) (a : Reply). (v : Value) × Vote S j (s .now r .joined) s3 v) (s .now r .got) (s .now r .replies) i (s .now r .replies i)
-            (let (v, x) = I .msgs _ sent in (v, vote-up T [] i (s .now r .joined) s3 v x)) (λ j g. let (v, x) = coll-now I r .accepts phase j g in (v, vote-up T [] j (s .now r .joined) s3 v x));
+            (let (v, x) = I .msgs _ sent in (v, vote-up T [] i (s .now r .joined) s3 v x)) (λ j g. let (v, x) = collected-now I r .accepts phase j g in (v, vote-up T [] j (s .now r .joined) s3 v x));
       })
       (λ m k. absurd (List·Memᴰ·not-nil k))
-  good (slow-commit phase Q enough q) = good-com (s .now r .value) (mCommit (s .now r .value) ∷ []) (λ f. clash (cc (loc-now I r .when-accepting phase .2)))
+  good (slow-commit phase Q enough q) = good-com (s .now r .value) (mCommit (s .now r .value) ∷ []) (λ f. clash (cc (local-now I r .when-accepting phase .2)))
       (com-slow (s .now r .joined) (slow-votes (mCommit (s .now r .value) ∷ []) _ phase Q enough q))
       (λ m k. List·Memᴰ·eq-of-singleton k)
   good (learn v sent uncommitted) = good-com v [] uncommitted
       (up-com s r (mk (s .now r .joined) (s .now r .voted) s4 v idle nobody (s .now r .replies)) [] (le-com uncommitted refl) v (I .msgs (mCommit v) sent))
       (λ m k. absurd (List·Memᴰ·not-nil k))
   good (join b l uncommitted) = good-same b idle nobody (s .now r .replies) [] (omega arith)
-      (record { voted-joined = omega (arith, loc-now I r .voted-joined); unvoted = loc-now I r .unvoted; when-preparing = λ e. clash (cc); when-pre-accepting = λ e. clash (cc); when-accepting = λ e. clash (cc) })
+      (record { voted-joined = omega (arith, local-now I r .voted-joined); unvoted = local-now I r .unvoted; when-preparing = λ e. clash (cc); when-pre-accepting = λ e. clash (cc); when-accepting = λ e. clash (cc) })
       (record { promises = λ e. clash (cc); pre-accepts = λ e. clash (cc); accepts = λ e. clash (cc) })
       (λ m k. absurd (List·Memᴰ·not-nil k))
   good (promise b l voted-below uncommitted) = good-same b idle nobody (s .now r .replies) (mPrepOK r b (reply-of (s .now r)) ∷ []) (omega arith)
-      (record { voted-joined = omega (arith, loc-now I r .voted-joined); unvoted = loc-now I r .unvoted; when-preparing = λ e. clash (cc); when-pre-accepting = λ e. clash (cc); when-accepting = λ e. clash (cc) })
+      (record { voted-joined = omega (arith, local-now I r .voted-joined); unvoted = local-now I r .unvoted; when-preparing = λ e. clash (cc); when-pre-accepting = λ e. clash (cc); when-accepting = λ e. clash (cc) })
       (record { promises = λ e. clash (cc); pre-accepts = λ e. clash (cc); accepts = λ e. clash (cc) })
       (let T : Rec = mk b (s .now r .voted) (s .now r .status) (s .now r .value) idle nobody (s .now r .replies) in
       λ x k. subst (λ (y : Msg). Vouched F owner (push s r T (mPrepOK r b (reply-of (s .now r)) ∷ [])) y) (sym (List·Memᴰ·eq-of-singleton k))
@@ -291,35 +291,35 @@ module _ {F owner : ℕ} {s : Sys} (I : Inv F owner s) (r : ℕ) where
       let T : Rec = mk b (s .now r .voted) (s .now r .status) (s .now r .value) preparing (upd nobody r true) (upd (s .now r .replies) r (reply-of (s .now r))) in
       let S : Sys = push s r T [] in
       good-same b preparing (upd nobody r true) (upd (s .now r .replies) r (reply-of (s .now r))) [] (omega arith)
-      (record { voted-joined = omega (arith, loc-now I r .voted-joined); unvoted = loc-now I r .unvoted; when-preparing = λ e. (leads, omega (arith, loc-now I r .voted-joined), uncommitted); when-pre-accepting = λ e. clash (cc); when-accepting = λ e. clash (cc) })
+      (record { voted-joined = omega (arith, local-now I r .voted-joined); unvoted = local-now I r .unvoted; when-preparing = λ e. (leads, omega (arith, local-now I r .voted-joined), uncommitted); when-pre-accepting = λ e. clash (cc); when-accepting = λ e. clash (cc) })
       (record {
         pre-accepts = λ e. clash (cc);
         accepts = λ e. clash (cc);
         promises = λ e. coll-upd (λ (j : ℕ) (a : Reply). Promised S j b a) nobody (s .now r .replies) r (reply-of (s .now r))
-            (record { saved = T; was = List·Memᴰ·head refl; joined = refl; uncommitted = uncommitted; below = omega (arith, loc-now I r .voted-joined); voted = refl; status = refl; value = refl }) (λ j g. clash (cc));
+            (record { saved = T; was = List·Memᴰ·head refl; joined = refl; uncommitted = uncommitted; below = omega (arith, local-now I r .voted-joined); voted = refl; status = refl; value = refl }) (λ j g. clash (cc));
       })
       (λ m k. absurd (List·Memᴰ·not-nil k))
   good (collect-prep i a sent phase) =
       let T : Rec = mk (s .now r .joined) (s .now r .voted) (s .now r .status) (s .now r .value) (s .now r .phase) (upd (s .now r .got) i true) (upd (s .now r .replies) i a) in
       let S : Sys = push s r T [] in
       good-same (s .now r .joined) (s .now r .phase) (upd (s .now r .got) i true) (upd (s .now r .replies) i a) [] (omega arith)
-      (record { voted-joined = loc-now I r .voted-joined; unvoted = loc-now I r .unvoted; when-preparing = loc-now I r .when-preparing; when-pre-accepting = loc-now I r .when-pre-accepting; when-accepting = loc-now I r .when-accepting })
+      (record { voted-joined = local-now I r .voted-joined; unvoted = local-now I r .unvoted; when-preparing = local-now I r .when-preparing; when-pre-accepting = local-now I r .when-pre-accepting; when-accepting = local-now I r .when-accepting })
       (record {
         pre-accepts = λ e. clash (cc);
         accepts = λ e. clash (cc);
         promises = λ e. coll-upd (λ (j : ℕ) (a : Reply). Promised S j (s .now r .joined) a) (s .now r .got) (s .now r .replies) i a
-            (up-ok (grow T []) i (s .now r .joined) a (I .msgs _ sent)) (λ j g. up-ok (grow T []) j _ _ (coll-now I r .promises phase j g));
+            (up-ok (grow T []) i (s .now r .joined) a (I .msgs _ sent)) (λ j g. up-ok (grow T []) j _ _ (collected-now I r .promises phase j g));
       })
       (λ m k. absurd (List·Memᴰ·not-nil k))
   good (decide-accept v phase Q rep enough has d) =
-      let (l, lt, n) = loc-now I r .when-preparing phase in
+      let (l, lt, n) = local-now I r .when-preparing phase in
       good-lead (s .now r .joined) s3 v accphase (mAcc (s .now r .joined) v) l
       (le-acc (s .now r .joined) v accphase (omega arith) n (λ e f. absurd (omega arith)))
       (λ f. clash (cc)) (λ f. clash (cc)) (λ f. clash (cc)) (λ f. clash (cc)) (λ f. clash (cc)) (λ f. refl)
       (rw l (new-at (mk (s .now r .joined) (s .now r .joined) s3 v accphase nobody (s .now r .replies)) (mAcc (s .now r .joined) v ∷ []) (s .now r .joined) s3 refl refl (λ f. clash (cc)) (λ f. clash (cc))))
       (λ p. inr (lt, n, record { Q = Q; rep = rep; outcome = accept v; size = enough; promises = λ i q. up-ok (grow _ (mAcc (s .now r .joined) v ∷ [])) i _ _ (has-prep I r phase i (rep i) (has i q)); decided = d }, (refl, refl)))
   good (decide-afresh c v phase Q rep enough has d same-cmd) =
-      let (l, lt, n) = loc-now I r .when-preparing phase in
+      let (l, lt, n) = local-now I r .when-preparing phase in
       good-lead (s .now r .joined) s2 v prephase (mPre (s .now r .joined) v) l
       (le-new (omega arith) (omega arith) (key-fresh (s .now r .joined) (omega arith) (inr lt)) n (λ f. clash (cc)))
       (λ f. clash (cc)) (λ f. clash (cc)) (λ f. clash (cc)) (λ f. clash (cc)) (λ f. refl) (λ f. clash (cc))

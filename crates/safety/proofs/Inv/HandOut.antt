@@ -200,15 +200,15 @@ module _ (C : Case) where
       go : (a : List ℕ) → Mark G I a → (Mem J a → ⊥) → (b : List ℕ) → Mark G J b → (Mem I b → ⊥) → Cover C v J ⊎ Cover C w I → ⊥
       go a ma na b mb nb e = fin (both-ways e)
         where
-          IJ : Star (All G) I J → Star (All G) J I
-          IJ s = ⊎-elim (λ r. r) (λ k. absurd (na k)) (ma .past J s)
+          there : Star (All G) I J → Star (All G) J I
+          there s = ⊎-elim (λ r. r) (λ k. absurd (na k)) (ma .past J s)
 
-          JI : Star (All G) J I → Star (All G) I J
-          JI s = ⊎-elim (λ r. r) (λ k. absurd (nb k)) (mb .past I s)
+          back-again : Star (All G) J I → Star (All G) I J
+          back-again s = ⊎-elim (λ r. r) (λ k. absurd (nb k)) (mb .past I s)
 
           both-ways : Cover C v J ⊎ Cover C w I → Star (All G) I J × Star (All G) J I
-          both-ways (inl c) = let s : Star (All G) I J = on here (v, x, c) in (s, IJ s)
-          both-ways (inr c) = let s : Star (All G) J I = on here (w, y, c) in (JI s, s)
+          both-ways (inl c) = let s : Star (All G) I J = on here (v, x, c) in (s, there s)
+          both-ways (inr c) = let s : Star (All G) J I = on here (w, y, c) in (back-again s, s)
 
           fin : Star (All G) I J × Star (All G) J I → ⊥
           fin s = by (decLt I J)

@@ -6,14 +6,14 @@ use mathlib.Core.Path.{_≡_, sym, ap, _∙_}
 use mathlib.Core.Logic.{_⊎_, inl, inr}
 use mathlib.Core.List.{List, List·Memᴰ, List·Memᴰ·head, List·Memᴰ·tail, List·Memᴰ·cases-cons, List·Memᴰ·append-cases}
 use native.Mathlib.Omega.{arith}
-use Rattle.safety.proofs.Hist.{St, s1, s2, s3, s4, Reply, Outcome, accept, afresh}
+use Rattle.safety.proofs.Hist.{Status, s1, s2, s3, s4, Reply, Outcome, accept, afresh}
 use Rattle.safety.proofs.Sys.{Rec, Msg, mPre, mPreOK, mAcc, mAccOK, mCommit, mPrepOK, Sys, upd-cases, push, Was, Sent}
 use Rattle.safety.proofs.Older.{Le, le-refl, le-trans, le-voted, le-four}
 use Rattle.safety.proofs.Inv.{Local, Vote, Promised, Backed, SlowVotes, FastVotes, Reason, com-slow, com-fast, Vouched, Collected, ObeysR, Decision, Blank, Inv}
 
 -- a longer history shows all that a shorter one shows
 module _ {s t : Sys} (ext : (r : ℕ) (R : Rec) → Was s r R → Was t r R) where
-  pub up-vote : (r b : ℕ) (u : St) (v : Value) → Vote s r b u v → Vote t r b u v
+  pub up-vote : (r b : ℕ) (u : Status) (v : Value) → Vote s r b u v → Vote t r b u v
   up-vote r b u v h = record { saved = h .saved; was = ext r (h .saved) (h .was); ballot = h .ballot; status = h .status; value = h .value; cast = h .cast; uncommitted = h .uncommitted }
 
   pub up-ok : (r b : ℕ) (a : Reply) → Promised s r b a → Promised t r b a

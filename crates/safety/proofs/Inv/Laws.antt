@@ -8,7 +8,7 @@ use mathlib.Core.Bool.{Bool, true}
 use native.Mathlib.Omega.{arith}
 use Rattle.reach.proofs.Tests.{clash}
 use Rattle.reach.proofs.Count.{cnt}
-use Rattle.safety.proofs.Hist.{St, s0, s1, s2, s3, s4, Upto, u11, u13, u22, u23, u33, Reply, Outcome, accept, afresh, Decided, Obeys, Hist, Rules}
+use Rattle.safety.proofs.Hist.{Status, s0, s1, s2, s3, s4, Upto, u11, u13, u22, u23, u33, Reply, Outcome, accept, afresh, Decided, Obeys, Hist, Rules}
 use Rattle.safety.proofs.Agree.{Commit, slow, quick}
 use Rattle.safety.proofs.Sys.{Rec, Sys, Was}
 use Rattle.safety.proofs.Older.{rank, rank-le, Le, le-same, le-new, le-com}
@@ -19,7 +19,7 @@ module _ {F owner : ℕ} {s : Sys} (I : Inv F owner s) where
   unfoldable pub hist : Hist F owner
   hist = record { Pre = λ b v. Vote s (lead owner b) b s2 v; Acc = λ b v. Vote s (lead owner b) b s3 v; Vote = Vote s; Ok = Promised s; Fast = FastVotes F owner s }
 
-  up-rank : (u w : St) → (u ≡ s0 → ⊥) → (u ≡ s4 → ⊥) → (w ≡ s4 → ⊥) → rank u < rank w → Upto u w
+  up-rank : (u w : Status) → (u ≡ s0 → ⊥) → (u ≡ s4 → ⊥) → (w ≡ s4 → ⊥) → rank u < rank w → Upto u w
   up-rank s0 w cast uncommitted uncommitted' l = absurd (cast refl)
   up-rank s4 w cast uncommitted uncommitted' l = absurd (uncommitted refl)
   up-rank s1 s0 cast uncommitted uncommitted' l = absurd (omega arith)
@@ -34,14 +34,14 @@ module _ {F owner : ℕ} {s : Sys} (I : Inv F owner s) where
   up-rank s2 s4 cast uncommitted uncommitted' l = absurd (uncommitted' refl)
   up-rank s3 w cast uncommitted uncommitted' l = absurd (omega (arith, rank-le w))
 
-  up-self : (u : St) → (u ≡ s0 → ⊥) → (u ≡ s4 → ⊥) → Upto u u
+  up-self : (u : Status) → (u ≡ s0 → ⊥) → (u ≡ s4 → ⊥) → Upto u u
   up-self s0 cast uncommitted = absurd (cast refl)
   up-self s1 cast uncommitted = u11
   up-self s2 cast uncommitted = u22
   up-self s3 cast uncommitted = u33
   up-self s4 cast uncommitted = absurd (uncommitted refl)
 
-  last-vote : (r b c : ℕ) (u : St) (v : Value) (a : Reply) → Promised s r b a → Vote s r c u v → c < b
+  last-vote : (r b c : ℕ) (u : Status) (v : Value) (a : Reply) → Promised s r b a → Vote s r c u v → c < b
       → (a .status ≡ s0 → ⊥) × (c ≤ a .voted) × (c ≡ a .voted → Upto u (a .status))
   last-vote r b c u v a x y l = go (I .pair r (x .saved) (y .saved) (x .was) (y .was))
     where
@@ -79,7 +79,7 @@ module _ {F owner : ℕ} {s : Sys} (I : Inv F owner s) where
       × Decided F owner Q rep o × Obeys F owner (λ b v. Vote s (lead owner b) b s2 v) (λ b v. Vote s (lead owner b) b s3 v) b o
   decision b v pos h = go h
     where
-      by : (u : St) → (u ≡ s4 → ⊥) → Vote s (lead owner b) b u v → (Q : ℕ → Bool) × (rep : ℕ → Reply) × (o : Outcome)
+      by : (u : Status) → (u ≡ s4 → ⊥) → Vote s (lead owner b) b u v → (Q : ℕ → Bool) × (rep : ℕ → Reply) × (o : Outcome)
           × (suc F ≤ cnt (suc (2 * F)) Q) × ((i : ℕ) → i < suc (2 * F) → Q i ≡ true → Promised s i b (rep i))
           × Decided F owner Q rep o × Obeys F owner (λ b v. Vote s (lead owner b) b s2 v) (λ b v. Vote s (lead owner b) b s3 v) b o
       by u n x = let (e, obeys) = I .decisions b pos (x .saved) (x .was) (x .ballot) (λ f. n (sym (x .status) ∙ f)) in

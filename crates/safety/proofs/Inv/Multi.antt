@@ -7,13 +7,13 @@ use mathlib.Core.Logic.{_⊎_, inl, inr, ⊎-elim}
 use mathlib.Core.List.{List, List·Memᴰ·tail, List·Memᴰ·not-nil}
 use native.Mathlib.Omega.{arith}
 use Rattle.reach.proofs.Count.{quorums-meet}
-use Rattle.safety.proofs.Hist.{St, s0, s1, s2, s3, s4}
+use Rattle.safety.proofs.Hist.{Status, s0, s1, s2, s3, s4}
 use Rattle.safety.proofs.Agree.{agreement}
 use Rattle.safety.proofs.Sys.{Rec, Msg, Sys, upd, upd-cases, push, Was, blankSys, Trans, Reach, init, step}
 use Rattle.safety.proofs.Older.{rank, Le, le-same, le-new, le-com, le-voted}
 use Rattle.safety.proofs.Inv.{Vote, Reason, Inv}
 use Rattle.safety.proofs.Inv.Keep.{which}
-use Rattle.safety.proofs.Inv.Facts.{now-in, loc-now}
+use Rattle.safety.proofs.Inv.Facts.{now-in, local-now}
 use Rattle.safety.proofs.Inv.Good.{holds}
 use Rattle.safety.proofs.Inv.Laws.{hist, rules, commit}
 use Rattle.reach.proofs.Tests.{clash}
@@ -104,7 +104,7 @@ module _ (C : Case) where
         go (le-same a b c d) (inl e) = (λ f. clash (cc), inr (omega arith))
         go (le-same a b c d) (inr e) = (λ f. clash (cc), inr (omega arith))
         go (le-new a b c d x) e = (
-          λ f. absurd (omega (arith, ap rank f, loc-now (inv J) r .unvoted f)),
+          λ f. absurd (omega (arith, ap rank f, local-now (inv J) r .unvoted f)),
           inr (le-voted {R = Y} {S = G J .now r} (le-new a b c d x) x),
         )
         go (le-com a b) e = (λ f. clash (cc), inl b)
@@ -152,7 +152,7 @@ module _ (C : Case) where
   all-pairs (g-step {G = G} I r R ms h l t g) q J K n X Y wx wy px py it =
       pairs-step G h (λ q J K n X Y wx wy px py it. all-pairs h q J K n X Y wx wy px py it) I r R ms g q J K n X Y wx wy px py it
 
-  is4 : (u : St) → Dec (u ≡ s4)
+  is4 : (u : Status) → Dec (u ≡ s4)
   is4 s0 = no (λ e. clash (cc))
   is4 s1 = no (λ e. clash (cc))
   is4 s2 = no (λ e. clash (cc))
@@ -198,14 +198,14 @@ module _ (C : Case) where
         go m h k g i u x vx cx sx t y vy cy sy
         (all-pairs gr i I J n (vx .saved) (vy .saved) (vx .was) (vy .was) (pv vx ux) (pv vy ty) (rw (vx .value, vy .value, cx, cy) it))
       where
-        pv : {K i b : ℕ} {u : St} {x : Value} → (q : Vote (G K) i b u x) → (u ≡ s1) ⊎ (u ≡ s2) → PreVoted (q .saved)
+        pv : {K i b : ℕ} {u : Status} {x : Value} → (q : Vote (G K) i b u x) → (u ≡ s1) ⊎ (u ≡ s2) → PreVoted (q .saved)
         pv q (inl e) = inl (q .status ∙ e)
         pv q (inr e) = inr (q .status ∙ e)
 
         go : (m : ℕ) (h : PreQuorum F (G I) v m)
             → (k : ℕ) (g : PreQuorum F (G J) w k)
-            → (i : ℕ) (u : St) (x : Value) → (vx : Vote (G I) i (h .b) u x) → cmd x ≡ cmd v → Sub x v
-            → (t : St) (y : Value) → (vy : Vote (G J) i (g .b) t y) → cmd y ≡ cmd w → Sub y w
+            → (i : ℕ) (u : Status) (x : Value) → (vx : Vote (G I) i (h .b) u x) → cmd x ≡ cmd v → Sub x v
+            → (t : Status) (y : Value) → (vy : Vote (G J) i (g .b) t y) → cmd y ≡ cmd w → Sub y w
             → Linked G i I J (vx .saved) (vy .saved) → Cover C v J ⊎ Cover C w I
         go m h k g i u x vx cx sx t y vy cy sy (first-covers a) = inl (cov-up C x v J sx (rw (vx .value) at a))
         go m h k g i u x vx cx sx t y vy cy sy (second-covers a) = inr (cov-up C y w I sy (rw (vy .value) at a))

@@ -10,11 +10,11 @@ use mathlib.Core.Bool.{Bool, true}
 use mathlib.Core.List.{List, List·Memᴰ·not-nil}
 use native.Mathlib.Omega.{arith}
 use Rattle.reach.proofs.Count.{member}
-use Rattle.safety.proofs.Hist.{St, s0, s2, s3, Reply, Outcome, accept, afresh, Decided, none-voted, accepted, fast, anew}
+use Rattle.safety.proofs.Hist.{Status, s0, s2, s3, Reply, Outcome, accept, afresh, Decided, none-voted, accepted, fast, anew}
 use Rattle.safety.proofs.Sys.{preparing, Rec, Msg, mPre, mAcc, mCommit, Sys, Was, HasPrep, Trans, repeat, request, pre-same, pre-more, collect-pre, fast-commit, to-accept, acc, collect-acc, slow-commit, learn, join, promise, recover, collect-prep, decide-accept, decide-afresh, Reach, init, step}
 use Rattle.safety.proofs.Inv.{Vote, Promised, Reason, com-slow, com-fast, Inv}
 use Rattle.safety.proofs.Inv.Keep.{which}
-use Rattle.safety.proofs.Inv.Facts.{now-in, loc-now, has-prep}
+use Rattle.safety.proofs.Inv.Facts.{now-in, local-now, has-prep}
 use Rattle.safety.proofs.Inv.Good.{holds}
 use Rattle.reach.proofs.Tests.{clash}
 
@@ -27,7 +27,7 @@ module _ (F owner : ℕ) (Req : Command → Type 0) (pos : 0 < F) where
   Valid s = (r : ℕ) (R : Rec) → Was s r R → (R .status ≡ s0 → ⊥) → Asked (cmd (R .value))
 
   module _ (s : Sys) (I : Inv F owner s) (A : Valid s) (r : ℕ) where
-    of-vote : (i b : ℕ) (u : St) (v : Value) → Vote s i b u v → Asked (cmd v)
+    of-vote : (i b : ℕ) (u : Status) (v : Value) → Vote s i b u v → Asked (cmd v)
     of-vote i b u v x = (rw (x .value) at (A i (x .saved) (x .was) (λ e. x .cast (sym (x .status) ∙ e))))
 
     of-com : (v : Value) → Reason F owner s v → Asked (cmd v)
@@ -60,11 +60,11 @@ module _ (F owner : ℕ) (Req : Command → Type 0) (pos : 0 < F) where
   new-ok s I A r (pre-same b v sent not-lead uncommitted l fresh) n = (of-vote s I A r (lead owner b) b s2 v (I .msgs (mPre b v) sent))
   new-ok s I A r (pre-more b v w sent not-lead uncommitted l fresh same-cmd differs) n = (rw same-cmd (of-vote s I A r (lead owner b) b s2 v (I .msgs (mPre b v) sent)))
   new-ok s I A r (collect-pre i v sent phase) n = (now-ok s I A r n)
-  new-ok s I A r (fast-commit phase at-zero is-owner P enough out got) n = (now-ok s I A r (λ e. clash (cc (loc-now I r .when-pre-accepting phase .2))))
-  new-ok s I A r (to-accept w phase same-cmd Q enough covers-them) n = (rw same-cmd (now-ok s I A r (λ e. clash (cc (loc-now I r .when-pre-accepting phase .2)))))
+  new-ok s I A r (fast-commit phase at-zero is-owner P enough out got) n = (now-ok s I A r (λ e. clash (cc (local-now I r .when-pre-accepting phase .2))))
+  new-ok s I A r (to-accept w phase same-cmd Q enough covers-them) n = (rw same-cmd (now-ok s I A r (λ e. clash (cc (local-now I r .when-pre-accepting phase .2)))))
   new-ok s I A r (acc b v sent not-lead uncommitted l) n = (of-vote s I A r (lead owner b) b s3 v (I .msgs (mAcc b v) sent))
   new-ok s I A r (collect-acc i sent phase) n = (now-ok s I A r n)
-  new-ok s I A r (slow-commit phase Q enough q) n = (now-ok s I A r (λ e. clash (cc (loc-now I r .when-accepting phase .2))))
+  new-ok s I A r (slow-commit phase Q enough q) n = (now-ok s I A r (λ e. clash (cc (local-now I r .when-accepting phase .2))))
   new-ok s I A r (learn v sent uncommitted) n = (of-com s I A r v (I .msgs (mCommit v) sent))
   new-ok s I A r (join b l uncommitted) n = (now-ok s I A r n)
   new-ok s I A r (promise b l voted-below uncommitted) n = (now-ok s I A r n)

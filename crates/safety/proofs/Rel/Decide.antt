@@ -18,11 +18,11 @@ use Rattle.reach.proofs.Tests.{clash, tf, and-l, and-r, and-in, not-not, eqb-eq
 use Rattle.reach.proofs.Count.{cnt, cnt-mono, both, both-true}
 use Rattle.reach.proofs.Count.{member as some-member}
 use Rattle.safety.proofs.Sets.{ones-those, none-those, lowest-those, lowest-any, largest-ge, largest-one}
-use Rattle.safety.proofs.Hist.{St, s0, s1, s2, s3, s4, is2, Reply, Outcome, accept, afresh, Top, NoAcc, twos, Decided, none-voted, accepted, fast, anew}
+use Rattle.safety.proofs.Hist.{Status, s0, s1, s2, s3, s4, is2, Reply, Outcome, accept, afresh, Top, NoAcc, twos, Decided, none-voted, accepted, fast, anew}
 use Rattle.safety.proofs.Rel.{num, st-eq, valueOf, Tells}
 use Rattle.safety.proofs.Rel.Collect.{within, among}
 
-two-is : (u : St) → is2 u ≡ true → num u ≡ 2
+two-is : (u : Status) → is2 u ≡ true → num u ≡ 2
 two-is s0 e = clash (cc)
 two-is s1 e = clash (cc)
 two-is s2 e = refl

@@ -31,7 +31,7 @@ use Rattle.safety.proofs.Deps.{joins-own, joins-each}
 use Rattle.safety.proofs.Value.{Value, cmd, Sub, lead-0}
 use Rattle.safety.proofs.Hist.{s1, s2, s3, s4, Reply}
 use Rattle.safety.proofs.Sys.{idle, preparing, prephase, accphase, Rec, mk, mPre, mPreOK, mAcc, mAccOK, mCommit, upd, upd-cases, upd-same, nobody, Sent, say-pre, say-acc, HasPre, HasAcc, repeat, collect-pre, fast-commit, to-accept, collect-acc, slow-commit}
-use Rattle.safety.proofs.Inv.Facts.{loc-now, own-at, near, has-pre}
+use Rattle.safety.proofs.Inv.Facts.{local-now, own-at, near, has-pre}
 use Rattle.safety.proofs.Rel.{phase-num, ph-eq, is-accphase, val, Rel, rel-begun, quiet, spoken, kept, takes, commits, same, moved, Spot, Ref, seven, still, tell-commit}
 use Rattle.safety.proofs.Rel.Collect.{within, among, and-one, in-one, of-with, rel-collect}
 
@@ -67,7 +67,7 @@ module _ (p : Spot) where
       -- all pre-accept the lead's command
       agreed : (i : ℕ) → i < 7 → member i (r' .set) ≡ true → a i .value .command ≡ A .value .command
       agreed i li m =
-          let (l, v, u) = loc-now I c .when-pre-accepting phase in
+          let (l, v, u) = local-now I c .when-pre-accepting phase in
           near I i (A .joined) (a i .value) (A .value) (rw l (own-at I c (A .joined) s2 v u (λ f. clash (cc)) (λ f. clash (cc)))) (has-pre I c phase i (a i .value) (has i li m))
 
       to-accepting : someEnough n r' ≡ true → Goal (acceptingJoin n c o j r')
@@ -105,7 +105,7 @@ module _ (p : Spot) where
           aj = rel' .joined ∙ at-zero
 
           co : c ≡ o
-          co = sym (rw (aj, lead-0 o) at (loc-now I c .when-pre-accepting phase .0))
+          co = sym (rw (aj, lead-0 o) at (local-now I c .when-pre-accepting phase .0))
 
           size : 2 * F ≤ suc (cnt n (within F fit match))
           size = omega (arith, leb-le (2 * faults n - 1) (ones (those match)) e, faults-n F, ones-those match, among F fit match (λ i li t. rel' .bound i li (and-l _ (sameDeps (added r' i) (r' .vote .deps)) t)))

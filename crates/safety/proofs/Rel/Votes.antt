@@ -33,10 +33,10 @@ use Rattle.paper.proofs.Laws.{sameDeps-eq}
 use Rattle.paper.proofs.Deps.{join-seven}
 use Rattle.safety.proofs.Deps.{Under, same-deps-refl, join-r}
 use Rattle.safety.proofs.Value.{Value}
-use Rattle.safety.proofs.Hist.{St, s0, s1, s2, s3, s4}
+use Rattle.safety.proofs.Hist.{Status, s0, s1, s2, s3, s4}
 use Rattle.safety.proofs.Sys.{idle, preparing, prephase, Rec, mk, reply-of, mPre, mPreOK, mAcc, mAccOK, mCommit, mPrepOK, upd, upd-cases, upd-same, nobody, Sent, Fresh, Says, say-ok1, say-ok2, repeat}
 use Rattle.safety.proofs.Sys.{request as mv-request, pre-same, pre-more, acc, learn, join as mv-join, promise, recover as mv-recover}
-use Rattle.safety.proofs.Inv.Facts.{loc-now}
+use Rattle.safety.proofs.Inv.Facts.{local-now}
 use Rattle.safety.proofs.Rel.{num, st-eq, val, Rel, rel-begun, quiet, spoken, kept, takes, commits, counts, moved, Spot, Ref, seven, open-st, still, refuse, commit-back, no-replies}
 
 -- a blank record has joined nothing, voted for nothing and has no mark
@@ -65,7 +65,7 @@ module _ (p : Spot) where
   Goal = Ref p
 
   voted-joined : A .voted ≤ A .joined
-  voted-joined = loc-now I c .voted-joined
+  voted-joined = local-now I c .voted-joined
 
   -- a lower ballot is refused, a committed record tells its commit
   or-refused : (m : Message) {x : Step} → (isCommitted r ≡ false → A .joined ≤ m .ballot → Goal x)
@@ -101,7 +101,7 @@ module _ (p : Spot) where
         told s = moved A (mPreOK c (A .voted) (A .value) ∷ []) (repeat (mPreOK c (A .voted) (A .value)) s) rel refl (kept refl refl refl)
             (spoken refl refl (rel .len, (r .vote .command, List·Memᴰ·head (λ i. mPreOK c (sym (rel .voted ∙ at) i) (sym (rel .value) i)))))
 
-        go : (u : St) → A .status ≡ u → Goal (preAcceptOk c o j m r)
+        go : (u : Status) → A .status ≡ u → Goal (preAcceptOk c o j m r)
         go s0 e = absurd (omega (arith, rel .status, ap num e, low))
         go s1 e = told (say-ok1 e)
         go s2 e = told (say-ok2 e)
