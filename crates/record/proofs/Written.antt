@@ -118,6 +118,10 @@ pub replies-seven : (b : List ℕ) → length (recordAt b .replies) ≡ 7
 unfolding recordAt votesAt
 replies-seven b = refl
 
+pub deps-seven : (b : List ℕ) → length (recordAt b .vote .deps) ≡ 7
+unfolding recordAt voteAt
+deps-seven b = refl
+
 pub recordAt-fits : (b : List ℕ) → Bytes b → RecordFits (recordAt b)
 unfolding recordAt votesAt
 recordAt-fits b h =

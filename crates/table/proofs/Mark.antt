@@ -13,7 +13,7 @@ use Rattle.table.specs.Place.{placeOf, partAt}
 use Rattle.table.specs.Sizes.{Names, Has}
 use Rattle.table.specs.Table.{recordIn, putRecord, Whole}
 use Rattle.table.proofs.Laws.{place-end}
-use Rattle.table.proofs.Round.{put-own, put-part, seven-in}
+use Rattle.table.proofs.Round.{put-own, put-part, replies-seven}
 
 -- one byte of a part, written alone
 set-part : (t : List ℕ) (a k i x : ℕ) → a + k ≤ length t → i < k → set t (a + i) x ≡ splice t a (set (take k (drop a t)) i x)
@@ -38,7 +38,7 @@ module _ (n s : ℕ) (t : List ℕ) (o j : ℕ) (h : Has n s o j t) (w : Whole s
       ∙ ap (splice t (placeOf s o j)) (sym (marked-bytes (recordIn s t o j) ∙ ap (λ (b : List ℕ). set b markPlace 1) w)))
 
   seven : length (withMark (recordIn s t o j) 1 .replies) ≡ 7
-  seven = seven-in s t o j
+  seven = replies-seven s t o j
 
   own-part : partAt (putRecord s t o j (withMark (recordIn s t o j) 1)) (placeOf s o j) ≡ recordBytes (withMark (recordIn s t o j) 1)
   own-part = put-own n s t (h .long) o j (h .names) (withMark (recordIn s t o j) 1) seven

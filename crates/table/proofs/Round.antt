@@ -20,7 +20,8 @@ use Rattle.record.specs.Layout.{recordAt, recordBytes, votesBytes}
 use Rattle.record.specs.Part.{Bytes, soundPart, opsFit}
 use Rattle.record.proofs.Laws.{length-frontBytes, length-votesBytes}
 use Rattle.record.proofs.Round.{recordAt-recordBytes, recordBytes-recordAt}
-use Rattle.record.proofs.Written.{recordAt-fits, replies-seven}
+use Rattle.record.proofs.Written as written
+use Rattle.record.proofs.Written.{recordAt-fits}
 use Rattle.paper.specs.Fits.{RecordFits}
 use Rattle.table.specs.Place.{tableLength, placeAt, placeOf, partAt}
 use Rattle.table.specs.Table.{headOk, soundRow, soundTable, recordIn, putRecord, Whole, Kept}
@@ -138,32 +139,35 @@ part-bytes t at b i =
     (λ (h : i < recordLength). rw (getD-take recordLength (drop at t) i 0 h, getD-drop at t i 0) (b (at + i)))
     (le-or-gt recordLength i)
 
--- a record of a sound table: sound, fitting its fields, and written back as its bytes
-module _ (n s c : ℕ) (t : List ℕ) (k : Kept n s c t) (o j : ℕ) (a : Names n s o j) where
-  long : length t ≡ tableLength n s
-  long = sizes n s c t (k .setup) .long
+-- a record as read: it fits its fields
+pub fits-in : (s : ℕ) (t : List ℕ) (o j : ℕ) → Bytes t → RecordFits (recordIn s t o j)
+unfolding recordIn
+fits-in s t o j b = recordAt-fits (partAt t (placeOf s o j)) (part-bytes t (placeOf s o j) b)
 
-  pub kept-sound : soundRecord n s c o (recordIn s t o j) ≡ true
-  unfolding soundPart recordIn
-  kept-sound = and-true (opsFit _) (soundRecord n s c o (recordAt (partAt t (placeOf s o j)))) (sound-at n s c t (k .sound) o j a) .1
+pub replies-seven : (s : ℕ) (t : List ℕ) (o j : ℕ) → length (recordIn s t o j .replies) ≡ 7
+unfolding recordIn
+replies-seven s t o j = written.replies-seven (partAt t (placeOf s o j))
 
-  pub kept-fits : RecordFits (recordIn s t o j)
-  unfolding recordIn
-  kept-fits = recordAt-fits (partAt t (placeOf s o j)) (part-bytes t (placeOf s o j) (k .bytes))
+pub deps-seven : (s : ℕ) (t : List ℕ) (o j : ℕ) → length (recordIn s t o j .vote .deps) ≡ 7
+unfolding recordIn
+deps-seven s t o j = written.deps-seven (partAt t (placeOf s o j))
 
-  pub kept-whole : Whole s t o j
-  unfolding Whole recordIn
-  kept-whole =
-      let p : List ℕ = partAt t (placeOf s o j) in
-      let l : length p ≡ recordLength = simp (length-take, length-drop) (omega (arith, place-end n s o j a, long)) in
-      recordBytes-recordAt p (part-bytes t (placeOf s o j) (k .bytes)) l (ops-fit n s c o p (sound-at n s c t (k .sound) o j a))
+-- a record of a sound table is sound
+pub record-sound : (n s c : ℕ) (t : List ℕ) → soundTable n s c t ≡ true → (o j : ℕ) → Names n s o j → soundRecord n s c o (recordIn s t o j) ≡ true
+unfolding soundPart recordIn
+record-sound n s c t h o j a =
+    and-true (opsFit (partAt t (placeOf s o j))) (soundRecord n s c o (recordAt (partAt t (placeOf s o j)))) (sound-at n s c t h o j a) .1
+
+-- and is written back as its bytes
+pub record-whole : (n s c : ℕ) (t : List ℕ) → Kept n s c t → (o j : ℕ) → Names n s o j → Whole s t o j
+unfolding Whole recordIn
+record-whole n s c t k o j a =
+    let p : List ℕ = partAt t (placeOf s o j) in
+    let l : length p ≡ recordLength = simp (length-take, length-drop) (omega (arith, place-end n s o j a, sizes n s c t (k .setup) .long)) in
+    recordBytes-recordAt p (part-bytes t (placeOf s o j) (k .bytes)) l (ops-fit n s c o p (sound-at n s c t (k .sound) o j a))
 
 -- writing back what was read
 pub put-get : (n s : ℕ) (t : List ℕ) → length t ≡ tableLength n s → (o j : ℕ) → Names n s o j → Whole s t o j → putRecord s t o j (recordIn s t o j) ≡ t
 unfolding putRecord Whole recordIn
 put-get n s t long o j a w =
     ap (λ (v : List ℕ). splice t (placeOf s o j) v) w ∙ splice-own t (placeOf s o j) recordLength (omega (arith, place-end n s o j a))
-
-pub seven-in : (s : ℕ) (t : List ℕ) (o j : ℕ) → length (recordIn s t o j .replies) ≡ 7
-unfolding recordIn
-seven-in s t o j = replies-seven (partAt t (placeOf s o j))
