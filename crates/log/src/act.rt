@@ -25,15 +25,7 @@ pub fn short(x: usize) -> u16
     x as u16
 }
 
-pub fn act(
-    t: &mut [u8],
-    out: &mut [u8],
-    n: usize,
-    s: usize,
-    o: usize,
-    j: usize,
-    x: Step,
-) -> Answer
+pub fn act(t: &mut [u8], out: &mut [u8], n: usize, s: usize, o: usize, j: usize, x: Step) -> Answer
     requires { ⌜ Has n s o j (now t) × (256 ≤ length (now out)) × (length (outBytes x) ≤ 222) ⌝ }
     ensures answers { λ r. ⌜ r ≡ Answer.Event o j (length (outBytes x)) ⌝ }
     ensures table { λ _. ⌜ now (t .exit) ≡ putRecord s (now (t .entry)) o j (x .entry) ⌝ }

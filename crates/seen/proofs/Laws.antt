@@ -28,6 +28,17 @@ highest-none : (k : ℕ) (f : ℕ → Bool) → k ≡ 0 → highest k f ≡ 0
 unfolding highest
 highest-none k f e = rw e
 
+-- the test that was made is the definition's
+pub asked : (s : ℕ) (t : List ℕ) (o j : ℕ) (k : Command) (p left : ℕ) {a b : Bool} → a ≡ not (eqb p o && eqb left j)
+    → b ≡ (leb 1 (recordsIn s t p left .vote .status) && interfere k (recordsIn s t p left .vote .command))
+    → (a && b) ≡ met (recordsIn s t) o j k p left
+unfolding met
+asked s t o j k p left ea eb = rw (ea, eb) (assoc (not (eqb p o && eqb left j)) _ _)
+  where
+    assoc : (x y z : Bool) → (x && (y && z)) ≡ (x && y && z)
+    assoc true y z = refl
+    assoc false y z = refl
+
 module _ (n s c o j : ℕ) (k : Command) (p : ℕ) (t : List ℕ) where
   -- the numbers up to `left` are still to be looked at
   pub record Left (left : ℕ) : Type 0 where
@@ -45,17 +56,6 @@ module _ (n s c o j : ℕ) (k : Command) (p : ℕ) (t : List ℕ) where
         names = record { copies = z .copies; numbers = z .numbers; owner = l .row .owner; first = omega arith; last = l .few };
         long = z .long;
       }
-
-  -- the test that was made is the definition's
-  pub asked : (left : ℕ) {a b : Bool} → a ≡ not (eqb p o && eqb left j)
-      → b ≡ (leb 1 (recordsIn s t p left .vote .status) && interfere k (recordsIn s t p left .vote .command))
-      → (a && b) ≡ met (recordsIn s t) o j k p left
-  unfolding met
-  asked left {a} {b} ea eb = rw (ea, eb) (assoc (not (eqb p o && eqb left j)) _ _)
-    where
-      assoc : (x y z : Bool) → (x && (y && z)) ≡ (x && y && z)
-      assoc true y z = refl
-      assoc false y z = refl
 
   pub here : (left : ℕ) → Left left → 0 < left → met (recordsIn s t) o j k p left ≡ true → left ≡ highest s (met (recordsIn s t) o j k p)
   here left l h m = highest-here left (met (recordsIn s t) o j k p) h m ∙ sym (l .so)

@@ -7,10 +7,8 @@ use mathlib.Core.List.{List}
 use native.Mathlib.Omega.{arith}
 use lib.Dec.{leb, ltb}
 use lib.ListN.{length, getD}
-use Rattle.paper.specs.Fits.{DepsFit}
 use Rattle.paper.specs.Deps.{noDeps, join}
 use Rattle.rules.specs.Seen.{Records}
-use Rattle.seen.specs.Records.{recordsIn}
 use Rattle.rows.specs.Rows.{slotOf, rowOf, putRow, Within}
 use Rattle.rows.proofs.Laws.{row-seven, row-fits, put-long, put-own, put-other}
 use Rattle.reach.specs.High.{Inst, From}

@@ -10,7 +10,6 @@ ghost use mathlib.Core.Path.{_≡_};
 ghost use mathlib.Core.Bool.{_&&_};
 ghost use Prim.Native.Nat.{_+_, _*_, _≤_, _<_};
 ghost use lib.ListN.{length, replicate};
-ghost use Rattle.num.specs.Num.{splice};
 ghost use Rattle.paper.specs.Instance.{instanceOk};
 ghost use Rattle.paper.specs.Logic.{allBelow};
 ghost use Rattle.record.specs.Layout.{recordLength};

@@ -24,8 +24,8 @@ both-requires c κs = search needs
 
 returns : tie.Need-returns
 returns c =
-    let e = c .before .before .before .before .vote-of .ensures in
-    let k = c .before .before .before .before .before .before .args .k in
+    let e = c .before .before .before .before .before .vote-of .ensures in
+    let k = c .before .before .before .before .before .before .before .args .k in
     c .both .ensures
     ∙ ap₂ _&&_ (c .before .before .at-most .ensures ∙ ap (leb 1) (c .before .before .before .wide8 .ensures ∙ ap (λ (v : Vote). v .status) e))
     (c .before .interferes .ensures ∙ ap (λ (v : Vote). interfere k (v .command)) e)

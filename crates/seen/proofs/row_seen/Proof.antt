@@ -13,7 +13,7 @@ abbrev μ-loop : tie.MeasureT-loop
 μ-loop t n s c o j k p left₀ left = left
 
 loop-holds : tie.Need-loop-holds Inv-loop μ-loop
-loop-holds c = start _ _ _ _ _ _ _ _ (c .pre)
+loop-holds c = start _ _ _ _ _ _ _ _ (c .before .pre)
 
 another-requires : tie.Need-another-requires Inv-loop μ-loop
 another-requires c κs = search needs
@@ -28,7 +28,7 @@ returns : tie.Need-returns Inv-loop μ-loop
 returns c =
     let l = c .before .before .before .before .before .loop .inv in
     let h = c .before .before .before .before .loop-test .taken in
-    let m = sym (asked _ _ _ _ _ _ _ _ _ (c .before .before .before .another .ensures) (c .before .before .meets .ensures)) ∙ sym (c .before .both .ensures) ∙ c .if1 .taken in
+    let m = sym (asked _ _ _ _ _ _ _ (c .before .before .before .another .ensures) (c .before .before .meets .ensures)) ∙ sym (c .before .both .ensures) ∙ c .if1 .taken in
     (here _ _ _ _ _ _ _ _ _ l h m, l .few)
 
 sub-left : tie.Need-sub-left Inv-loop μ-loop
@@ -41,7 +41,7 @@ loop-again : tie.Need-loop-again Inv-loop μ-loop
 loop-again c =
     let l = c .before .before .before .before .before .loop .inv in
     let h = c .before .before .before .before .loop-test .taken in
-    let m = sym (asked _ _ _ _ _ _ _ _ _ (c .before .before .before .another .ensures) (c .before .before .meets .ensures)) ∙ sym (c .before .both .ensures) ∙ c .if1 .left in
+    let m = sym (asked _ _ _ _ _ _ _ (c .before .before .before .another .ensures) (c .before .before .meets .ensures)) ∙ sym (c .before .both .ensures) ∙ c .if1 .left in
     next _ _ _ _ _ _ _ _ _ l h m
 
 returns-2 : tie.Need-returns-2 Inv-loop μ-loop
