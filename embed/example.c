@@ -3,10 +3,12 @@
  *     gcc -std=c11 -I include embed/example.c target/staticlib/libpumxaqert.a -o example && ./example */
 #include "pumxaqert.h"
 #include <stdio.h>
+#include <stdlib.h>
 
-enum { N = 3, S = 4, C = 0, TABLE = 3 + 263 * N * S, ROOM = 256 };
+enum { N = 3, S = 4, C = 0, ROOM = 256 };
 
-static uint8_t table[TABLE];
+static uint8_t *table;
+static size_t table_len;
 static uint8_t out[ROOM];
 
 static void show(const char *what, const uint8_t *bytes, size_t length) {
@@ -19,18 +21,22 @@ static void show(const char *what, const uint8_t *bytes, size_t length) {
 /* A host writes this part of the table to its disk, and flushes it, before it sends anything. */
 static void save(const size_t values[3]) {
     size_t length;
-    size_t start = pumxaqert_part(table, TABLE, N, S, C, values[0], values[1], &length);
+    size_t start = pumxaqert_part(table, table_len, N, S, C, values[0], values[1], &length);
     printf("save %zu.%zu: %zu bytes of the table from byte %zu\n", values[0], values[1], length, start);
 }
 
 int main(void) {
     size_t values[3];
-    uint32_t refusal = pumxaqert_blank(table, TABLE, N, S, C);
+    table_len = pumxaqert_table_length(N, S);
+    table = malloc(table_len);
+    if (!table)
+        return 1;
+    uint32_t refusal = pumxaqert_blank(table, table_len, N, S, C);
     if (refusal)
         return (int)refusal;
 
     /* W1: the edit becomes instance 0.1; a PreAccept goes to copies 1 and 2. */
-    refusal = pumxaqert_request(table, TABLE, N, S, C, out, ROOM, 2, 7, 100, values);
+    refusal = pumxaqert_request(table, table_len, N, S, C, out, ROOM, 2, 7, 100, values);
     if (refusal)
         return (int)refusal;
     save(values);
@@ -44,7 +50,7 @@ int main(void) {
     if (refusal)
         return (int)refusal;
     show("copy 1 answers", answer, length);
-    refusal = pumxaqert_message(table, TABLE, N, S, C, out, ROOM, answer, length, values);
+    refusal = pumxaqert_message(table, table_len, N, S, C, out, ROOM, answer, length, values);
     if (refusal)
         return (int)refusal;
     save(values);
@@ -52,15 +58,15 @@ int main(void) {
 
     /* Committed, with nothing that it waits for: it may be handed out. */
     uint64_t settled[4];
-    refusal = pumxaqert_settled(table, TABLE, N, S, C, 0, 1, settled);
+    refusal = pumxaqert_settled(table, table_len, N, S, C, 0, 1, settled);
     printf("settled %u: op %u, key %u, edit %u\n", (unsigned)settled[0], (unsigned)settled[1], (unsigned)settled[2],
            (unsigned)settled[3]);
     uint16_t list[2];
     size_t codes;
-    refusal |= pumxaqert_hand_out(table, TABLE, N, S, C, list, 2, &codes);
+    refusal |= pumxaqert_hand_out(table, table_len, N, S, C, list, 2, &codes);
     printf("handed out %zu: code %u\n", codes, (unsigned)list[0]);
 
     /* NULL with length 0 is an empty area: no room at all is refusal 2. */
-    printf("no room: refusal %u\n", (unsigned)pumxaqert_nudge(table, TABLE, N, S, C, NULL, 0, 0, 1, values));
+    printf("no room: refusal %u\n", (unsigned)pumxaqert_nudge(table, table_len, N, S, C, NULL, 0, 0, 1, values));
     return (int)refusal;
 }

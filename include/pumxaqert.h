@@ -1,10 +1,11 @@
 /* One copy of a replicated edit log. Every call below is proved in Rattle to do what document 01 says; docs/HOST.md has
  * the host's part, docs/LAYOUT.md every byte of tables and messages.
  *
- * n: 3, 5 or 7 copies; s: 1 to 64 numbers an owner; c: this copy, below n. The table has 3 + 263*n*s bytes.
+ * n: 3, 5 or 7 copies; s: 1 to 64 numbers an owner; c: this copy, below n. The table has pumxaqert_table_length(n, s)
+ * bytes.
  *
  * A call returns 0, or the number of a refusal; then all lent memory is as at entry, except that the values, which are
- * this call's answer, are all 0. (pumxaqert_part returns a place in the table and refuses nothing.)
+ * this call's answer, are all 0. (pumxaqert_table_length and pumxaqert_part return a length and a place in the table, and refuse nothing.)
  *
  * Lent areas. A pointer comes with its length, in elements, and is aligned as its type asks. No lent area overlaps
  * another, the values included. NULL may be given with length 0 and means an empty area; the values (values, fields,
@@ -37,6 +38,9 @@ enum {
     PUMXAQERT_NO_BLANK = 5,          /* a request finds no blank own record */
     PUMXAQERT_OTHER_COMMIT = 10      /* a Commit differs from the stored one */
 };
+
+/* How many bytes a table of n copies and s numbers has; 0 where no table has these sizes. */
+size_t pumxaqert_table_length(size_t n, size_t s);
 
 /* Writes a blank table. Refuses only 1. */
 uint32_t pumxaqert_blank(uint8_t *table, size_t table_len, size_t n, size_t s, size_t c);

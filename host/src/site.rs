@@ -33,9 +33,6 @@ pub struct Site {
     pub cut: Option<Moment>,
 }
 
-const MARK_AT: usize = 36;
-const EDIT_AT: usize = 14;
-
 impl Site {
     /// Begins with what the files hold: the table is all the state there is.
     pub fn start(folder: &Path, setup: Setup) -> Result<Site> {
@@ -46,12 +43,12 @@ impl Site {
         let table = store.table()?;
         setup.judge(&table).map_err(|_| Store::bad("the saved table is not sound"))?;
         let order = store.order()?;
-        // A code goes into the order file before its mark is saved. Without the mark it will be handed out again.
-        let mut handed = order.len();
-        if let Some(&code) = order.last() {
-            let (at, _) = setup.part(&table, Instance::of_code(code));
-            handed -= (table[at + MARK_AT] == 0) as usize;
-        }
+        // A code goes into the order file before its mark is saved. Without the mark it is what is handed out next.
+        let mut next = [0; 1];
+        let count =
+            setup.hand_out(&mut table.clone(), &mut next).map_err(|_| Store::bad("no hand-out"))?;
+        let unmarked = count > 0 && order.last() == Some(&next[0]);
+        let handed = order.len() - unmarked as usize;
         Ok(Site { setup, folder: folder.to_path_buf(), store, table, handed, cut: None })
     }
 
@@ -113,10 +110,18 @@ impl Site {
         self.setup.settled(&self.table, at).ok()
     }
 
-    /// Whether the instance's record has this edit; docs/LAYOUT.md has the place.
+    /// Whether the instance was begun here with this edit: a nudge would repeat it to some of the others.
     pub fn holds(&self, at: Instance, edit: u64) -> bool {
-        let (start, _) = self.setup.part(&self.table, at);
-        self.table[start + EDIT_AT..].starts_with(&edit.to_le_bytes())
+        let (mut table, mut out) = (self.table.clone(), [0; ROOM]);
+        let Ok(event) = self.setup.nudge(&mut table, &mut out, at) else { return false };
+        let first = |messages: usize| &out[..event.written / messages];
+        let names =
+            |copy: usize, bytes: &[u8]| match (Setup { copy, ..self.setup }).read_message(bytes) {
+                Ok(message) => message.command().is_some_and(|command| command.edit == edit),
+                Err(_) => false,
+            };
+        let n = self.setup.n;
+        (1..n).any(|messages| (0..n).any(|copy| names(copy, first(messages))))
     }
 
     /// What the files say was handed out, in order.

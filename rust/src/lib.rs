@@ -114,10 +114,11 @@ fn event(number: u32, values: [usize; 3]) -> Result<Event, Refusal> {
 }
 
 impl Setup {
-    /// The length of a table of these sizes, docs/LAYOUT.md; none for sizes that no table has.
+    /// The length of a table of these sizes; none for sizes that no table has.
     pub fn table_len(&self) -> Option<usize> {
-        let good = matches!(self.n, 3 | 5 | 7) && (1..=64).contains(&self.s);
-        good.then(|| 3 + 263 * self.n * self.s)
+        // SAFETY: numbers alone cross.
+        let length = unsafe { raw::pumxaqert_table_length(self.n, self.s) };
+        (length > 0).then_some(length)
     }
 
     /// Writes a blank table.

@@ -86,6 +86,17 @@ impl Body {
 }
 
 impl Message {
+    /// The command that the body carries, if it carries one.
+    pub fn command(&self) -> Option<Command> {
+        match self.body {
+            Body::PreAccept { command, .. }
+            | Body::Accept { command, .. }
+            | Body::Commit { command, .. }
+            | Body::PrepareOk { command, .. } => Some(command),
+            Body::PreAcceptOk { .. } | Body::AcceptOk | Body::Prepare | Body::Nack { .. } => None,
+        }
+    }
+
     pub fn fields(&self) -> Fields {
         let mut f = [0; 18];
         f[0] = self.body.kind() as u64;

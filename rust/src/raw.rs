@@ -16,6 +16,8 @@ pub type OnInstance = unsafe extern "C" fn(
 ) -> u32;
 
 extern "C" {
+    pub fn pumxaqert_table_length(n: usize, s: usize) -> usize;
+
     pub fn pumxaqert_blank(table: *mut u8, table_len: usize, n: usize, s: usize, c: usize) -> u32;
 
     pub fn pumxaqert_judge(table: *const u8, table_len: usize, n: usize, s: usize, c: usize)

@@ -52,7 +52,9 @@ fn request_and_commit() {
     first[2] = 2;
     assert_eq!(out[37..74], first);
     assert!(out[74..].iter().all(|&byte| byte == 0xa5));
-    assert_eq!(s.part(&table, FIRST), (3, 263));
+    let whole = s.table_len().unwrap();
+    let (start, length) = s.part(&table, FIRST);
+    assert_eq!(start + length * 12, whole, "a head, then the records of 3 copies and 4 numbers");
     assert_eq!(s.settled(&table, FIRST), Ok(Settling::Waits(FIRST)));
 
     let (event, sent) = hear(s, &mut table, &ok(1, [0; 3])).unwrap();

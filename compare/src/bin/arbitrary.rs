@@ -6,7 +6,7 @@ use compare::both::{second_side, Answer, Call, Lent, LIST, OUT};
 use compare::guarded::{c_call, Area, Areas, Input};
 use compare::random::Random;
 use compare::{fields, make, threads, UNTOUCHED, UNTOUCHED_CODE};
-use pumxaqert::Setup;
+use pumxaqert::{Instance, Setup};
 use second::table::{HEAD_LEN, RECORD_LEN};
 use std::process::ExitCode;
 use std::time::Instant;
@@ -259,8 +259,8 @@ impl Tester {
             Input::OnTable(Call::Blank) => return Ok(()),
             Input::OnTable(Call::HandOut(_)) => {
                 for &code in &self.areas.list.contents()[..values[0] as usize] {
-                    let (o, j) = (code as usize / 256, code as usize % 256);
-                    kept[make::place(setup, o, j) + MARK_AT] = 1;
+                    let Instance { owner, number } = Instance::of_code(code);
+                    kept[make::place(setup, owner, number) + MARK_AT] = 1;
                 }
             }
             Input::OnTable(Call::Request(..) | Call::Recover(..) | Call::Nudge(..))

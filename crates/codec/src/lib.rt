@@ -9,6 +9,32 @@ ghost use Rattle.num.specs.Num.{splice};
 ghost use Rattle.paper.specs.Command.{opNumber};
 ghost use Rattle.codec.specs.Parts.{opOf, commandAt, depsAt, voteAt, commandBytes, depsBytes, voteBytes};
 
+// Widths of the fields, and of what is made of them.
+pub const OP: usize = 1;
+
+pub const KEY: usize = 4;
+
+pub const EDIT: usize = 8;
+
+pub const COMMAND: usize = OP + KEY + EDIT;
+
+pub const ENTRY: usize = 2;
+
+pub const DEPS: usize = 7 * ENTRY;
+
+pub const BALLOT: usize = 4;
+
+pub const STATUS: usize = 1;
+
+pub const VOTE: usize = BALLOT + STATUS + COMMAND + DEPS;
+
+// Where a part stands in a command, and in a vote.
+pub const EDIT_AT: usize = OP + KEY;
+
+pub const COMMAND_AT: usize = BALLOT + STATUS;
+
+pub const DEPS_AT: usize = COMMAND_AT + COMMAND;
+
 pub fn op_of(b: u8) -> Op
     ensures { λ r. ⌜ r ≡ opOf b ⌝ }
 {
@@ -33,8 +59,8 @@ pub fn read_command(s: &[u8], at: usize) -> Command
     requires { ⌜ at + 13 ≤ length (now s) ⌝ }
     ensures { λ r. ⌜ r ≡ commandAt (now (s .entry)) at ⌝ }
 {
-    let a1 = at + 1;
-    let a2 = a1 + 4;
+    let a1 = at + OP;
+    let a2 = a1 + KEY;
     let op = op_of(num::get_u8(s, at));
     let key = num::get_u32(s, a1);
     let edit = num::get_u64(s, a2);
@@ -45,12 +71,12 @@ pub fn read_deps(s: &[u8], at: usize) -> [u16; 7]
     requires { ⌜ at + 14 ≤ length (now s) ⌝ }
     ensures { λ r. ⌜ r ≡ depsAt (now (s .entry)) at ⌝ }
 {
-    let a1 = at + 2;
-    let a2 = a1 + 2;
-    let a3 = a2 + 2;
-    let a4 = a3 + 2;
-    let a5 = a4 + 2;
-    let a6 = a5 + 2;
+    let a1 = at + ENTRY;
+    let a2 = a1 + ENTRY;
+    let a3 = a2 + ENTRY;
+    let a4 = a3 + ENTRY;
+    let a5 = a4 + ENTRY;
+    let a6 = a5 + ENTRY;
     let d0 = num::get_u16(s, at);
     let d1 = num::get_u16(s, a1);
     let d2 = num::get_u16(s, a2);
@@ -65,9 +91,9 @@ pub fn read_vote(s: &[u8], at: usize) -> Vote
     requires { ⌜ at + 32 ≤ length (now s) ⌝ }
     ensures { λ r. ⌜ r ≡ voteAt (now (s .entry)) at ⌝ }
 {
-    let a1 = at + 4;
-    let a2 = a1 + 1;
-    let a3 = a2 + 13;
+    let a1 = at + BALLOT;
+    let a2 = a1 + STATUS;
+    let a3 = a2 + COMMAND;
     let voted = num::get_u32(s, at);
     let status = num::get_u8(s, a1);
     let command = read_command(s, a2);
@@ -87,8 +113,8 @@ pub fn write_command(s: &mut [u8], at: usize, c: Command)
     let op = c.op;
     let b = op_byte(op);
     num::put_u8(&mut *s, at, b);
-    num::put_u32(&mut *s, at + 1, c.key);
-    num::put_u64(&mut *s, at + 5, c.edit);
+    num::put_u32(&mut *s, at + OP, c.key);
+    num::put_u64(&mut *s, at + EDIT_AT, c.edit);
 }
 
 pub fn write_deps(s: &mut [u8], at: usize, d: [u16; 7])
@@ -111,7 +137,7 @@ pub fn write_vote(s: &mut [u8], at: usize, v: Vote)
     let command = v.command;
     let deps = v.deps;
     num::put_u32(&mut *s, at, v.voted);
-    num::put_u8(&mut *s, at + 4, v.status);
-    write_command(&mut *s, at + 5, command);
-    write_deps(&mut *s, at + 18, deps);
+    num::put_u8(&mut *s, at + BALLOT, v.status);
+    write_command(&mut *s, at + COMMAND_AT, command);
+    write_deps(&mut *s, at + DEPS_AT, deps);
 }

@@ -17,11 +17,10 @@ use Rattle.rules.specs.Recover.{outOfBallots, recover}
 use Rattle.rules.specs.Nudge.{nothingToNudge, nudge}
 use Rattle.rules.specs.Events.{onRecover, onNudge}
 use Rattle.num.specs.Num.{splice}
-use Rattle.record.specs.Layout.{recordAt, recordBytes}
 use Rattle.paper.specs.declared.Record.{Record}
+use Rattle.record.specs.Part.{Bytes}
 use Rattle.rules.specs.declared.Step.{Step}
-use Rattle.table.specs.Place.{placeOf, partAt}
-use Rattle.table.specs.Table.{fits, soundTable, recordIn}
+use Rattle.table.specs.Table.{fits, soundTable, recordIn, putRecord}
 use Rattle.seen.specs.Records.{recordsIn}
 use Rattle.closed.proofs.Closed.{recover-event, nudge-event}
 use Rattle.log.specs.declared.Answer.{Answer}
@@ -29,7 +28,7 @@ use Rattle.log.specs.declared.Answer.the-variants.{Event, Refused}
 use Rattle.log.specs.declared.Gate.the-variants.{Open, Shut}
 use Rattle.log.specs.Out.{outBytes}
 use Rattle.log.specs.Events.{Outcome, refuse, acted, gateOf, gated, Passed, recoverOpen, nudgeOpen}
-use Rattle.log.proofs.Held.{Bytes, sound-records, out-short}
+use Rattle.log.proofs.Held.{sound-records, out-short}
 
 -- the gate
 module _ (n s c : ℕ) (t : List ℕ) (room : ℕ) where
@@ -80,13 +79,13 @@ met e (p, q) = (p ∙ ap (λ (z : Outcome). z .answer) e, (q .0 ∙ ap (λ (z : 
 pub refused : (r : Refusal) (t o : List ℕ) → Met (refuse r t o) (Refused r) t o
 refused r t o = (refl, (refl, refl))
 
-pub acted-is : (s : ℕ) (t out : List ℕ) (o j : ℕ) {x y : Step} {at : ℕ} {a : Answer} {t₁ o₁ : List ℕ} → x ≡ y → at ≡ placeOf s o j
-    → a ≡ Event o j (length (outBytes x)) → t₁ ≡ splice t at (recordBytes (x .entry)) → o₁ ≡ splice out 0 (outBytes x) → Met (acted s t out o j y) a t₁ o₁
+pub acted-is : (s : ℕ) (t out : List ℕ) (o j : ℕ) {x y : Step} {a : Answer} {t₁ o₁ : List ℕ} → x ≡ y
+    → a ≡ Event o j (length (outBytes x)) → t₁ ≡ putRecord s t o j (x .entry) → o₁ ≡ splice out 0 (outBytes x) → Met (acted s t out o j y) a t₁ o₁
 unfolding acted
-acted-is s t out o j {x} e p a b c = (
+acted-is s t out o j e a b c = (
   a ∙ ap (λ (z : Step). Event o j (length (outBytes z))) e,
   (
-    b ∙ ap (λ (k : ℕ). splice t k (recordBytes (x .entry))) p ∙ ap (λ (z : Step). splice t (placeOf s o j) (recordBytes (z .entry))) e,
+    b ∙ ap (λ (z : Step). putRecord s t o j (z .entry)) e,
     c ∙ ap (λ (z : Step). splice out 0 (outBytes z)) e,
   ),
 )
@@ -141,15 +140,15 @@ module _ (n s c : ℕ) (t out : List ℕ) (o j : ℕ) where
       out-short n s c setup _ (nudge-event n s c setup (recordsIn s t) (sound-records n s c t b (p .setup) (p .sound)) o j i k .sent)
 
   -- the step that was taken is the rule's
-  pub recover-step : {bc bo bj at : ℕ} {r : Record} {x : Step} → bc ≡ c → bo ≡ o → bj ≡ j → at ≡ placeOf s o j → r ≡ recordAt (partAt t at)
+  pub recover-step : {bc bo bj : ℕ} {r : Record} {x : Step} → bc ≡ c → bo ≡ o → bj ≡ j → r ≡ recordIn s t o j
       → x ≡ recover n bc bo bj r → x ≡ onRecover n c (recordsIn s t) o j
   unfolding onRecover
-  recover-step ec eo ej ea er ex = rw (ex, er, ea, ec, eo, ej)
+  recover-step ec eo ej er ex = rw (ex, er, ec, eo, ej)
 
-  pub nudge-step : {bc bo bj at : ℕ} {r : Record} {x : Step} → bc ≡ c → bo ≡ o → bj ≡ j → at ≡ placeOf s o j → r ≡ recordAt (partAt t at)
+  pub nudge-step : {bc bo bj : ℕ} {r : Record} {x : Step} → bc ≡ c → bo ≡ o → bj ≡ j → r ≡ recordIn s t o j
       → x ≡ nudge n bc bo bj r → x ≡ onNudge n c (recordsIn s t) o j
   unfolding onNudge
-  nudge-step ec eo ej ea er ex = rw (ex, er, ea, ec, eo, ej)
+  nudge-step ec eo ej er ex = rw (ex, er, ec, eo, ej)
 
 -- a setup has three copies or more
 pub three : (n s c : ℕ) (t : List ℕ) → fits n s c t ≡ true → 3 ≤ n

@@ -5,67 +5,35 @@ use mathlib.Core.List.{List}
 use Prim.Native.Nat.{ℕ, zero, suc, _+_, _*_, _^_, _≤_, _<_}
 use native.Mathlib.Omega.{arith}
 use lib.Dec.{eqb}
-use lib.ListN.{length, getD, length-append}
+use lib.ListN.{length, length-append}
 use borrow.Author.Tests.{ne-eqb}
 use Rattle.num.specs.Num.{numAt}
 use Rattle.num.proofs.Laws.{numAt-small}
 use Rattle.codec.specs.Parts.{depsAt}
-use Rattle.codec.proofs.Laws.{depsAt-fits, voteAt-fits}
+use Rattle.codec.proofs.Laws.{depsAt-fits}
 use Rattle.paper.specs.Setup.{setupOk}
 use Rattle.paper.specs.Message.{kindOf}
-use Rattle.paper.specs.Sound.{soundRecord}
 use Rattle.paper.specs.Vote.{member}
-use Rattle.paper.proofs.Laws.{and-true}
 use Rattle.paper.proofs.Deps.{none-fits}
 use Rattle.paper.specs.declared.Message.{Message}
-use Rattle.record.specs.Layout.{votesAt, recordAt}
-use Rattle.record.specs.Part.{opsFit, soundPart}
+use Rattle.record.specs.Part.{Bytes}
 use Rattle.rules.specs.declared.Step.{Step}
 use Rattle.rules.specs.Events.{addressed, messagesFrom}
-use Rattle.table.specs.Place.{placeOf, partAt}
 use Rattle.table.specs.Table.{fits, soundTable}
 use Rattle.table.proofs.Laws.{names}
-use Rattle.table.proofs.Round.{sound-at, part-bytes}
+use Rattle.table.proofs.Round.{record-sound, fits-in}
 use Rattle.wire.specs.Wire.{isProposal, lengthOf, restWidths, bodyOf, depsOf, bodyAt, besideAt, kindAt, messageAt, messageBytes}
 use Rattle.wire.proofs.Laws.{length-messageBytes, Framed}
 use Rattle.seen.specs.Records.{recordsIn}
-use Rattle.paper.specs.Fits.{DepsFit, VotesFit, RecordFits, BodyFits, MessageFits}
+use Rattle.paper.specs.Fits.{DepsFit, BodyFits, MessageFits}
 use Rattle.closed.specs.Held.{Sent, SoundRecords}
 use Rattle.closed.proofs.Closed.{room}
 use Rattle.log.specs.Out.{allBytes, outBytes}
 
--- bytes
-abbrev pub Bytes : List ℕ → Type 0
-Bytes b = (i : ℕ) → getD b i 0 < 256
-
-votesAt-fit : (k : ℕ) (b : List ℕ) (at : ℕ) → Bytes b → VotesFit (votesAt k b at)
-unfolding votesAt
-votesAt-fit zero b at h = tt
-votesAt-fit (suc k) b at h = (voteAt-fits b at h, votesAt-fit k b (at + 32) h)
-
-pub recordAt-fits : (b : List ℕ) → Bytes b → RecordFits (recordAt b)
-unfolding recordAt votesAt
-recordAt-fits b h =
-    let n : (w i : ℕ) → numAt w b i < 256 ^ w = λ w i. numAt-small w b i h in
-    record {
-      joined = n 4 0;
-      vote = voteAt-fits b 4 h;
-      mark = omega (arith, n 1 36);
-      phase = omega (arith, n 1 37);
-      set = omega (arith, n 1 38);
-      seven = refl;
-      replies = votesAt-fit 7 b 39 h;
-    }
-
 -- a sound table's records are sound and fit
 pub sound-records : (n s c : ℕ) (t : List ℕ) → Bytes t → fits n s c t ≡ true → soundTable n s c t ≡ true → SoundRecords n s c (recordsIn s t)
-unfolding soundPart
 sound-records n s c t b f h o j i =
-    let p = sound-at n s c t h o j (names n s c t o j f i) in
-    record {
-      sound = and-true (opsFit (partAt t (placeOf s o j))) (soundRecord n s c o (recordAt (partAt t (placeOf s o j)))) p .1;
-      fits = recordAt-fits (partAt t (placeOf s o j)) (part-bytes t (placeOf s o j) b);
-    }
+    record { sound = record-sound n s c t h o j (names n s c t o j f i); fits = fits-in s t o j b }
 
 -- a known kind's body, and the dependencies beside it, fit
 body-fits : (k : ℕ) (b : List ℕ) → Bytes b → 1 ≤ k → k ≤ 8 → BodyFits (bodyAt k b)

@@ -2,12 +2,13 @@
 use crate::Answer;
 use crate::send::send_all;
 use rules::Step;
-use table::store;
+use table::records::store;
 ghost use mathlib.Core.Path.{_≡_};
-ghost use Prim.Native.Nat.{_+_, _≤_, _<_};
+ghost use Prim.Native.Nat.{_≤_, _<_};
 ghost use lib.ListN.{length};
 ghost use Rattle.num.specs.Num.{splice};
-ghost use Rattle.record.specs.Layout.{recordBytes};
+ghost use Rattle.table.specs.Sizes.{Has};
+ghost use Rattle.table.specs.Table.{putRecord};
 ghost use Rattle.log.specs.Out.{outBytes};
 
 pub fn byte(x: usize) -> u8
@@ -24,15 +25,15 @@ pub fn short(x: usize) -> u16
     x as u16
 }
 
-pub fn act(t: &mut [u8], out: &mut [u8], at: usize, o: usize, j: usize, x: Step) -> Answer
-    requires { ⌜ (at + 263 ≤ length (now t)) × (256 ≤ length (now out)) × (length (outBytes x) ≤ 222) ⌝ }
+pub fn act(t: &mut [u8], out: &mut [u8], n: usize, s: usize, o: usize, j: usize, x: Step) -> Answer
+    requires { ⌜ Has n s o j (now t) × (256 ≤ length (now out)) × (length (outBytes x) ≤ 222) ⌝ }
     ensures answers { λ r. ⌜ r ≡ Answer.Event o j (length (outBytes x)) ⌝ }
-    ensures table { λ _. ⌜ now (t .exit) ≡ splice (now (t .entry)) at (recordBytes (x .entry)) ⌝ }
+    ensures table { λ _. ⌜ now (t .exit) ≡ putRecord s (now (t .entry)) o j (x .entry) ⌝ }
     ensures room { λ _. ⌜ now (out .exit) ≡ splice (now (out .entry)) 0 (outBytes x) ⌝ }
 {
     let entry = x.entry;
     let message = x.message;
-    store(t, at, entry);
+    store(t, n, s, o, j, entry);
     let written = send_all(out, x.to, message);
     Answer::Event {
         owner: o,

@@ -12,8 +12,7 @@ use nouns::logic::wide8;
 use nouns::setup::instance_ok;
 use paper::Refusal;
 use step::made::is_committed;
-use table::load;
-use table::place_of;
+use table::records::load;
 ghost use mathlib.Core.Path.{_≡_};
 ghost use lib.ListN.{length};
 ghost use Rattle.log.specs.Events.{Passed, nudgeOpen, nudged};
@@ -36,13 +35,12 @@ fn nudge_open(
     if !instance_ok(n, s, o, j) {
         return Answer::Refused(Refusal::Instance);
     }
-    let at = place_of(n, s, o, j);
-    let r = load(&*t, at);
+    let r = load(&*t, n, s, o, j);
     if both(!is_committed(r), equal(wide8(r.phase), 0)) {
         return Answer::Refused(Refusal::Idle);
     }
     let x = on_nudge(n, byte(c), byte(o), short(j), r);
-    act(t, out, at, o, j, x)
+    act(t, out, n, s, o, j, x)
 }
 
 pub fn nudge(

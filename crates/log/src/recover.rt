@@ -9,8 +9,7 @@ use lead::recover::on_recover;
 use nouns::setup::instance_ok;
 use paper::Refusal;
 use step::made::is_committed;
-use table::load;
-use table::place_of;
+use table::records::load;
 ghost use mathlib.Core.Path.{_≡_};
 ghost use lib.ListN.{length};
 ghost use Rattle.log.specs.Events.{Passed, recoverOpen, recovered};
@@ -33,8 +32,7 @@ fn recover_open(
     if !instance_ok(n, s, o, j) {
         return Answer::Refused(Refusal::Instance);
     }
-    let at = place_of(n, s, o, j);
-    let r = load(&*t, at);
+    let r = load(&*t, n, s, o, j);
     if is_committed(r) {
         return Answer::Refused(Refusal::Committed);
     }
@@ -42,7 +40,7 @@ fn recover_open(
         return Answer::Refused(Refusal::Ballots);
     }
     let x = on_recover(n, byte(c), byte(o), short(j), r);
-    act(t, out, at, o, j, x)
+    act(t, out, n, s, o, j, x)
 }
 
 pub fn recover(

@@ -11,8 +11,7 @@ use Rattle.paper.specs.declared.Refusal.{Refusal}
 use Rattle.paper.specs.declared.Refusal.the-variants as why
 use Rattle.rules.specs.declared.First.the-variants.{At, Nowhere}
 use Rattle.rules.specs.Order.{firstOpen}
-use Rattle.record.specs.Layout.{recordAt}
-use Rattle.table.specs.Place.{placeOf, partAt}
+use Rattle.table.specs.Table.{recordIn}
 use Rattle.table.specs.Calls.{judged}
 use Rattle.table.specs.declared.Judging.the-variants as judging
 use Rattle.table.proofs.Laws.{sizes, names}
@@ -61,10 +60,9 @@ module _ (n s c : ℕ) (t : List ℕ) (o j : ℕ) where
   unfolding settledOpen
   settled-waits p k i e = rw (i, ← e)
 
-  pub settled-gives : instanceOk n s o j ≡ true → Nowhere ≡ firstOpen n s (recordsIn s t) o j → {at : ℕ} {r : Record} → at ≡ placeOf s o j
-      → r ≡ recordAt (partAt t at) → Settled (r .vote .command) ≡ settledOpen n s t o j
+  pub settled-gives : instanceOk n s o j ≡ true → Nowhere ≡ firstOpen n s (recordsIn s t) o j → {r : Record} → r ≡ recordIn s t o j → Settled (r .vote .command) ≡ settledOpen n s t o j
   unfolding settledOpen
-  settled-gives i e ea er = rw (i, ← e, er, ea)
+  settled-gives i e er = rw (i, ← e, er)
 
   pub settled-refused : (r : Refusal) → judging.Refused r ≡ judged n s c t → Refused r ≡ settled n s c t o j
   unfolding settled

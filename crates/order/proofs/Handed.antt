@@ -1,33 +1,29 @@
 -- What a hand-out starts from, and its outcomes, one law each. Assumes nothing.
-use Prim.Native.Nat.{ℕ, _≤_, _<_}
+use Prim.Native.Nat.{ℕ, _≤_}
 use mathlib.Core.Path.{_≡_, refl, ap, _∙_}
 use mathlib.Core.List.{List}
 use native.Mathlib.Omega.{arith}
-use lib.ListN.{length, getD, replicate, length-replicate, length-take, length-drop}
+use lib.ListN.{length, getD, replicate, length-replicate}
 use Rattle.num.specs.Num.{splice}
 use Rattle.codec.specs.Parts.{depsAt}
-use Rattle.paper.specs.Sound.{soundRecord}
-use Rattle.paper.proofs.Laws.{and-true}
 use Rattle.paper.specs.declared.Refusal.{Refusal}
-use Rattle.record.specs.Part.{opsFit, soundPart}
-use Rattle.record.proofs.Round.{recordBytes-recordAt}
-use Rattle.table.specs.Place.{placeOf, partAt}
-use Rattle.table.specs.Table.{recordIn}
+use Rattle.record.specs.Part.{Bytes}
+use Rattle.table.specs.Table.{Whole}
 use Rattle.table.specs.Calls.{judged}
 use Rattle.table.specs.declared.Judging.the-variants as judging
-use Rattle.table.proofs.Laws.{sizes, place-end}
-use Rattle.table.proofs.Round.{sound-at, part-bytes}
+use Rattle.table.proofs.Laws.{sizes}
+use Rattle.table.proofs.Round.{record-whole}
 use Rattle.seen.specs.Records.{recordsIn}
 use Rattle.reach.specs.High.{Inst}
 use Rattle.rows.specs.Rows.{rowOf, markIn}
 use Rattle.sweep.specs.Sweeping.{Sized, Charting, Charted}
 use Rattle.next.specs.Slots.{Past, Known}
 use Rattle.order.specs.Passed.{Passed}
-use Rattle.order.specs.States.{Whole, Stating, Stated, Listing}
+use Rattle.order.specs.States.{Stating, Stated, Listing}
 use Rattle.order.specs.Calls.{handedTable, handedCodes, handedOpen, handed}
 use Rattle.order.specs.declared.Handing.{Handing}
 use Rattle.order.specs.declared.Handing.the-variants.{Codes, Refused}
-use Rattle.order.proofs.Passed.{passed-names, passed-fit, passed-long}
+use Rattle.order.proofs.Passed.{passed-names, passed-fit}
 use Rattle.order.proofs.Asked.{no-mark}
 
 -- lists of zeros: no marks, nothing known, nothing past
@@ -63,17 +59,10 @@ module _ (n s c : ℕ) (t : List ℕ) (g : Passed n s c t) where
   pub stating : (k : ℕ) → k ≡ 448 → (h : List ℕ) → Charted n s (recordsIn s t) h → Stating n s t h (replicate k 0)
   stating k e h a = record { sized = sized; charted = a; long = length-replicate k 0 ∙ e }
 
-  -- what a sound table's records hold is written back as their bytes
-  whole : ((i : ℕ) → getD t i 0 < 256) → (o j : ℕ) → Inst n s o j → Whole s t o j
-  unfolding soundPart
-  whole byte o j i =
-      let a = passed-names n s c t g o j i in
-      let p = sound-at n s c t (g .sound) o j a in
-      let l : length (partAt t (placeOf s o j)) ≡ 263 = simp (length-take, length-drop) (omega (arith, place-end n s o j a, passed-long n s c t g)) in
-      recordBytes-recordAt (partAt t (placeOf s o j)) (part-bytes t (placeOf s o j) byte) l
-      (and-true (opsFit (partAt t (placeOf s o j))) (soundRecord n s c o (recordIn s t o j)) p .0)
+  whole : Bytes t → (o j : ℕ) → Inst n s o j → Whole s t o j
+  whole byte o j i = record-whole n s c t (record { bytes = byte; setup = g .setup; sound = g .sound }) o j (passed-names n s c t g o j i)
 
-  pub listing : ((i : ℕ) → getD t i 0 < 256) → (k m : ℕ) → k ≡ 448 → m ≡ 8 → (h st : List ℕ) → Charted n s (recordsIn s t) h
+  pub listing : Bytes t → (k m : ℕ) → k ≡ 448 → m ≡ 8 → (h st : List ℕ) → Charted n s (recordsIn s t) h
       → Stated n s (recordsIn s t) st
       → Listing n s t h st (replicate k 0) (replicate m 0)
   listing byte k m e f h st a d = record {

@@ -14,14 +14,13 @@ use Rattle.paper.proofs.Laws.{and-true, allBelow-at}
 use Rattle.paper.specs.declared.Record.{Record}
 use Rattle.paper.specs.declared.Refusal.{Refusal}
 use Rattle.paper.specs.declared.Refusal.the-variants as why
-use Rattle.record.specs.Part.{opsFit, soundPart}
-use Rattle.table.specs.Place.{tableLength, placeOf, partAt}
+use Rattle.table.specs.Place.{tableLength}
 use Rattle.table.specs.Sizes.{Names}
 use Rattle.table.specs.Table.{fits, soundTable, recordIn}
 use Rattle.table.specs.Calls.{judged}
 use Rattle.table.specs.declared.Judging.the-variants as judging
 use Rattle.table.proofs.Laws.{sizes}
-use Rattle.table.proofs.Round.{sound-at}
+use Rattle.table.proofs.Round.{record-sound}
 use Rattle.seen.specs.Records.{recordsIn}
 use Rattle.reach.specs.High.{Inst, Fit}
 use Rattle.order.specs.Passed.{Passed}
@@ -60,10 +59,8 @@ module _ (n s c : ℕ) (t : List ℕ) (h : Passed n s c t) where
       record { copies = z .copies; numbers = z .numbers; owner = i .owner; first = i .first; last = i .last }
 
   pub passed-fit : Fit n s (recordsIn s t)
-  unfolding soundPart
   passed-fit o j i q lq =
-      let p = sound-at n s c t (h .sound) o j (passed-names o j i) in
-      entry-fits n s c o (recordIn s t o j) (and-true (opsFit (partAt t (placeOf s o j))) (soundRecord n s c o (recordIn s t o j)) p .1) q
+      entry-fits n s c o (recordIn s t o j) (record-sound n s c t (h .sound) o j (passed-names o j i)) q
       (omega (arith, sizes n s c t (h .setup) .copies)) lq
 
   pub passed-long : length t ≡ tableLength n s

@@ -5,16 +5,13 @@ use mathlib.Core.Logic.{_⊎_, inl, inr, ⊎-elim}
 use mathlib.Core.Bool.{Bool, true, false, _&&_, _||_, not}
 use mathlib.Core.List.{List}
 use native.Mathlib.Omega.{arith}
-use native.Mathlib.Nat.{add-sub-cancel-left, eq-or-lt-of-le}
+use native.Mathlib.Nat.{eq-or-lt-of-le}
 use native.Mathlib.Decide.{decLt, ℕ-discrete}
 use lib.Dec.{leb, eqb}
-use lib.ListN.{length, getD, set, take, drop, length-set}
+use lib.ListN.{length, getD, set, length-set}
 use lib.Seq.{getD-set-same, getD-set-other}
-use Rattle.num.specs.Num.{numAt}
 use Rattle.paper.proofs.Laws.{allBelow-at}
-use Rattle.record.specs.Layout.{recordAt}
-use Rattle.table.specs.Place.{placeOf, partAt}
-use Rattle.table.specs.Sizes.{Names}
+use Rattle.table.specs.Sizes.{Names, Has}
 use Rattle.rules.specs.Seen.{Records}
 use Rattle.rules.specs.Step.{isCommitted}
 use Rattle.rules.specs.Order.{isMarked, waitsFor, isSettled}
@@ -26,18 +23,11 @@ use Rattle.rows.specs.Rows.{slotOf, markIn, Within}
 use Rattle.sweep.specs.Sweeping.{Sized, Row}
 use Rattle.order.specs.States.{Lead, Leads, behindNone, State, States, Stated, Asking}
 
-pub sized-names : (n s : ℕ) (t : List ℕ) → Sized n s t → (o j : ℕ) → Inst n s o j → Names n s o j
+sized-names : (n s : ℕ) (t : List ℕ) → Sized n s t → (o j : ℕ) → Inst n s o j → Names n s o j
 sized-names n s t g o j i = record { copies = g .copies; numbers = g .numbers; owner = i .owner; first = i .first; last = i .last }
 
--- the test at a place is the record's
-pub at-place : (f : List ℕ → Bool) (s : ℕ) (t : List ℕ) (o j : ℕ) {at : ℕ} {r : Bool} → at ≡ placeOf s o j
-    → r ≡ f (partAt t at) → r ≡ f (partAt t (placeOf s o j))
-at-place f s t o j ea er = er ∙ ap (λ (a : ℕ). f (partAt t a)) ea
-
-pub mark-read : (t : List ℕ) (at : ℕ) {x : ℕ} → x ≡ numAt 1 (take (at + 263 - at) (drop at t)) 36
-    → x ≡ recordAt (partAt t at) .mark
-unfolding recordAt
-mark-read t at e = e ∙ ap (λ (k : ℕ). numAt 1 (take k (drop at t)) 36) (add-sub-cancel-left at 263)
+pub sized-has : (n s : ℕ) (t : List ℕ) → Sized n s t → (o j : ℕ) → Inst n s o j → Has n s o j t
+sized-has n s t g o j i = record { names = sized-names n s t g o j i; long = g .long }
 
 -- the commits that a row begins with
 module _ (s : ℕ) (u : Records) (q : ℕ) where

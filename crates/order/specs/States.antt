@@ -7,9 +7,9 @@ use mathlib.Core.List.{List}
 use lib.Dec.{leb, eqb}
 use lib.ListN.{length, getD}
 use Rattle.paper.specs.Logic.{allBelow}
-use Rattle.record.specs.Layout.{recordBytes}
-use Rattle.table.specs.Place.{tableLength, placeOf, partAt}
-use Rattle.table.specs.Table.{recordIn}
+use Rattle.table.specs.Place.{tableLength}
+use Rattle.table.specs.Sizes.{Has}
+use Rattle.table.specs.Table.{Whole}
 use Rattle.rules.specs.Seen.{Records}
 use Rattle.rules.specs.Step.{isCommitted}
 use Rattle.rules.specs.Order.{isMarked, isSettled}
@@ -67,16 +67,9 @@ pub record RowStating (n s : ℕ) (t h lead st : List ℕ) (o : ℕ) : Type 0 wh
   pub owner : o < n
   pub states : States n s (recordsIn s t) (64 * o) st
 
--- what a record holds is written back as its bytes
-abbrev pub Whole : ℕ → List ℕ → ℕ → ℕ → Type 0
-Whole s t o j = recordBytes (recordIn s t o j) ≡ partAt t (placeOf s o j)
-
 -- o.j can be marked in the table
 pub record Marking (n s : ℕ) (t : List ℕ) (o j : ℕ) : Type 0 where
-  pub copies : n ≤ 7
-  pub numbers : s ≤ 64
-  pub long : length t ≡ tableLength n s
-  pub inst : Inst n s o j
+  pub has : Has n s o j t
   pub whole : Whole s t o j
 
 -- the lists agree with the table

@@ -7,7 +7,7 @@ use rules::First;
 use sweep::reach_all;
 use table::Judging;
 use table::judge_table;
-use table::place_of;
+use table::records::put_mark;
 ghost use mathlib.Core.Path.{_≡_};
 ghost use Prim.Native.Nat.{_+_, _≤_, _<_};
 ghost use lib.ListN.{length};
@@ -22,8 +22,7 @@ fn set_mark(t: &mut [u8], n: usize, s: usize, o: usize, j: usize)
     requires { ⌜ Marking n s (now t) o j ⌝ }
     ensures { λ _. ⌜ now (t .exit) ≡ markIn s (now (t .entry)) o j ⌝ }
 {
-    let at = place_of(n, s, o, j) + 36;
-    t[at] = 1;
+    put_mark(t, n, s, o, j);
 }
 
 // 256 x owner + number.

@@ -7,8 +7,7 @@ use search::explore;
 use search::first_open;
 use table::Judging;
 use table::judge_table;
-use table::load;
-use table::place_of;
+use table::records::load;
 ghost use mathlib.Core.Path.{_≡_};
 ghost use Rattle.order.specs.Passed.{Passed};
 ghost use Rattle.order.specs.Calls.{settledOpen, settled};
@@ -27,7 +26,7 @@ fn settled_open(t: &[u8], n: usize, s: usize, c: usize, o: usize, j: usize) -> S
     if let First::At { owner, number } = found {
         return Settling::Waits { owner, number };
     }
-    let r = load(t, place_of(n, s, o, j));
+    let r = load(t, n, s, o, j);
     let vote = r.vote;
     let command = vote.command;
     Settling::Settled(command)

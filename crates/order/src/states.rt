@@ -3,13 +3,11 @@ use nouns::logic::equal;
 use nouns::logic::wide8;
 use rows::mark_of;
 use rows::slot_of;
-use search::committed_at;
-use table::place_of;
+use search::committed_of;
 ghost use mathlib.Core.Path.{_≡_};
 ghost use Prim.Native.Nat.{_+_, _*_, _≤_, _<_};
 ghost use lib.ListN.{length};
-ghost use Rattle.record.specs.Layout.{recordAt};
-ghost use Rattle.table.specs.Place.{partAt};
+ghost use Rattle.table.specs.Sizes.{Has};
 ghost use Rattle.rules.specs.Order.{isMarked};
 ghost use Rattle.seen.specs.Records.{recordsIn};
 ghost use Rattle.rows.specs.Rows.{Within};
@@ -23,7 +21,7 @@ fn lead_of(t: &[u8], n: usize, s: usize, q: usize) -> usize
 {
     let mut j = 0;
     while j < s {
-        if !committed_at(t, place_of(n, s, q, j + 1)) {
+        if !committed_of(t, n, s, q, j + 1) {
             return j;
         }
         j += 1;
@@ -54,13 +52,12 @@ fn none_behind(n: usize, h: &[u8], x: usize, lead: &[u8]) -> bool
     true
 }
 
-// The record at a place is marked.
-fn marked_at(t: &[u8], at: usize) -> bool
-    requires { ⌜ at + 263 ≤ length (now t) ⌝ }
-    ensures { λ r. ⌜ r ≡ isMarked (recordAt (partAt (now (t .entry)) at)) ⌝ }
+// p.k is marked.
+fn marked_of(t: &[u8], n: usize, s: usize, p: usize, k: usize) -> bool
+    requires { ⌜ Has n s p k (now t) ⌝ }
+    ensures { λ r. ⌜ r ≡ isMarked (recordsIn s (now (t .entry)) p k) ⌝ }
 {
-    let end = at + 263;
-    equal(wide8(num::get_u8(&t[at..end], 36)), 1)
+    equal(wide8(table::records::mark_of(t, n, s, p, k)), 1)
 }
 
 // 0 waits, 1 settled, 2 handed out.
@@ -68,11 +65,10 @@ fn state_of(t: &[u8], n: usize, s: usize, h: &[u8], lead: &[u8], p: usize, k: us
     requires { ⌜ Asking n s (now t) (now h) (now lead) p k ⌝ }
     ensures { λ r. ⌜ State n s (recordsIn s (now (t .entry))) p k r ⌝ }
 {
-    let at = place_of(n, s, p, k);
-    if marked_at(t, at) {
+    if marked_of(t, n, s, p, k) {
         return 2;
     }
-    if !committed_at(t, at) {
+    if !committed_of(t, n, s, p, k) {
         return 0;
     }
     if none_behind(n, h, slot_of(p, k), lead) {

@@ -1,19 +1,15 @@
 -- Answers as numbers: one law for each outcome. Assumes nothing.
-use mathlib.Core.Path.{_≡_, refl, sym, ap, _∙_}
-use mathlib.Core.Bool.{Bool, true, false, _&&_}
+use mathlib.Core.Path.{_≡_, sym, ap, _∙_}
+use mathlib.Core.Bool.{true, false}
 use mathlib.Core.List.{List, [], _∷_}
 use Prim.Native.Nat.{ℕ}
-use lib.ListN.{replicate, take, drop}
+use lib.ListN.{replicate}
 use borrow.Author.Tests.{eq-eqb, ne-eqb}
-use Rattle.paper.specs.Instance.{instanceOk}
 use Rattle.paper.specs.Message.{kindOf, votedIn, joinedIn, noMessage}
 use Rattle.paper.specs.Refusal.{numberOf}
 use Rattle.paper.specs.declared.Body.{Body}
 use Rattle.paper.specs.declared.Message.{Message}
 use Rattle.paper.specs.declared.Refusal.{Refusal}
-use Rattle.table.specs.Place.{placeOf}
-use Rattle.table.specs.Table.{fits}
-use Rattle.table.specs.Calls.{partOf}
 use Rattle.wire.specs.declared.Reading.{Reading}
 use Rattle.wire.specs.declared.Reading.the-variants as reading
 use Rattle.wire.specs.declared.Received.{Received}
@@ -22,7 +18,7 @@ use Rattle.wire.specs.Calls.{readingNumber, wrote, writingNumber, writingCount}
 use Rattle.order.specs.declared.Settling.the-variants as settling
 use Rattle.paper.specs.Command.{opNumber}
 use Rattle.paper.specs.declared.Command.{Command}
-use Rattle.pumxaqert.specs.Flat.{partStart, partLength, settlingValues}
+use Rattle.pumxaqert.specs.Flat.{settlingValues}
 use Rattle.pumxaqert.specs.Fields.{otherBallot, fieldsOf, readValues, messageFrom, sameFields, messageOf}
 
 pub other-8 : (b : Body) → kindOf b ≡ 8 → joinedIn b ≡ otherBallot b
@@ -32,24 +28,6 @@ other-8 b e = rw (eq-eqb (kindOf b) 8 e)
 pub other-not : (b : Body) → (kindOf b ≡ 8 → ⊥) → votedIn b ≡ otherBallot b
 unfolding otherBallot
 other-not b e = rw (ne-eqb (kindOf b) 8 e)
-
-module _ (n s c : ℕ) (t : List ℕ) (o j : ℕ) where
-  pub part-none : (fits n s c t && instanceOk n s o j) ≡ false → (0 ≡ partStart n s c t o j) × (0 ≡ partLength n s c t o j)
-  unfolding partStart partLength
-  part-none e = (rw e, rw e)
-
-  pub part-some : {at : ℕ} → (fits n s c t && instanceOk n s o j) ≡ true → at ≡ placeOf s o j → (at ≡ partStart n s c t o j) × (263 ≡ partLength n s c t o j)
-  unfolding partStart partLength
-  part-some e p = (p ∙ rw e, rw e)
-
-  -- start and length are the saved part's
-  pub part-is : take (partLength n s c t o j) (drop (partStart n s c t o j) t) ≡ partOf n s c t o j
-  unfolding partStart partLength partOf
-  part-is = go (fits n s c t && instanceOk n s o j) refl
-    where
-      go : (b : Bool) → (fits n s c t && instanceOk n s o j) ≡ b → take (partLength n s c t o j) (drop (partStart n s c t o j) t) ≡ partOf n s c t o j
-      go true e = rw e
-      go false e = rw e
 
 module _ {x y : Received} (e : x ≡ y) where
   answers : x .answer ≡ y .answer

@@ -1,11 +1,7 @@
 -- Answers as numbers, where an enum or a returned slice cannot cross to C. Assumes nothing.
 use Prim.Native.Nat.{ℕ}
-use mathlib.Core.Bool.{_&&_, cond}
 use mathlib.Core.List.{List, [], _∷_}
 use Rattle.paper.specs.Command.{opNumber}
-use Rattle.paper.specs.Instance.{instanceOk}
-use Rattle.table.specs.Place.{placeOf, recordLength}
-use Rattle.table.specs.Table.{fits}
 use Rattle.log.specs.declared.Answer.{Answer}
 use Rattle.order.specs.declared.Settling.{Settling}
 use Rattle.order.specs.declared.Settling.the-variants as settling
@@ -16,13 +12,6 @@ use Rattle.log.specs.Events.{answerOwner, answerInstance, answerWritten}
 -- owner, number, bytes written; all 0 for a refusal
 abbrev pub answerValues : Answer → List ℕ
 answerValues a = answerOwner a ∷ answerInstance a ∷ answerWritten a ∷ []
-
--- where the part that holds a record starts, and how long it is; both 0 for a bad instance, or where 1 would be refused
-unfoldable pub partStart : ℕ → ℕ → ℕ → List ℕ → ℕ → ℕ → ℕ
-partStart n s c t o j = cond (fits n s c t && instanceOk n s o j) (placeOf s o j) 0
-
-unfoldable pub partLength : ℕ → ℕ → ℕ → List ℕ → ℕ → ℕ → ℕ
-partLength n s c t o j = cond (fits n s c t && instanceOk n s o j) recordLength 0
 
 -- 1 and the command, or 0 and the instance that it waits for; all 0 for a refusal
 abbrev pub settlingValues : Settling → List ℕ

@@ -1,14 +1,11 @@
 // The calls on a whole table.
-use nouns::logic::both;
 use nouns::refusal::number_of;
-use nouns::setup::instance_ok;
 use table::Blanking;
 use table::Judging;
-use table::fits_setup;
-use table::place_of;
+use table::part_length;
+use table::part_start;
 ghost use mathlib.Core.Path.{_≡_};
-ghost use Rattle.table.specs.Calls.{blanked, blankedTable, judged, blankingNumber, judgingNumber};
-ghost use Rattle.pumxaqert.specs.Flat.{partStart, partLength};
+ghost use Rattle.table.specs.Calls.{blanked, blankedTable, judged, partStart, partLength, lengthOf, blankingNumber, judgingNumber};
 
 #[no_mangle]
 pub extern "C" fn pumxaqert_blank(table: &mut [u8], n: usize, s: usize, c: usize) -> u32
@@ -47,11 +44,14 @@ pub extern "C" fn pumxaqert_part(
     ensures start { λ r. ⌜ r ≡ partStart n s c (now (table .entry)) owner number ⌝ }
     ensures length { λ _. ⌜ now (length .exit) ≡ partLength n s c (now (table .entry)) owner number ⌝ }
 {
-    let fits = fits_setup(table, n, s, c);
-    if !both(fits, instance_ok(n, s, owner, number)) {
-        *length = 0;
-        return 0;
-    }
-    *length = 263;
-    place_of(n, s, owner, number)
+    *length = part_length(table, n, s, c, owner, number);
+    part_start(table, n, s, c, owner, number)
+}
+
+// How long a table of the setup is; 0 of a bad one.
+#[no_mangle]
+pub extern "C" fn pumxaqert_table_length(n: usize, s: usize) -> usize
+    ensures { λ r. ⌜ r ≡ lengthOf n s ⌝ }
+{
+    table::length_of(n, s)
 }

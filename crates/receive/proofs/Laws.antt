@@ -25,8 +25,7 @@ use Rattle.rules.specs.PrepareOk.{afreshCommand, decide, quorum, preparedBy, on
 use Rattle.rules.specs.Received.{conflict, refused10, received}
 use Rattle.rules.specs.Events.{onMessage}
 use Rattle.rules.specs.Seen.{seen}
-use Rattle.record.specs.Layout.{recordAt}
-use Rattle.table.specs.Place.{placeOf, partAt}
+use Rattle.record.specs.Part.{Bytes}
 use Rattle.table.specs.Sizes.{Names}
 use Rattle.table.specs.Table.{recordIn}
 use Rattle.table.proofs.Laws.{sizes, names}
@@ -43,7 +42,7 @@ use Rattle.closed.proofs.Sound.{sound-is}
 use Rattle.closed.proofs.Shapes.{setup-is}
 use Rattle.log.specs.Out.{outBytes}
 use Rattle.log.specs.Events.{refuse, acted, Passed, receiveOpen}
-use Rattle.log.proofs.Held.{Bytes, sound-records, messageAt-fits, out-short}
+use Rattle.log.proofs.Held.{sound-records, messageAt-fits, out-short}
 use Rattle.log.proofs.Calls.{setup-of, three}
 use Rattle.receive.specs.Message as specs
 
@@ -105,13 +104,13 @@ module _ (n s c : ℕ) (t : List ℕ) (room : ℕ) (m : Message) (h : specs.Hear
         owner = omega (arith, named .owner);
       }
 
-  pub small-set : Bytes t → {at : ℕ} {r : Record} → at ≡ placeOf s (m .owner) (m .number) → r ≡ recordAt (partAt t at) → r .set < 128
-  small-set b ea er =
+  pub small-set : Bytes t → {r : Record} → r ≡ recordIn s t (m .owner) (m .number) → r .set < 128
+  small-set b er =
       let (least, most, numbers, copy) = setup-is n s c (setup-of n s c t (h .passed .setup)) in
       let i = valid-instance n s c m (h .valid) in
       let x = sound-is n s c (m .owner) _ (sound-records n s c t b (h .passed .setup) (h .passed .sound) (m .owner) (m .number) i .sound) .set in
       let p = two-pow n most in
-      rw (er, ea) (omega arith)
+      rw er (omega arith)
 
   pub message-room : Bytes t → length (outBytes (onMessage n s c (recordsIn s t) m)) ≤ 222
   message-room b =
@@ -120,27 +119,27 @@ module _ (n s c : ℕ) (t : List ℕ) (room : ℕ) (m : Message) (h : specs.Hear
 
 -- outcomes
 module _ (n s c : ℕ) (t out : List ℕ) where
-  pub heard-10 : (m : Message) {o j at : ℕ} {r : Record} → at ≡ placeOf s o j → o ≡ m .owner → j ≡ m .number → r ≡ recordAt (partAt t at)
+  pub heard-10 : (m : Message) {o j : ℕ} {r : Record} → o ≡ m .owner → j ≡ m .number → r ≡ recordIn s t o j
       → refused10 r m ≡ true → refuse why.Differs t out ≡ specs.heard n s c t out m
   unfolding specs.heard
-  heard-10 m {r = r} ea eo ej er e =
-      let q : r ≡ recordIn s t (m .owner) (m .number) = rw (er, ea, eo, ej) in
+  heard-10 m {r = r} eo ej er e =
+      let q : r ≡ recordIn s t (m .owner) (m .number) = rw (er, eo, ej) in
       let f : refused10 (recordIn s t (m .owner) (m .number)) m ≡ true = ap (λ (x : Record). refused10 x m) (sym q) ∙ e in
       rw f
 
-  pub heard-ok : (m : Message) {o j at : ℕ} {r : Record} → at ≡ placeOf s o j → o ≡ m .owner → j ≡ m .number → r ≡ recordAt (partAt t at)
+  pub heard-ok : (m : Message) {o j : ℕ} {r : Record} → o ≡ m .owner → j ≡ m .number → r ≡ recordIn s t o j
       → refused10 r m ≡ false → acted s t out o j (onMessage n s c (recordsIn s t) m) ≡ specs.heard n s c t out m
   unfolding specs.heard
-  heard-ok m {r = r} ea eo ej er e =
-      let q : r ≡ recordIn s t (m .owner) (m .number) = rw (er, ea, eo, ej) in
+  heard-ok m {r = r} eo ej er e =
+      let q : r ≡ recordIn s t (m .owner) (m .number) = rw (er, eo, ej) in
       let f : refused10 (recordIn s t (m .owner) (m .number)) m ≡ false = ap (λ (x : Record). refused10 x m) (sym q) ∙ e in
       rw (eo, ej, f)
 
   -- the step that was taken is the rule's
-  pub message-step : (m : Message) {o j at : ℕ} {r : Record} {x : Step} → at ≡ placeOf s o j → o ≡ m .owner → j ≡ m .number → r ≡ recordAt (partAt t at)
+  pub message-step : (m : Message) {o j : ℕ} {r : Record} {x : Step} → o ≡ m .owner → j ≡ m .number → r ≡ recordIn s t o j
       → x ≡ received n c (seen n s (recordsIn s t) (m .owner) (m .number)) r m → x ≡ onMessage n s c (recordsIn s t) m
   unfolding onMessage
-  message-step m ea eo ej er ex = rw (ex, er, ea, eo, ej)
+  message-step m eo ej er ex = rw (ex, er, eo, ej)
 
   -- a reading that was refused, and one that was not
   module _ (b : List ℕ) {x : Received} (e : x ≡ calls.received n s c b) (setup : setupOk n s c ≡ true) where

@@ -9,8 +9,7 @@ use nouns::logic::wide8;
 use nouns::logic::wide16;
 use paper::Message;
 use paper::Refusal;
-use table::load;
-use table::place_of;
+use table::records::load;
 use wire::Reading;
 use wire::read_message;
 ghost use mathlib.Core.Path.{_≡_};
@@ -27,13 +26,12 @@ fn hear(t: &mut [u8], out: &mut [u8], n: usize, s: usize, c: usize, m: Message) 
 {
     let o = wide8(m.owner);
     let j = wide16(m.number);
-    let at = place_of(n, s, o, j);
-    let r = load(&*t, at);
+    let r = load(&*t, n, s, o, j);
     if is_refused10(r, m) {
         return Answer::Refused(Refusal::Differs);
     }
     let x = received_as(&*t, n, s, c, r, m);
-    act(t, out, at, o, j, x)
+    act(t, out, n, s, o, j, x)
 }
 
 // Past the gate.

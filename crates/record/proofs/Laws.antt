@@ -22,8 +22,8 @@ use Rattle.sound.specs.Front.{front}
 use Rattle.sound.specs.Asked.{ballotsOk, markedOk, phasedOk}
 use Rattle.paper.specs.declared.Vote.{Vote}
 use Rattle.paper.specs.declared.Record.{Record}
-use Rattle.record.specs.Layout.{votesAt, votesBytes, frontBytes, recordAt}
-use Rattle.record.specs.Part.{opFits, replyPlace, opsFit, soundPart, commandFits, frontOk, plainOk, busyPart, replyPart}
+use Rattle.record.specs.Layout.{replyPlace, votesAt, votesBytes, frontBytes, recordAt}
+use Rattle.record.specs.Part.{opFits, opsFit, soundPart, commandFits, frontOk, plainOk, busyPart, replyPart}
 
 pub length-voteBytes : (v : Vote) → length (voteBytes v) ≡ 32
 unfolding voteBytes

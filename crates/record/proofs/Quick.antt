@@ -19,9 +19,9 @@ use Rattle.paper.specs.Deps.{sameDeps}
 use Rattle.paper.proofs.Laws.{and-true, allBelow-at}
 use Rattle.paper.specs.declared.Vote.{Vote}
 use Rattle.paper.specs.Sound.{phasesOk, busyOk, preparingOk, proposingOk}
-use Rattle.record.specs.Layout.{recordAt}
+use Rattle.record.specs.Layout.{replyPlace, recordAt}
 use Rattle.sound.specs.Asked.{phasedOk}
-use Rattle.record.specs.Part.{replyPlace, replyPart, noReplies, isIdle, idleOk, frontOk, plainOk, soundPart}
+use Rattle.record.specs.Part.{replyPart, noReplies, isIdle, idleOk, frontOk, plainOk, soundPart}
 use Rattle.record.proofs.Laws.{replyPart-out, sound-replies}
 
 -- bits of either number

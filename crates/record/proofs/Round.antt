@@ -16,8 +16,8 @@ use Rattle.paper.specs.Logic.{allBelow}
 use Rattle.paper.proofs.Laws.{and-true, allBelow-at}
 use Rattle.paper.specs.declared.Vote.{Vote}
 use Rattle.paper.specs.declared.Record.{Record}
-use Rattle.record.specs.Layout.{votesAt, votesBytes, recordAt, frontBytes, recordBytes}
-use Rattle.record.specs.Part.{opFits, opsFit, replyPlace}
+use Rattle.record.specs.Layout.{replyPlace, votesAt, votesBytes, recordAt, frontBytes, recordBytes}
+use Rattle.record.specs.Part.{opFits, opsFit}
 use Rattle.record.proofs.Laws.{length-voteBytes, length-frontBytes}
 
 votesAt-votesBytes : (vs : List Vote) (p : List ℕ) (at : ℕ) → length p ≡ at → VotesFit vs → votesAt (length vs) (p ++ votesBytes vs) at ≡ vs

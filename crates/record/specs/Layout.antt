@@ -1,15 +1,64 @@
--- The 263 bytes of a record, as docs/LAYOUT.md has them. Assumes nothing.
-use Prim.Native.Nat.{ℕ, zero, suc, _+_}
+-- The bytes of a record, as docs/LAYOUT.md has them: where each part stands follows from the widths of those before it.
+-- Assumes nothing.
+use Prim.Native.Nat.{ℕ, zero, suc, _+_, _*_}
 use mathlib.Core.List.{List, [], _∷_, _++_}
 use Rattle.num.specs.Num.{numAt, bytesOf}
-use Rattle.codec.specs.Parts.{voteAt, voteBytes}
+use Rattle.num.specs.Fields.{sizeOf}
+use Rattle.codec.specs.Parts.{commandWidths, voteWidths, voteAt, voteBytes}
 use Rattle.paper.specs.declared.Vote.{Vote}
 use Rattle.paper.specs.declared.Record.{Record}
+
+-- how long a vote is
+abbrev pub voteLength : ℕ
+voteLength = sizeOf voteWidths
+
+-- the op stands in a vote behind voted and status
+abbrev pub opInVote : ℕ
+opInVote = 4 + 1
+
+-- joined u32, then the copy's own vote: voted u32, status u8, command, dependencies
+abbrev pub joinedPlace : ℕ
+joinedPlace = 0
+
+abbrev pub votePlace : ℕ
+votePlace = joinedPlace + 4
+
+abbrev pub statusPlace : ℕ
+statusPlace = votePlace + 4
+
+abbrev pub commandPlace : ℕ
+commandPlace = statusPlace + 1
+
+abbrev pub depsPlace : ℕ
+depsPlace = commandPlace + sizeOf commandWidths
+
+-- mark, phase and set, a byte each
+abbrev pub markPlace : ℕ
+markPlace = votePlace + voteLength
+
+abbrev pub phasePlace : ℕ
+phasePlace = markPlace + 1
+
+abbrev pub setPlace : ℕ
+setPlace = phasePlace + 1
+
+-- seven replies, laid out as votes
+abbrev pub repliesPlace : ℕ
+repliesPlace = setPlace + 1
+
+abbrev pub replyPlace : ℕ → ℕ
+replyPlace q = repliesPlace + voteLength * q
+
+abbrev pub repliesLength : ℕ
+repliesLength = 7 * voteLength
+
+abbrev pub recordLength : ℕ
+recordLength = repliesPlace + repliesLength
 
 -- k votes one after the other, from `at` on
 unfoldable pub votesAt : ℕ → List ℕ → ℕ → List Vote
 votesAt zero b at = []
-votesAt (suc k) b at = voteAt b at ∷ votesAt k b (at + 32)
+votesAt (suc k) b at = voteAt b at ∷ votesAt k b (at + voteLength)
 
 unfoldable pub votesBytes : List Vote → List ℕ
 votesBytes [] = []
@@ -19,12 +68,12 @@ votesBytes (v ∷ vs) = voteBytes v ++ votesBytes vs
 unfoldable pub recordAt : List ℕ → Record
 recordAt b =
     record {
-      joined = numAt 4 b 0;
-      vote = voteAt b 4;
-      mark = numAt 1 b 36;
-      phase = numAt 1 b 37;
-      set = numAt 1 b 38;
-      replies = votesAt 7 b 39;
+      joined = numAt 4 b joinedPlace;
+      vote = voteAt b votePlace;
+      mark = numAt 1 b markPlace;
+      phase = numAt 1 b phasePlace;
+      set = numAt 1 b setPlace;
+      replies = votesAt 7 b repliesPlace;
     }
 
 -- all that stands before the replies
@@ -34,3 +83,7 @@ frontBytes r = bytesOf 4 (r .joined) ++ voteBytes (r .vote) ++ bytesOf 1 (r .mar
 -- a record as written
 unfoldable pub recordBytes : Record → List ℕ
 recordBytes r = frontBytes r ++ votesBytes (r .replies)
+
+-- a record with another mark
+abbrev pub withMark : Record → ℕ → Record
+withMark r x = record { joined = r .joined; vote = r .vote; mark = x; phase = r .phase; set = r .set; replies = r .replies }

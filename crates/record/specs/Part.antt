@@ -1,6 +1,6 @@
 -- When the bytes of a record are sound: the record is, and each op byte is the number of an op, so that no byte can differ
 -- unseen. Assumes nothing.
-use Prim.Native.Nat.{ℕ, _+_, _*_}
+use Prim.Native.Nat.{ℕ, _+_, _<_}
 use mathlib.Core.Bool.{Bool, _&&_}
 use mathlib.Core.List.{List}
 use lib.Dec.{leb, eqb}
@@ -13,33 +13,33 @@ use Rattle.paper.specs.Vote.{noneIsBlank}
 use Rattle.paper.specs.Sound.{phasesOk, replyOk, soundRecord}
 use Rattle.codec.specs.Parts.{commandAt, depsAt, voteAt}
 use Rattle.sound.specs.Asked.{ballotsOk, markedOk, phasedOk}
-use Rattle.record.specs.Layout.{recordAt}
+use Rattle.record.specs.Layout.{opInVote, joinedPlace, votePlace, statusPlace, commandPlace, depsPlace, markPlace, phasePlace, setPlace, repliesPlace, repliesLength, replyPlace, recordAt}
 
--- where the vote of copy q stands
-abbrev pub replyPlace : ℕ → ℕ
-replyPlace q = 39 + 32 * q
+-- bytes
+abbrev pub Bytes : List ℕ → Type 0
+Bytes b = (i : ℕ) → getD b i 0 < 256
 
 -- the op byte of the vote at a place
 abbrev pub opFits : List ℕ → ℕ → Bool
-opFits b at = leb (numAt 1 b (at + 5)) 2
+opFits b at = leb (numAt 1 b (at + opInVote)) 2
 
 unfoldable pub opsFit : List ℕ → Bool
-opsFit b = opFits b 4 && allBelow 7 (λ q. opFits b (replyPlace q))
+opsFit b = opFits b votePlace && allBelow 7 (λ q. opFits b (replyPlace q))
 
 unfoldable pub soundPart : ℕ → ℕ → ℕ → ℕ → List ℕ → Bool
 soundPart n s c o b = opsFit b && soundRecord n s c o (recordAt b)
 
 -- the same, as it is judged: what holds in any phase, what the phase asks, then each reply's place
 unfoldable pub commandFits : List ℕ → Bool
-commandFits b = opFits b 4 && commandOk (commandAt b 9)
+commandFits b = opFits b votePlace && commandOk (commandAt b commandPlace)
 
 unfoldable pub frontOk : ℕ → ℕ → List ℕ → Bool
 frontOk n s b =
-    ballotsOk n (numAt 4 b 0) (numAt 4 b 4)
-    && (commandFits b && (markedOk (numAt 1 b 8) (numAt 1 b 36) && (noneIsBlank (voteAt b 4) && depsOk n s (depsAt b 22))))
+    ballotsOk n (numAt 4 b joinedPlace) (numAt 4 b votePlace)
+    && (commandFits b && (markedOk (numAt 1 b statusPlace) (numAt 1 b markPlace) && (noneIsBlank (voteAt b votePlace) && depsOk n s (depsAt b depsPlace))))
 
 unfoldable pub plainOk : ℕ → ℕ → List ℕ → Bool
-plainOk n s b = frontOk n s b && phasedOk n (numAt 1 b 37) (numAt 1 b 38)
+plainOk n s b = frontOk n s b && phasedOk n (numAt 1 b phasePlace) (numAt 1 b setPlace)
 
 unfoldable pub replyPart : ℕ → ℕ → ℕ → List ℕ → ℕ → Bool
 replyPart n s c b q = opFits b (replyPlace q) && replyOk n s c (recordAt b) q
@@ -49,11 +49,11 @@ busyPart n s c o b = phasesOk n c o (recordAt b) && allBelow 7 (replyPart n s c 
 
 -- the bytes of all replies are zero
 unfoldable pub noReplies : List ℕ → Bool
-noReplies b = allBelow 224 (λ i. eqb (getD b (39 + i) 0) 0)
+noReplies b = allBelow repliesLength (λ i. eqb (getD b (repliesPlace + i) 0) 0)
 
 -- no phase, which asks nothing more, and nothing collected
 unfoldable pub isIdle : List ℕ → Bool
-isIdle b = eqb (numAt 1 b 37) 0 && (eqb (numAt 1 b 38) 0 && noReplies b)
+isIdle b = eqb (numAt 1 b phasePlace) 0 && (eqb (numAt 1 b setPlace) 0 && noReplies b)
 
 unfoldable pub idleOk : ℕ → ℕ → List ℕ → Bool
 idleOk n s b = isIdle b && frontOk n s b

@@ -1,4 +1,16 @@
-// One record in its 263 bytes: read, written and judged.
+// One record in its bytes: read, written and judged. Where each part stands is said in `places`, and nowhere else.
+use crate::places::COMMAND;
+use crate::places::DEPS;
+use crate::places::EDIT;
+use crate::places::JOINED;
+use crate::places::KEY;
+use crate::places::LENGTH;
+use crate::places::MARK;
+use crate::places::PHASE;
+use crate::places::REPLIES;
+use crate::places::SET;
+use crate::places::STATUS;
+use crate::places::VOTE;
 use nouns::deps::deps_ok;
 use nouns::logic::at_most;
 use nouns::logic::wide8;
@@ -22,19 +34,22 @@ ghost use Rattle.paper.specs.Sound.{phasesOk};
 ghost use Rattle.paper.specs.Deps.{depsOk};
 ghost use Rattle.paper.specs.Vote.{noneIsBlank};
 ghost use Rattle.codec.specs.Parts.{depsAt, voteAt};
-ghost use Rattle.record.specs.Layout.{votesAt, votesBytes, recordAt, frontBytes, recordBytes};
+ghost use Rattle.record.specs.Layout.{voteLength, votePlace, depsPlace, repliesPlace, repliesLength, recordLength, votesAt, votesBytes, recordAt, frontBytes, recordBytes};
 ghost use Rattle.record.specs.Part.{opFits, commandFits, frontOk, plainOk, replyPart, noReplies, isIdle, idleOk, soundPart};
 
+pub mod fields;
+pub mod places;
+
 fn read_votes(b: &[u8], at: usize) -> [Vote; 7]
-    requires { ⌜ at + 224 ≤ length (now b) ⌝ }
+    requires { ⌜ at + repliesLength ≤ length (now b) ⌝ }
     ensures { λ r. ⌜ r ≡ votesAt 7 (now (b .entry)) at ⌝ }
 {
-    let a1 = at + 32;
-    let a2 = a1 + 32;
-    let a3 = a2 + 32;
-    let a4 = a3 + 32;
-    let a5 = a4 + 32;
-    let a6 = a5 + 32;
+    let a1 = at + codec::VOTE;
+    let a2 = a1 + codec::VOTE;
+    let a3 = a2 + codec::VOTE;
+    let a4 = a3 + codec::VOTE;
+    let a5 = a4 + codec::VOTE;
+    let a6 = a5 + codec::VOTE;
     let v0 = codec::read_vote(b, at);
     let v1 = codec::read_vote(b, a1);
     let v2 = codec::read_vote(b, a2);
@@ -46,15 +61,15 @@ fn read_votes(b: &[u8], at: usize) -> [Vote; 7]
 }
 
 pub fn read_record(b: &[u8]) -> Record
-    requires { ⌜ 263 ≤ length (now b) ⌝ }
+    requires { ⌜ recordLength ≤ length (now b) ⌝ }
     ensures { λ r. ⌜ r ≡ recordAt (now (b .entry)) ⌝ }
 {
-    let joined = num::get_u32(b, 0);
-    let vote = codec::read_vote(b, 4);
-    let mark = num::get_u8(b, 36);
-    let phase = num::get_u8(b, 37);
-    let set = num::get_u8(b, 38);
-    let replies = read_votes(b, 39);
+    let joined = num::get_u32(b, JOINED);
+    let vote = codec::read_vote(b, VOTE);
+    let mark = num::get_u8(b, MARK);
+    let phase = num::get_u8(b, PHASE);
+    let set = num::get_u8(b, SET);
+    let replies = read_votes(b, REPLIES);
     Record {
         joined,
         vote,
@@ -66,78 +81,78 @@ pub fn read_record(b: &[u8]) -> Record
 }
 
 fn write_votes(b: &mut [u8], at: usize, vs: [Vote; 7])
-    requires { ⌜ at + 224 ≤ length (now b) ⌝ }
+    requires { ⌜ at + repliesLength ≤ length (now b) ⌝ }
     ensures { λ _. ⌜ now (b .exit) ≡ splice (now (b .entry)) at (votesBytes vs) ⌝ }
     ensures sized { λ _. ⌜ length vs ≡ 7 ⌝ }
 {
     for k in 0..7 {
         let v = vs[k];
-        codec::write_vote(&mut *b, at + 32 * k, v);
+        codec::write_vote(&mut *b, at + codec::VOTE * k, v);
     }
 }
 
 fn write_front(b: &mut [u8], r: Record)
-    requires { ⌜ 39 ≤ length (now b) ⌝ }
+    requires { ⌜ repliesPlace ≤ length (now b) ⌝ }
     ensures { λ _. ⌜ now (b .exit) ≡ splice (now (b .entry)) 0 (frontBytes r) ⌝ }
 {
     let vote = r.vote;
-    num::put_u32(&mut *b, 0, r.joined);
-    codec::write_vote(&mut *b, 4, vote);
-    num::put_u8(&mut *b, 36, r.mark);
-    num::put_u8(&mut *b, 37, r.phase);
-    num::put_u8(&mut *b, 38, r.set);
+    num::put_u32(&mut *b, JOINED, r.joined);
+    codec::write_vote(&mut *b, VOTE, vote);
+    num::put_u8(&mut *b, MARK, r.mark);
+    num::put_u8(&mut *b, PHASE, r.phase);
+    num::put_u8(&mut *b, SET, r.set);
 }
 
 pub fn write_record(b: &mut [u8], r: Record)
-    requires { ⌜ length (now b) ≡ 263 ⌝ }
+    requires { ⌜ length (now b) ≡ recordLength ⌝ }
     ensures { λ _. ⌜ now (b .exit) ≡ recordBytes r ⌝ }
 {
     let replies = r.replies;
     write_front(&mut *b, r);
-    write_votes(&mut *b, 39, replies);
+    write_votes(&mut *b, REPLIES, replies);
 }
 
 fn op_ok(b: &[u8], at: usize) -> bool
-    requires { ⌜ at + 32 ≤ length (now b) ⌝ }
+    requires { ⌜ at + voteLength ≤ length (now b) ⌝ }
     ensures { λ r. ⌜ r ≡ opFits (now (b .entry)) at ⌝ }
 {
-    at_most(wide8(num::get_u8(b, at + 5)), 2)
+    at_most(wide8(num::get_u8(b, at + codec::COMMAND_AT)), 2)
 }
 
 // The op byte, and the command: a no-op has zero key and edit.
 fn command_fits(b: &[u8]) -> bool
-    requires { ⌜ 263 ≤ length (now b) ⌝ }
+    requires { ⌜ recordLength ≤ length (now b) ⌝ }
     ensures { λ r. ⌜ r ≡ commandFits (now (b .entry)) ⌝ }
 {
-    let op = num::get_u8(b, 9);
+    let op = num::get_u8(b, COMMAND);
     if op != 0 {
         return op <= 2;
     }
-    let key = num::get_u32(b, 10);
+    let key = num::get_u32(b, KEY);
     if key != 0 {
         return false;
     }
-    let edit = num::get_u64(b, 14);
+    let edit = num::get_u64(b, EDIT);
     edit == 0
 }
 
 fn none_ok(b: &[u8]) -> bool
-    requires { ⌜ 263 ≤ length (now b) ⌝ }
-    ensures { λ r. ⌜ r ≡ noneIsBlank (voteAt (now (b .entry)) 4) ⌝ }
+    requires { ⌜ recordLength ≤ length (now b) ⌝ }
+    ensures { λ r. ⌜ r ≡ noneIsBlank (voteAt (now (b .entry)) votePlace) ⌝ }
 {
-    let status = num::get_u8(b, 8);
+    let status = num::get_u8(b, STATUS);
     if status != 0 {
         return true;
     }
-    none_is_blank(codec::read_vote(b, 4))
+    none_is_blank(codec::read_vote(b, VOTE))
 }
 
 // With seven copies every entry has the same limit: said as a number, it is compared with as it stands.
 fn deps_fit(b: &[u8], n: usize, s: usize) -> bool
-    requires { ⌜ 263 ≤ length (now b) ⌝ }
-    ensures { λ r. ⌜ r ≡ depsOk n s (depsAt (now (b .entry)) 22) ⌝ }
+    requires { ⌜ recordLength ≤ length (now b) ⌝ }
+    ensures { λ r. ⌜ r ≡ depsOk n s (depsAt (now (b .entry)) depsPlace) ⌝ }
 {
-    let d = codec::read_deps(b, 22);
+    let d = codec::read_deps(b, DEPS);
     if 7 <= n {
         return deps_ok(7, s, d);
     }
@@ -146,16 +161,16 @@ fn deps_fit(b: &[u8], n: usize, s: usize) -> bool
 
 // What holds in any phase of all that stands before the phase. Each field is read where it is asked.
 fn front_ok(b: &[u8], n: usize, s: usize) -> bool
-    requires { ⌜ 263 ≤ length (now b) ⌝ }
+    requires { ⌜ recordLength ≤ length (now b) ⌝ }
     ensures { λ r. ⌜ r ≡ frontOk n s (now (b .entry)) ⌝ }
 {
-    if !ballots_ok(n, num::get_u32(b, 0), num::get_u32(b, 4)) {
+    if !ballots_ok(n, num::get_u32(b, JOINED), num::get_u32(b, VOTE)) {
         return false;
     }
     if !command_fits(b) {
         return false;
     }
-    if !marked_ok(num::get_u8(b, 8), num::get_u8(b, 36)) {
+    if !marked_ok(num::get_u8(b, STATUS), num::get_u8(b, MARK)) {
         return false;
     }
     if !none_ok(b) {
@@ -166,49 +181,49 @@ fn front_ok(b: &[u8], n: usize, s: usize) -> bool
 
 // What holds in any phase.
 fn plain_ok(b: &[u8], n: usize, s: usize) -> bool
-    requires { ⌜ (263 ≤ length (now b)) × (n ≤ 7) ⌝ }
+    requires { ⌜ (recordLength ≤ length (now b)) × (n ≤ 7) ⌝ }
     ensures { λ r. ⌜ r ≡ plainOk n s (now (b .entry)) ⌝ }
 {
     if !front_ok(b, n, s) {
         return false;
     }
-    phased_ok(n, num::get_u8(b, 37), num::get_u8(b, 38))
+    phased_ok(n, num::get_u8(b, PHASE), num::get_u8(b, SET))
 }
 
 // What the phase asks.
 fn phase_ok(b: &[u8], n: usize, c: usize, o: usize) -> bool
-    requires { ⌜ (263 ≤ length (now b)) × (1 ≤ n) × (c < 8) ⌝ }
+    requires { ⌜ (recordLength ≤ length (now b)) × (1 ≤ n) × (c < 8) ⌝ }
     ensures { λ r. ⌜ r ≡ phasesOk n c o (recordAt (now (b .entry))) ⌝ }
 {
-    let joined = num::get_u32(b, 0);
-    let v = codec::read_vote(b, 4);
-    let phase = num::get_u8(b, 37);
-    let set = num::get_u8(b, 38);
+    let joined = num::get_u32(b, JOINED);
+    let v = codec::read_vote(b, VOTE);
+    let phase = num::get_u8(b, PHASE);
+    let set = num::get_u8(b, SET);
     phases_ok(n, c, o, joined, v, phase, set)
 }
 
 // The place of the reply of copy q.
 fn reply_ok(b: &[u8], n: usize, s: usize, c: usize, q: usize) -> bool
-    requires { ⌜ (263 ≤ length (now b)) × (q < 7) ⌝ }
+    requires { ⌜ (recordLength ≤ length (now b)) × (q < 7) ⌝ }
     ensures { λ r. ⌜ r ≡ replyPart n s c (now (b .entry)) q ⌝ }
 {
-    let at = 39 + 32 * q;
+    let at = REPLIES + codec::VOTE * q;
     if !op_ok(b, at) {
         return false;
     }
     let v = codec::read_vote(b, at);
-    let set = num::get_u8(b, 38);
+    let set = num::get_u8(b, SET);
     if is_member(q, set) {
-        let joined = num::get_u32(b, 0);
-        let own = codec::read_vote(b, 4);
-        let phase = num::get_u8(b, 37);
+        let joined = num::get_u32(b, JOINED);
+        let own = codec::read_vote(b, VOTE);
+        let phase = num::get_u8(b, PHASE);
         return collected_ok(n, s, c, phase, joined, own, q, v);
     }
     same_vote(v, no_vote())
 }
 
 fn replies_ok(b: &[u8], n: usize, s: usize, c: usize) -> bool
-    requires { ⌜ 263 ≤ length (now b) ⌝ }
+    requires { ⌜ recordLength ≤ length (now b) ⌝ }
     ensures { λ r. ⌜ r ≡ allBelow 7 (replyPart n s c (now (b .entry))) ⌝ }
 {
     let mut left = 7;
@@ -222,12 +237,12 @@ fn replies_ok(b: &[u8], n: usize, s: usize, c: usize) -> bool
 }
 
 fn no_replies(b: &[u8]) -> bool
-    requires { ⌜ 263 ≤ length (now b) ⌝ }
+    requires { ⌜ recordLength ≤ length (now b) ⌝ }
     ensures { λ r. ⌜ r ≡ noReplies (now (b .entry)) ⌝ }
 {
     let mut any = 0;
-    let mut i = 39;
-    while i < 263 {
+    let mut i = REPLIES;
+    while i < LENGTH {
         any |= b[i];
         i += 1;
     }
@@ -235,14 +250,14 @@ fn no_replies(b: &[u8]) -> bool
 }
 
 fn is_idle(b: &[u8]) -> bool
-    requires { ⌜ 263 ≤ length (now b) ⌝ }
+    requires { ⌜ recordLength ≤ length (now b) ⌝ }
     ensures { λ r. ⌜ r ≡ isIdle (now (b .entry)) ⌝ }
 {
-    let phase = num::get_u8(b, 37);
+    let phase = num::get_u8(b, PHASE);
     if phase != 0 {
         return false;
     }
-    let set = num::get_u8(b, 38);
+    let set = num::get_u8(b, SET);
     if set != 0 {
         return false;
     }
@@ -251,7 +266,7 @@ fn is_idle(b: &[u8]) -> bool
 
 // Most records are in no phase and have nothing collected: where the rest is right too, they are sound at any copy.
 pub fn idle_ok(b: &[u8], n: usize, s: usize) -> bool
-    requires { ⌜ 263 ≤ length (now b) ⌝ }
+    requires { ⌜ recordLength ≤ length (now b) ⌝ }
     ensures { λ r. ⌜ r ≡ idleOk n s (now (b .entry)) ⌝ }
 {
     if !is_idle(b) {
@@ -262,7 +277,7 @@ pub fn idle_ok(b: &[u8], n: usize, s: usize) -> bool
 
 // The record in these bytes is sound at copy c for an instance of owner o.
 pub fn sound_part(b: &[u8], n: usize, s: usize, c: usize, o: usize) -> bool
-    requires { ⌜ (263 ≤ length (now b)) × (1 ≤ n) × (n ≤ 7) × (c < 8) ⌝ }
+    requires { ⌜ (recordLength ≤ length (now b)) × (1 ≤ n) × (n ≤ 7) × (c < 8) ⌝ }
     ensures { λ r. ⌜ r ≡ soundPart n s c o (now (b .entry)) ⌝ }
 {
     if !plain_ok(b, n, s) {

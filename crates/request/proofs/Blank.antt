@@ -2,11 +2,10 @@
 use mathlib.Core.Path.{_≡_, refl, sym, ap, _∙_}
 use mathlib.Core.Bool.{Bool, true, false, _&&_}
 use mathlib.Core.List.{List}
-use Prim.Native.Nat.{ℕ, suc, _+_, _*_, _-_, _≤_, _<_}
+use Prim.Native.Nat.{ℕ, suc, _+_, _-_, _≤_, _<_}
 use native.Mathlib.Omega.{arith}
-use native.Mathlib.Nat.{mul-le-mul}
 use lib.Dec.{eqb}
-use lib.ListN.{length, getD, take, drop}
+use lib.ListN.{getD}
 use borrow.Author.Tests.{eqb-true, eq-eqb}
 use Rattle.paper.specs.Logic.{allBelow}
 use Rattle.paper.specs.Command.{isNoop, noop, sameCommand, commandOk}
@@ -16,14 +15,11 @@ use Rattle.paper.specs.Sound.{soundRecord, replyOk, repliesOk}
 use Rattle.paper.proofs.Laws.{and-true, allBelow-at}
 use Rattle.paper.specs.declared.Vote.{Vote}
 use Rattle.paper.specs.declared.Record.{Record}
-use Rattle.record.specs.Layout.{recordAt}
-use Rattle.record.specs.Part.{opsFit, soundPart}
 use Rattle.rules.specs.Request.{isBlank, lowestBlank}
 use Rattle.rules.specs.Events.{requestNumber}
-use Rattle.table.specs.Place.{placeAt, placeOf, partAt}
-use Rattle.table.specs.Sizes.{Sizes, Names}
-use Rattle.table.proofs.Laws.{sizes, place-end}
-use Rattle.table.proofs.Round.{sound-at}
+use Rattle.table.specs.Sizes.{Names, Has}
+use Rattle.table.proofs.Laws.{sizes}
+use Rattle.table.proofs.Round.{record-sound}
 use Rattle.seen.specs.Records.{recordsIn}
 use Rattle.closed.proofs.Laws.{both, all-in, imp-at, three, four}
 use Rattle.closed.proofs.Sets.{member-none}
@@ -82,63 +78,43 @@ blank-is n s c o r h = go (eqb (r .joined) 0) (eqb (r .vote .status) 0) (eqb (r 
     go true false d x y z = rw (x, y) (differing (r .vote) y _ _ _ _)
     go false b d x y z = rw x
 
--- the walk up copy c's row: the numbers from j on are still to be looked at, and their records start at `at`
+-- the walk up copy c's row: the numbers from j on are still to be looked at
 module _ (n s c : ℕ) (t : List ℕ) where
-  pub record From (j at : ℕ) : Type 0 where
+  pub record From (j : ℕ) : Type 0 where
     pub judged : Judged n s c t
     pub so : requestNumber s c (recordsIn s t) ≡ lowestBlank (s + 1 - j) j (recordsIn s t c)
     pub least : 1 ≤ j
     pub most : j ≤ s + 1
-    pub place : at ≡ 3 + 263 * (c * s + (j - 1))
 
-  size : Judged n s c t → Sizes n s c t
-  size h = sizes n s c t (h .setup)
+  pub few : Judged n s c t → s ≤ 64
+  few h = sizes n s c t (h .setup) .numbers
 
-  pub small-start : Judged n s c t → (c * s ≤ 448) × (s ≤ 64)
-  small-start h =
-      let z = size h in
-      let l : c ≤ 7 = omega (arith, z .copy, z .copies) in
-      (omega (arith, mul-le-mul l (z .numbers)), z .numbers)
-
-  pub start : Judged n s c t → From 1 (3 + 263 * (c * s))
+  pub start : Judged n s c t → From 1
   unfolding requestNumber
-  start h = let e : s + 1 - 1 ≡ s = omega arith in record { judged = h; so = rw e; least = omega arith; most = omega arith; place = omega arith }
+  start h = let e : s + 1 - 1 ≡ s = omega arith in record { judged = h; so = rw e; least = omega arith; most = omega arith }
 
-  module _ (j at : ℕ) (f : From j at) (h : j ≤ s) where
+  module _ (j : ℕ) (f : From j) (h : j ≤ s) where
     own : Names n s c j
-    own = let z = size (f .judged) in record { copies = z .copies; numbers = z .numbers; owner = z .copy; first = f .least; last = h }
+    own = let z = sizes n s c t (f .judged .setup) in record { copies = z .copies; numbers = z .numbers; owner = z .copy; first = f .least; last = h }
 
-    pub bounds : at + 263 ≤ length t
-    unfolding placeAt
-    bounds = omega (arith, place-end n s c j own, f .place, size (f .judged) .long)
-
-    part : take (at + 263 - at) (drop at t) ≡ partAt t (placeOf s c j)
-    unfolding placeAt
-    part =
-        let e : at + 263 - at ≡ 263 = omega arith in
-        let p = f .place in
-        rw (e, p)
+    pub has : Has n s c j t
+    has = record { names = own; long = sizes n s c t (f .judged .setup) .long }
 
     -- the test that was made is the definition's
-    pub tested : {b : Bool} → b ≡ isUntouched (recordAt (take (at + 263 - at) (drop at t))) → isBlank (recordsIn s t c j) ≡ b
-    unfolding soundPart
-    tested eb =
-        let p = sound-at n s c t (f .judged .sound) c j own in
-        let q = and-true (opsFit (partAt t (placeOf s c j))) (soundRecord n s c c (recordAt (partAt t (placeOf s c j)))) p .1 in
-        sym (eb ∙ ap (λ (x : List ℕ). isUntouched (recordAt x)) part ∙ blank-is n s c c (recordAt (partAt t (placeOf s c j))) q)
+    pub tested : {b : Bool} → b ≡ isUntouched (recordsIn s t c j) → isBlank (recordsIn s t c j) ≡ b
+    tested eb = sym (eb ∙ blank-is n s c c (recordsIn s t c j) (record-sound n s c t (f .judged .sound) c j own))
 
     pub here : isBlank (recordsIn s t c j) ≡ true → j ≡ requestNumber s c (recordsIn s t)
     unfolding lowestBlank
     here e = let k : s + 1 - j ≡ suc (s - j) = omega arith in sym (f .so ∙ rw (k, e))
 
-    pub next : isBlank (recordsIn s t c j) ≡ false → From (j + 1) (at + 263)
+    pub next : isBlank (recordsIn s t c j) ≡ false → From (j + 1)
     unfolding lowestBlank
     next e =
         let k : s + 1 - j ≡ suc (s + 1 - (j + 1)) = omega arith in
-        let p = f .place in
         let l = f .least in
-        record { judged = f .judged; so = f .so ∙ rw (k, e); least = omega arith; most = omega arith; place = omega arith }
+        record { judged = f .judged; so = f .so ∙ rw (k, e); least = omega arith; most = omega arith }
 
-  pub full : (j at : ℕ) → From j at → s < j → j ≡ requestNumber s c (recordsIn s t)
+  pub full : (j : ℕ) → From j → s < j → j ≡ requestNumber s c (recordsIn s t)
   unfolding lowestBlank
-  full j at f h = let k : s + 1 - j ≡ 0 = omega arith in sym (f .so ∙ rw k)
+  full j f h = let k : s + 1 - j ≡ 0 = omega arith in sym (f .so ∙ rw k)

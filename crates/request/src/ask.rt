@@ -17,7 +17,6 @@ use rules::Step;
 use seen::seen_of;
 use step::afresh::afresh_with;
 use step::made::begun_at;
-use table::place_of;
 ghost use mathlib.Core.Path.{_≡_};
 ghost use Prim.Native.Nat.{_≤_};
 ghost use lib.ListN.{length};
@@ -54,9 +53,8 @@ fn ask(t: &mut [u8], out: &mut [u8], n: usize, s: usize, c: usize, k: Command) -
     if s < j {
         return Answer::Refused(Refusal::Full);
     }
-    let at = place_of(n, s, c, j);
     let x = request_at(&*t, n, s, c, j, k);
-    act(t, out, at, c, j, x)
+    act(t, out, n, s, c, j, x)
 }
 
 // Past the gate.

@@ -1,16 +1,11 @@
 -- The search over a table's bytes: what it reads, and what each call rests on. Assumes nothing.
-use Prim.Native.Nat.{ℕ, _+_, _-_, _≤_, _<_}
-use mathlib.Core.Path.{_≡_, ap, _∙_}
+use Prim.Native.Nat.{ℕ, _+_, _≤_, _<_}
+use mathlib.Core.Path.{_≡_, _∙_}
 use mathlib.Core.Bool.{Bool, _&&_, _||_, not}
 use mathlib.Core.List.{List}
 use native.Mathlib.Omega.{arith}
-use native.Mathlib.Nat.{add-sub-cancel-left}
 use lib.Dec.{leb}
-use lib.ListN.{length, getD, set, take, drop, length-set}
-use Rattle.num.specs.Num.{numAt}
-use Rattle.codec.specs.Parts.{depsAt, voteAt}
-use Rattle.record.specs.Layout.{recordAt}
-use Rattle.table.specs.Place.{placeOf, partAt}
+use lib.ListN.{length, getD, set, length-set}
 use Rattle.table.specs.Sizes.{Names}
 use Rattle.rules.specs.Step.{isCommitted}
 use Rattle.rules.specs.Order.{waitsFor}
@@ -19,23 +14,11 @@ use Rattle.reach.specs.High.{Inst, entryOf, Explored, itself}
 use Rattle.reach.proofs.High.{unvisited, unvisited-kept, unvisited-raised, raised-few, explore-more}
 use Rattle.search.specs.Searching.{Searching, Asked}
 
--- the part that was lent is the record's
-whole : (t : List ℕ) (at : ℕ) → take (at + 263 - at) (drop at t) ≡ partAt t at
-whole t at = ap (λ (k : ℕ). take k (drop at t)) (add-sub-cancel-left at 263)
-
-pub deps-read : (t : List ℕ) (at : ℕ) {d : List ℕ} → d ≡ depsAt (take (at + 263 - at) (drop at t)) 22 → d ≡ recordAt (partAt t at) .vote .deps
-unfolding recordAt voteAt depsAt
-deps-read t at e = e ∙ ap (λ (b : List ℕ). depsAt b 22) (whole t at)
-
-pub status-read : (t : List ℕ) (at : ℕ) {x : ℕ} → x ≡ numAt 1 (take (at + 263 - at) (drop at t)) 8 → x ≡ recordAt (partAt t at) .vote .status
-unfolding recordAt voteAt
-status-read t at e = e ∙ ap (λ (b : List ℕ). numAt 1 b 8) (whole t at)
-
 -- the mark of q against the entry of q, as they were compared
-module _ (s : ℕ) (t : List ℕ) (p k q : ℕ) (r : List ℕ) {at : ℕ} {d : List ℕ} (ea : at ≡ placeOf s p k) (ed : d ≡ recordAt (partAt t at) .vote .deps)
+module _ (s : ℕ) (t : List ℕ) (p k q : ℕ) (r : List ℕ) {d : List ℕ} (ed : d ≡ recordsIn s t p k .vote .deps)
     {a b : ℕ} (ra : a ≡ getD r q 0) (rb : b ≡ getD d q 0) where
   entry-read : getD d q 0 ≡ entryOf (recordsIn s t) p k q
-  entry-read = rw (ed, ea)
+  entry-read = rw ed
 
   pub above : a < b → getD r q 0 + 1 ≤ entryOf (recordsIn s t) p k q
   above l = omega (arith, entry-read)
@@ -77,7 +60,7 @@ module _ (n s : ℕ) (t : List ℕ) (p k : ℕ) (m : List ℕ) (h : Searching n 
 
 -- the walk over what was visited
 module _ (n s : ℕ) (t : List ℕ) (p k : ℕ) (m : List ℕ) (o j : ℕ) (h : Asked n s t p k m o j) where
-  pub waits-is : {at : ℕ} {a b x y z : Bool} {i : ℕ} → at ≡ placeOf s o j → a ≡ itself p k o j → i ≡ getD m o 0 → b ≡ leb j i → x ≡ (a || b)
-      → y ≡ isCommitted (recordAt (partAt t at)) → z ≡ (x && not y) → z ≡ waitsFor n s (recordsIn s t) p k o j
+  pub waits-is : {a b x y z : Bool} {i : ℕ} → a ≡ itself p k o j → i ≡ getD m o 0 → b ≡ leb j i → x ≡ (a || b)
+      → y ≡ isCommitted (recordsIn s t o j) → z ≡ (x && not y) → z ≡ waitsFor n s (recordsIn s t) p k o j
   unfolding waitsFor
-  waits-is ea ra ri rb rx ry rz = rz ∙ rw (rx, ra, rb, ri, ry, ea, h .searched .highs o j (h .inst))
+  waits-is ra ri rb rx ry rz = rz ∙ rw (rx, ra, rb, ri, ry, h .searched .highs o j (h .inst))

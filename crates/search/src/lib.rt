@@ -7,34 +7,22 @@ use nouns::logic::equal;
 use nouns::logic::wide8;
 use nouns::logic::wide16;
 use rules::First;
-use table::place_of;
+use table::records::deps_of;
+use table::records::status_of;
 ghost use mathlib.Core.Path.{_≡_};
-ghost use Prim.Native.Nat.{_+_, _≤_};
-ghost use lib.ListN.{length};
-ghost use Rattle.record.specs.Layout.{recordAt};
-ghost use Rattle.table.specs.Place.{partAt};
+ghost use Rattle.table.specs.Sizes.{Has};
 ghost use Rattle.rules.specs.Step.{isCommitted};
 ghost use Rattle.rules.specs.Order.{waitsFor, firstOpen};
 ghost use Rattle.seen.specs.Records.{recordsIn};
 ghost use Rattle.reach.specs.High.{Explored};
 ghost use Rattle.search.specs.Searching.{Searching, Searched, Asked};
 
-// The dependencies of the record at a place.
-pub fn deps_at(t: &[u8], at: usize) -> [u16; 7]
-    requires { ⌜ at + 263 ≤ length (now t) ⌝ }
-    ensures { λ r. ⌜ r ≡ recordAt (partAt (now (t .entry)) at) .vote .deps ⌝ }
+// o.j is committed.
+pub fn committed_of(t: &[u8], n: usize, s: usize, o: usize, j: usize) -> bool
+    requires { ⌜ Has n s o j (now t) ⌝ }
+    ensures { λ r. ⌜ r ≡ isCommitted (recordsIn s (now (t .entry)) o j) ⌝ }
 {
-    let end = at + 263;
-    codec::read_deps(&t[at..end], 22)
-}
-
-// The record at a place is committed.
-pub fn committed_at(t: &[u8], at: usize) -> bool
-    requires { ⌜ at + 263 ≤ length (now t) ⌝ }
-    ensures { λ r. ⌜ r ≡ isCommitted (recordAt (partAt (now (t .entry)) at)) ⌝ }
-{
-    let end = at + 263;
-    equal(wide8(num::get_u8(&t[at..end], 8)), 4)
+    equal(wide8(status_of(t, n, s, o, j)), 4)
 }
 
 // Visits all that p.k reaches and that was not visited before. Each call raises a mark first: unvisited instances fall.
@@ -42,7 +30,7 @@ pub fn explore(t: &[u8], n: usize, s: usize, p: usize, k: usize, m: &mut [u8])
     requires { ⌜ Searching n s (now t) p k (now m) ⌝ }
     ensures { λ _. ⌜ Explored n s (recordsIn s (now (t .entry))) p k n (now (m .entry)) (now (m .exit)) ⌝ }
 {
-    let deps = deps_at(t, place_of(n, s, p, k));
+    let deps = deps_of(t, n, s, p, k);
     let mut q = 0;
     while q < n {
         if wide8(m[q]) < wide16(deps[q]) {
@@ -60,10 +48,9 @@ fn waits_for(t: &[u8], n: usize, s: usize, p: usize, k: usize, m: &[u8], o: usiz
     requires { ⌜ Asked n s (now t) p k (now m) o j ⌝ }
     ensures { λ r. ⌜ r ≡ waitsFor n s (recordsIn s (now (t .entry))) p k o j ⌝ }
 {
-    let at = place_of(n, s, o, j);
     let itself = both(equal(o, p), equal(j, k));
     let visited = either(itself, at_most(j, wide8(m[o])));
-    both(visited, !committed_at(t, at))
+    both(visited, !committed_of(t, n, s, o, j))
 }
 
 // Names the uncommitted instance that comes first among p.k and what the search from it visited.

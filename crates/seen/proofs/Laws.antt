@@ -2,18 +2,13 @@
 use mathlib.Core.Path.{_≡_, refl, sym, _∙_}
 use mathlib.Core.Bool.{Bool, true, false, _&&_, not}
 use mathlib.Core.List.{List, [], _∷_}
-use Prim.Native.Nat.{ℕ, zero, suc, _+_, _*_, _-_, _≤_, _<_}
+use Prim.Native.Nat.{ℕ, zero, suc, _-_, _≤_, _<_}
 use native.Mathlib.Omega.{arith}
-use native.Mathlib.Nat.{mul-le-mul}
 use lib.Dec.{leb, eqb}
-use lib.ListN.{length}
 use borrow.Author.Tests.{lt-ltb, le-ltb}
 use Rattle.paper.specs.Command.{interfere}
 use Rattle.paper.specs.declared.Command.{Command}
-use Rattle.record.specs.Layout.{recordAt}
-use Rattle.table.specs.Place.{partAt, placeAt}
-use Rattle.table.specs.Sizes.{Row}
-use Rattle.table.proofs.Laws.{row-end}
+use Rattle.table.specs.Sizes.{Row, Has}
 use Rattle.rules.specs.Sets.{highest}
 use Rattle.rules.specs.Seen.{met, seenEntry, seenFrom, seen}
 use Rattle.seen.specs.Records.{recordsIn}
@@ -33,55 +28,43 @@ highest-none : (k : ℕ) (f : ℕ → Bool) → k ≡ 0 → highest k f ≡ 0
 unfolding highest
 highest-none k f e = rw e
 
-pub small-row : (n s c p : ℕ) (t : List ℕ) → Row n s c p t → p * s ≤ 448
-small-row n s c p t r =
-    let h : p ≤ 7 = omega (arith, r .owner, r .sizes .copies) in
-    omega (arith, mul-le-mul h (r .sizes .numbers))
+-- the test that was made is the definition's
+pub asked : (s : ℕ) (t : List ℕ) (o j : ℕ) (k : Command) (p left : ℕ) {a b : Bool} → a ≡ not (eqb p o && eqb left j)
+    → b ≡ (leb 1 (recordsIn s t p left .vote .status) && interfere k (recordsIn s t p left .vote .command))
+    → (a && b) ≡ met (recordsIn s t) o j k p left
+unfolding met
+asked s t o j k p left ea eb = rw (ea, eb) (assoc (not (eqb p o && eqb left j)) _ _)
+  where
+    assoc : (x y z : Bool) → (x && (y && z)) ≡ (x && y && z)
+    assoc true y z = refl
+    assoc false y z = refl
 
 module _ (n s c o j : ℕ) (k : Command) (p : ℕ) (t : List ℕ) where
-  -- the numbers up to `left` are still to be looked at, and their records end at `at`
-  pub record Left (left at : ℕ) : Type 0 where
+  -- the numbers up to `left` are still to be looked at
+  pub record Left (left : ℕ) : Type 0 where
     pub row : Row n s c p t
     pub so : highest s (met (recordsIn s t) o j k p) ≡ highest left (met (recordsIn s t) o j k p)
     pub few : left ≤ s
-    pub end : at ≡ 3 + 263 * (p * s + left)
 
-  pub start : Row n s c p t → Left s (3 + 263 * (p * s + s))
-  start r = record { row = r; so = refl; few = omega arith; end = refl }
+  pub start : Row n s c p t → Left s
+  start r = record { row = r; so = refl; few = omega arith }
 
-  pub bounds : (left at : ℕ) → Left left at → 0 < left → (263 ≤ at) × (at - 263 + 263 ≤ length t)
-  bounds left at l h =
-      let e = l .end in
-      let z = l .row .sizes .long in
-      let r = row-end n s p (l .row .owner) in
-      let f = l .few in
-      (omega arith, omega arith)
+  pub has : (left : ℕ) → Left left → 0 < left → Has n s p left t
+  has left l h =
+      let z = l .row .sizes in
+      record {
+        names = record { copies = z .copies; numbers = z .numbers; owner = l .row .owner; first = omega arith; last = l .few };
+        long = z .long;
+      }
 
-  -- the test that was made is the definition's
-  pub asked : (left at : ℕ) → Left left at → 0 < left → {a b : Bool} → a ≡ not (eqb p o && eqb left j)
-      → b ≡ (leb 1 (recordAt (partAt t (at - 263)) .vote .status) && interfere k (recordAt (partAt t (at - 263)) .vote .command))
-      → (a && b) ≡ met (recordsIn s t) o j k p left
-  unfolding met placeAt
-  asked left at l h {a} {b} ea eb =
-      let e = l .end in
-      let q : at - 263 ≡ 3 + 263 * (p * s + (left - 1)) = omega arith in
-      rw (ea, eb, q) (assoc (not (eqb p o && eqb left j)) _ _)
-    where
-      assoc : (x y z : Bool) → (x && (y && z)) ≡ (x && y && z)
-      assoc true y z = refl
-      assoc false y z = refl
+  pub here : (left : ℕ) → Left left → 0 < left → met (recordsIn s t) o j k p left ≡ true → left ≡ highest s (met (recordsIn s t) o j k p)
+  here left l h m = highest-here left (met (recordsIn s t) o j k p) h m ∙ sym (l .so)
 
-  pub here : (left at : ℕ) → Left left at → 0 < left → met (recordsIn s t) o j k p left ≡ true → left ≡ highest s (met (recordsIn s t) o j k p)
-  here left at l h m = highest-here left (met (recordsIn s t) o j k p) h m ∙ sym (l .so)
+  pub next : (left : ℕ) → Left left → 0 < left → met (recordsIn s t) o j k p left ≡ false → Left (left - 1)
+  next left l h m = record { row = l .row; so = l .so ∙ highest-below left (met (recordsIn s t) o j k p) h m; few = omega (arith, l .few) }
 
-  pub next : (left at : ℕ) → Left left at → 0 < left → met (recordsIn s t) o j k p left ≡ false → Left (left - 1) (at - 263)
-  next left at l h m =
-      let e = l .end in
-      record
-      { row = l .row; so = l .so ∙ highest-below left (met (recordsIn s t) o j k p) h m; few = omega (arith, l .few); end = omega arith }
-
-  pub none : (left at : ℕ) → Left left at → left ≡ 0 → 0 ≡ highest s (met (recordsIn s t) o j k p)
-  none left at l e = sym (l .so ∙ highest-none left (met (recordsIn s t) o j k p) e)
+  pub none : (left : ℕ) → Left left → left ≡ 0 → 0 ≡ highest s (met (recordsIn s t) o j k p)
+  none left l e = sym (l .so ∙ highest-none left (met (recordsIn s t) o j k p) e)
 
 -- an entry, and all seven
 module _ (n s : ℕ) (t : List ℕ) (o j : ℕ) (k : Command) where

@@ -5,27 +5,24 @@ use nouns::logic::both;
 use nouns::logic::equal;
 use nouns::logic::wide8;
 use paper::Command;
+use table::records::vote_of;
 ghost use mathlib.Core.Path.{_≡_};
 ghost use mathlib.Core.Bool.{_&&_, not};
-ghost use Prim.Native.Nat.{_+_, _*_, _≤_, _<_};
+ghost use Prim.Native.Nat.{_≤_, _<_};
 ghost use lib.Dec.{leb, eqb};
-ghost use lib.ListN.{length};
 ghost use Rattle.paper.specs.Command.{interfere};
-ghost use Rattle.record.specs.Layout.{recordAt};
-ghost use Rattle.table.specs.Place.{partAt};
-ghost use Rattle.table.specs.Sizes.{Sizes, Row};
+ghost use Rattle.table.specs.Sizes.{Sizes, Row, Has};
 ghost use Rattle.rules.specs.Seen.{met, seenEntry, seen};
 ghost use Rattle.rules.specs.Sets.{highest};
 ghost use Rattle.seen.specs.Records.{recordsIn};
 
-// The record at a place has status >= 1 and a command that interferes with k.
-fn meets(t: &[u8], at: usize, k: Command) -> bool
-    requires { ⌜ at + 263 ≤ length (now t) ⌝ }
+// p.i has status >= 1 and a command that interferes with k.
+fn meets(t: &[u8], n: usize, s: usize, p: usize, i: usize, k: Command) -> bool
+    requires { ⌜ Has n s p i (now t) ⌝ }
     ensures { λ r.
-        ⌜ r ≡ (leb 1 (recordAt (partAt (now (t .entry)) at) .vote .status) && interfere k (recordAt (partAt (now (t .entry)) at) .vote .command)) ⌝ }
+        ⌜ r ≡ (leb 1 (recordsIn s (now (t .entry)) p i .vote .status) && interfere k (recordsIn s (now (t .entry)) p i .vote .command)) ⌝ }
 {
-    let end = at + 263;
-    let v = codec::read_vote(&t[at..end], 4);
+    let v = vote_of(t, n, s, p, i);
     let command = v.command;
     both(at_most(1, wide8(v.status)), interferes(k, command))
 }
@@ -52,10 +49,8 @@ fn row_seen(
     ensures { λ r. ⌜ r ≤ s ⌝ }
 {
     let mut left = s;
-    let mut at = 3 + 263 * (p * s + s);
     while 0 < left {
-        at -= 263;
-        if both(another(o, j, p, left), meets(t, at, k)) {
+        if both(another(o, j, p, left), meets(t, n, s, p, left, k)) {
             return left;
         }
         left -= 1;

@@ -12,8 +12,7 @@ use lib.ListN.{length, getD, List·getD-eq-default}
 use Rattle.paper.specs.Deps.{sameDeps}
 use Rattle.paper.proofs.Laws.{allBelow-at}
 use Rattle.paper.specs.Fits.{DepsFit}
-use Rattle.record.specs.Layout.{recordAt}
-use Rattle.table.specs.Place.{placeOf, partAt}
+use Rattle.table.proofs.Round.{fits-in}
 use Rattle.seen.specs.Records.{recordsIn}
 use Rattle.reach.proofs.Tests.{tf, clash, eqb-eq, eqb-same}
 use Rattle.reach.proofs.Count.{one-if}
@@ -22,7 +21,7 @@ use Rattle.reach.proofs.Beginnings.{comers-own}
 use Rattle.rows.specs.Rows.{slotOf, rowOf, putRow, Within}
 use Rattle.rows.proofs.Laws.{row-seven, row-fits, put-long, put-own, put-other}
 use Rattle.sweep.specs.Sweeping.{Taking, beyondIn, marksOf, Opened, Closed, Wrote, Closing}
-use Rattle.sweep.proofs.Named.{wrote-same, wrote-on, deps-fits, deps-are, beyond-seven, beyond-few, beyond-old, beyond-held, beyond-comers}
+use Rattle.sweep.proofs.Named.{wrote-same, wrote-on, beyond-seven, beyond-few, beyond-old, beyond-held, beyond-comers}
 
 -- a sum of marks
 unfoldable pub sum : ℕ → (ℕ → ℕ) → ℕ
@@ -163,7 +162,7 @@ module _ (n s : ℕ) (t g h₀ : List ℕ) (p k : ℕ) (a : Closing n s t g h₀
     d = recordsIn s t p k .vote .deps
 
     first-own : rowOf (putRow h₀ x d) x ≡ d
-    first-own = put-own h₀ x d (close-place h₀ (a .long)) (deps-fits s t p k bt)
+    first-own = put-own h₀ x d (close-place h₀ (a .long)) (fits-in s t p k bt .vote .deps)
 
     pub first-opened : Opened n s (recordsIn s t) p k (rowOf (putRow h₀ x d) x)
     first-opened = rw first-own (record { few = λ o l. a .sized .fit p k (a .inst) o l; own = λ o. omega arith; comers = comers-own n s (recordsIn s t) p k (a .inst) })
@@ -172,8 +171,8 @@ module _ (n s : ℕ) (t g h₀ : List ℕ) (p k : ℕ) (a : Closing n s t g h₀
     first-wrote = record { long = put-long h₀ x d (close-place h₀ (a .long)); others = λ y l e. put-other h₀ x d (close-place h₀ (a .long)) y l e }
 
   -- as it was read and written
-  pub first-made : {y at : ℕ} {v h₁ : List ℕ} → y ≡ x → at ≡ placeOf s p k → v ≡ recordAt (partAt t at) .vote .deps → h₁ ≡ putRow h₀ y v → h₁ ≡ putRow h₀ x (recordsIn s t p k .vote .deps)
-  first-made ey ea ev eh = eh ∙ rw (deps-are s t p k ea ev, ey)
+  pub first-made : {y : ℕ} {v h₁ : List ℕ} → y ≡ x → v ≡ recordsIn s t p k .vote .deps → h₁ ≡ putRow h₀ y v → h₁ ≡ putRow h₀ x (recordsIn s t p k .vote .deps)
+  first-made ey ev eh = eh ∙ rw (ev, ey)
 
   pub close-next : (h₁ : List ℕ) → Wrote h₀ h₁ x → Closing n s t g h₁ p k
   close-next h₁ w = record { sized = a .sized; found = a .found; long = w .long; inst = a .inst }

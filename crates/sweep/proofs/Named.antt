@@ -7,15 +7,8 @@ use mathlib.Core.List.{List}
 use native.Mathlib.Omega.{arith}
 use lib.Dec.{leb, ltb}
 use lib.ListN.{length, getD}
-use Rattle.codec.specs.Parts.{depsAt, voteAt}
-use Rattle.codec.proofs.Laws.{depsAt-fits}
-use Rattle.paper.specs.Fits.{DepsFit}
 use Rattle.paper.specs.Deps.{noDeps, join}
-use Rattle.record.specs.Layout.{recordAt}
-use Rattle.table.specs.Place.{placeOf, partAt}
-use Rattle.table.proofs.Round.{part-bytes}
 use Rattle.rules.specs.Seen.{Records}
-use Rattle.seen.specs.Records.{recordsIn}
 use Rattle.rows.specs.Rows.{slotOf, rowOf, putRow, Within}
 use Rattle.rows.proofs.Laws.{row-seven, row-fits, put-long, put-own, put-other}
 use Rattle.reach.specs.High.{Inst, From}
@@ -37,18 +30,6 @@ take-made g h y x {r = r} w bg bh ea eb er eh =
     let e : r ≡ join (rowOf h x) (rowOf g y) = er ∙ rw (ea, eb) in
     let f = rw (← e) at (join-fits (rowOf h x) (rowOf g y) (row-fits h x bh) (row-fits g y bg)) in
     rw eh (put-own h x r w f ∙ e, record { long = put-long h x r w; others = λ z l d. put-other h x r w z l d })
-
--- entries of a table
-pub deps-seven : (s : ℕ) (t : List ℕ) (o j : ℕ) → length (recordsIn s t o j .vote .deps) ≡ 7
-unfolding recordAt voteAt
-deps-seven s t o j = refl
-
-pub deps-fits : (s : ℕ) (t : List ℕ) (o j : ℕ) → ((i : ℕ) → getD t i 0 < 256) → DepsFit (recordsIn s t o j .vote .deps)
-unfolding recordAt voteAt depsAt
-deps-fits s t o j b = depsAt-fits (partAt t (placeOf s o j)) 22 (part-bytes t (placeOf s o j) b)
-
-pub deps-are : (s : ℕ) (t : List ℕ) (o j : ℕ) {at : ℕ} {d : List ℕ} → at ≡ placeOf s o j → d ≡ recordAt (partAt t at) .vote .deps → d ≡ recordsIn s t o j .vote .deps
-deps-are s t o j ea ed = rw (ed, ea)
 
 -- named: the row is taken in; else nothing is
 named-in : (n : ℕ) (g : List ℕ) (q entry : ℕ) (row : List ℕ) → (ltb q n && leb 1 entry) ≡ true → join row (rowOf g (slotOf q entry)) ≡ withNamed n g q entry row

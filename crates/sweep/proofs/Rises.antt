@@ -9,8 +9,7 @@ use native.Mathlib.Decide.{ℕ-discrete, decLt}
 use lib.ListN.{length, getD}
 use Rattle.paper.specs.Deps.{noDeps, join}
 use Rattle.paper.specs.Fits.{DepsFit}
-use Rattle.record.specs.Layout.{recordAt}
-use Rattle.table.specs.Place.{placeOf, partAt}
+use Rattle.table.proofs.Round.{fits-in, deps-seven}
 use Rattle.rules.specs.Seen.{Records}
 use Rattle.seen.specs.Records.{recordsIn}
 use Rattle.reach.specs.High.{Inst, entryOf, Comes, From, Holds}
@@ -19,7 +18,7 @@ use Rattle.rows.specs.Rows.{slotOf, rowOf, putRow, Within}
 use Rattle.rows.proofs.Laws.{row-seven, row-fits, put-long, put-own, put-other}
 use Rattle.sweep.specs.Sweeping.{Sized, Taking, beyondIn, beforeIn, marksOf, Rows, Kept, Raised}
 use Rattle.paper.proofs.Deps.{none-at, none-fits, Larger, join-seven, join-at, join-fits}
-use Rattle.sweep.proofs.Named.{deps-seven, deps-fits, deps-are, beyond-seven, beyond-few, beyond-old, beyond-comers, before-first, before-later}
+use Rattle.sweep.proofs.Named.{beyond-seven, beyond-few, beyond-old, beyond-comers, before-first, before-later}
 
 -- a row is written and read back
 pub put-first : (h : List ℕ) (x : ℕ) (d : List ℕ) {h₁ : List ℕ} → Within h x → DepsFit d → h₁ ≡ putRow h x d → (rowOf h₁ x ≡ d) × Within h₁ x
@@ -97,11 +96,10 @@ module _ (n s : ℕ) (t g : List ℕ) (z : Sized n s t) (r : Rows n s (recordsIn
   shorter l = record { owner = io .owner; first = omega arith; last = omega (arith, io .last) }
 
   -- the entries in h, where what o.j reaches is worked out
-  pub raise-first : (h : List ℕ) → length h ≡ 6272 → ((i : ℕ) → getD t i 0 < 256) → {y at : ℕ} {d h₁ : List ℕ} → y ≡ x → at ≡ placeOf s o j → d ≡ recordAt (partAt t at) .vote .deps → h₁ ≡ putRow h y d
+  pub raise-first : (h : List ℕ) → length h ≡ 6272 → ((i : ℕ) → getD t i 0 < 256) → {y : ℕ} {d h₁ : List ℕ} → y ≡ x → d ≡ u o j .vote .deps → h₁ ≡ putRow h y d
       → (rowOf h₁ y ≡ u o j .vote .deps) × Within h₁ y
-  raise-first h l b {y = y} {d = d} ey ea ed eh =
-      let e : d ≡ u o j .vote .deps = deps-are s t o j ea ed in
-      let w = put-first h y d (record { long = l; place = rw ey (at-place .place) }) (rw e (deps-fits s t o j b)) eh in
+  raise-first h l b {y = y} {d = d} ey e eh =
+      let w = put-first h y d (record { long = l; place = rw ey (at-place .place) }) (rw e (fits-in s t o j b .vote .deps)) eh in
       (w .0 ∙ e, w .1)
 
   -- as it was read, with h₁ the list where what o.j reaches was worked out

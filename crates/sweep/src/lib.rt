@@ -8,8 +8,7 @@ use rows::mark_of;
 use rows::put_row;
 use rows::row_of;
 use rows::slot_of;
-use search::deps_at;
-use table::place_of;
+use table::records::deps_of;
 ghost use mathlib.Core.Path.{_≡_};
 ghost use Prim.Native.Nat.{_≤_, _<_};
 ghost use lib.ListN.{length};
@@ -72,7 +71,7 @@ fn raise(t: &[u8], n: usize, s: usize, g: &mut [u8], h: &mut [u8], o: usize, j: 
     ensures raised { λ _. ⌜ Raised n s (recordsIn s (now (t .entry))) (now (g .entry)) (now (g .exit)) o j ⌝ }
 {
     let x = slot_of(o, j);
-    put_row(&mut *h, x, deps_at(t, place_of(n, s, o, j)));
+    put_row(&mut *h, x, deps_of(t, n, s, o, j));
     beyond(n, s, &*g, &mut *h, x);
     let with_last = join_of(row_of(&*g, x), row_of(&*h, x));
     let row = join_of(with_last, before(&*g, o, j));
@@ -127,7 +126,7 @@ fn reach_one(t: &[u8], n: usize, s: usize, g: &[u8], h: &mut [u8], p: usize, k: 
     ensures closed { λ _. ⌜ Closed n s (recordsIn s (now (t .entry))) (now (g .entry)) p k (rowOf (now (h .exit)) (slotOf p k)) ⌝ }
     ensures wrote { λ _. ⌜ Wrote (now (h .entry)) (now (h .exit)) (slotOf p k) ⌝ }
 {
-    let d = deps_at(t, place_of(n, s, p, k));
+    let d = deps_of(t, n, s, p, k);
     put_row(&mut *h, slot_of(p, k), d);
     close(t, n, s, g, h, p, k);
 }

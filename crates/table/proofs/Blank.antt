@@ -6,9 +6,10 @@ use native.Mathlib.Omega.{arith}
 use lib.ListN.{length, replicate, drop, length-replicate}
 use Rattle.num.specs.Num.{bytesOf, splice}
 use Rattle.num.proofs.Laws.{splice-step}
-use Rattle.table.specs.Place.{tableLength}
+use Rattle.table.specs.Place.{headLength, tableLength}
 use Rattle.table.specs.Table.{blankTable}
 use Rattle.table.specs.Sizes.{Sizes}
+use Rattle.record.specs.Layout.{recordLength}
 
 abbrev zeros : ℕ → List ℕ
 zeros k = replicate k 0
@@ -28,6 +29,6 @@ head-written n s c t {z} {u} {v} {w} {a} {b} {d} h ez ea eu eb ev ed ew =
     let fa : a % 256 ≡ n = omega (arith, h .copies) in
     let fb : b % 256 ≡ s = omega (arith, h .numbers) in
     let fd : d % 256 ≡ c = omega (arith, h .copy, h .copies) in
-    let k : z ≡ replicate (3 + 263 * (n * s)) 0 = ez ∙ ap (λ (m : ℕ). replicate m 0) (h .long) in
-    let r : drop 3 z ≡ replicate (263 * (n * s)) 0 = ap (drop 3) k ∙ zeros-drop 3 (263 * (n * s)) in
+    let k : z ≡ replicate (headLength + recordLength * (n * s)) 0 = ez ∙ ap (λ (m : ℕ). replicate m 0) (h .long) in
+    let r : drop 3 z ≡ replicate (recordLength * (n * s)) 0 = ap (drop 3) k ∙ zeros-drop 3 (recordLength * (n * s)) in
     y ∙ rw (fa, fb, fd, r)

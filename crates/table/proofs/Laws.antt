@@ -13,9 +13,10 @@ use Rattle.num.specs.Num.{splice}
 use Rattle.paper.specs.Setup.{setupOk, copiesOk, numbersOk, copyOk}
 use Rattle.paper.specs.Instance.{instanceOk, ownerOk, numberOk}
 use Rattle.paper.proofs.Laws.{and-true}
-use Rattle.table.specs.Place.{tableLength, placeAt, placeOf}
+use Rattle.table.specs.Place.{headLength, tableLength, placeAt, placeOf}
 use Rattle.table.specs.Table.{fits}
-use Rattle.table.specs.Sizes.{Sizes, Names}
+use Rattle.table.specs.Sizes.{Sizes, Names, Has}
+use Rattle.record.specs.Layout.{recordLength}
 
 -- one of 3, 5 and 7
 copies-bound : (n : ℕ) → copiesOk n ≡ true → (1 ≤ n) × (n ≤ 7)
@@ -50,13 +51,18 @@ names n s c t o j h i =
     let q = and-true (leb 1 j) (leb j s) (p .1) in
     record { copies = z .copies; numbers = z .numbers; owner = ltb-true o n (p .0); first = leb-true 1 j (q .0); last = leb-true j s (q .1) }
 
+pub has : (n s c : ℕ) (t : List ℕ) (o j : ℕ) → (fits n s c t && instanceOk n s o j) ≡ true → Has n s o j t
+has n s c t o j h =
+    let p = and-true (fits n s c t) (instanceOk n s o j) h in
+    record { names = names n s c t o j (p .0) (p .1); long = sizes n s c t (p .0) .long }
+
 -- an owner's row ends within the table
-pub row-end : (n s o : ℕ) → o < n → 3 + 263 * (o * s + s) ≤ tableLength n s
+pub row-end : (n s o : ℕ) → o < n → headLength + recordLength * (o * s + s) ≤ tableLength n s
 row-end n s o h =
     let a : suc o * s ≤ n * s = mul-le-mul-right s h in
     omega (arith, suc-mul o s)
 
-pub place-end : (n s o j : ℕ) → Names n s o j → placeOf s o j + 263 ≤ tableLength n s
+pub place-end : (n s o j : ℕ) → Names n s o j → placeOf s o j + recordLength ≤ tableLength n s
 unfolding placeAt
 place-end n s o j h = omega (arith, row-end n s o (h .owner), h .first, h .last)
 

@@ -3,3 +3,5 @@ pub mod Walk
 pub mod Blank
 pub mod Round
 pub mod Unique
+pub mod Kept
+pub mod Mark

@@ -17,16 +17,19 @@ use Rattle.paper.specs.Sound.{soundRecord}
 use Rattle.paper.proofs.Laws.{and-true, allBelow-at}
 use Rattle.paper.specs.declared.Record.{Record}
 use Rattle.record.specs.Layout.{recordAt, recordBytes, votesBytes}
-use Rattle.record.specs.Part.{soundPart, opsFit}
+use Rattle.record.specs.Part.{Bytes, soundPart, opsFit}
 use Rattle.record.proofs.Laws.{length-frontBytes, length-votesBytes}
 use Rattle.record.proofs.Round.{recordAt-recordBytes, recordBytes-recordAt}
+use Rattle.record.proofs.Written as written
+use Rattle.record.proofs.Written.{recordAt-fits}
 use Rattle.paper.specs.Fits.{RecordFits}
 use Rattle.table.specs.Place.{tableLength, placeAt, placeOf, partAt}
-use Rattle.table.specs.Table.{headOk, soundRow, soundTable, recordIn, putRecord}
+use Rattle.table.specs.Table.{headOk, soundRow, soundTable, recordIn, putRecord, Whole, Kept}
 use Rattle.table.specs.Sizes.{Names}
-use Rattle.table.proofs.Laws.{place-end}
+use Rattle.table.proofs.Laws.{sizes, place-end}
+use Rattle.record.specs.Layout.{recordLength}
 
-pub length-recordBytes : (r : Record) → length (r .replies) ≡ 7 → length (recordBytes r) ≡ 263
+pub length-recordBytes : (r : Record) → length (r .replies) ≡ 7 → length (recordBytes r) ≡ recordLength
 unfolding recordBytes
 length-recordBytes r h =
     let m : length (votesBytes (r .replies)) ≡ 224 = length-votesBytes (r .replies) ∙ ap (λ (k : ℕ). 32 * k) h in
@@ -41,7 +44,7 @@ le-or-gt a b = go (leb a b) refl
 
 -- two instances stand apart
 pub place-apart : (n s o j p k : ℕ) → Names n s o j → Names n s p k → ((o ≡ p) × (j ≡ k) → ⊥)
-    → (placeOf s o j + 263 ≤ placeOf s p k) ⊎ (placeOf s p k + 263 ≤ placeOf s o j)
+    → (placeOf s o j + recordLength ≤ placeOf s p k) ⊎ (placeOf s p k + recordLength ≤ placeOf s o j)
 unfolding placeAt
 place-apart n s o j p k a b ne =
     ⊎-elim
@@ -59,7 +62,7 @@ place-apart n s o j p k a b ne =
     (le-or-gt o p)
 
 part-of-after : (t : List ℕ) (a : ℕ) (v : List ℕ) (b : ℕ) → a + length v ≤ b → b ≤ length t → partAt (splice t a v) b ≡ partAt t b
-part-of-after t a v b h l = ap (take 263) (splice-after t a v b h l)
+part-of-after t a v b h l = ap (take recordLength) (splice-after t a v b h l)
 
 -- a table long enough for the setup, an instance, and a record to put there
 module _ (n s : ℕ) (t : List ℕ) (long : length t ≡ tableLength n s) (o j : ℕ) (a : Names n s o j) (r : Record) (seven : length (r .replies) ≡ 7) where
@@ -67,33 +70,40 @@ module _ (n s : ℕ) (t : List ℕ) (long : length t ≡ tableLength n s) (o j :
   fit = omega (arith, place-end n s o j a, length-recordBytes r seven)
 
   pub put-long : length (putRecord s t o j r) ≡ length t
+  unfolding putRecord
   put-long = length-splice t (placeOf s o j) (recordBytes r) fit
+
+  pub put-own : partAt (putRecord s t o j r) (placeOf s o j) ≡ recordBytes r
+  unfolding putRecord
+  put-own = splice-same t (placeOf s o j) (recordBytes r) recordLength (length-recordBytes r seven) (omega (arith, place-end n s o j a))
 
   -- reading back what was written
   pub get-put : RecordFits r → recordIn s (putRecord s t o j r) o j ≡ r
-  get-put f =
-      ap recordAt (splice-same t (placeOf s o j) (recordBytes r) 263 (length-recordBytes r seven) (omega (arith, place-end n s o j a)))
-      ∙ recordAt-recordBytes r f
+  unfolding recordIn
+  get-put f = ap recordAt put-own ∙ recordAt-recordBytes r f
 
   -- another record's part stays
   pub put-part : (p k : ℕ) → Names n s p k → ((o ≡ p) × (j ≡ k) → ⊥) → partAt (putRecord s t o j r) (placeOf s p k) ≡ partAt t (placeOf s p k)
+  unfolding putRecord
   put-part p k b ne =
       ⊎-elim
-      (λ (h : placeOf s o j + 263 ≤ placeOf s p k). part-of-after t (placeOf s o j) (recordBytes r) (placeOf s p k) (omega (arith, length-recordBytes r seven)) (omega (arith, place-end n s p k b)))
-      (λ (h : placeOf s p k + 263 ≤ placeOf s o j). splice-before t (placeOf s o j) (recordBytes r) (placeOf s p k) 263 h fit)
+      (λ (h : placeOf s o j + recordLength ≤ placeOf s p k). part-of-after t (placeOf s o j) (recordBytes r) (placeOf s p k) (omega (arith, length-recordBytes r seven)) (omega (arith, place-end n s p k b)))
+      (λ (h : placeOf s p k + recordLength ≤ placeOf s o j). splice-before t (placeOf s o j) (recordBytes r) (placeOf s p k) recordLength h fit)
       (place-apart n s o j p k a b ne)
 
   pub get-put-other : (p k : ℕ) → Names n s p k → ((o ≡ p) × (j ≡ k) → ⊥) → recordIn s (putRecord s t o j r) p k ≡ recordIn s t p k
+  unfolding recordIn
   get-put-other p k b ne = ap recordAt (put-part p k b ne)
 
   -- each byte outside the record's part stays
-  pub put-frame : (i : ℕ) → (i < placeOf s o j) ⊎ (placeOf s o j + 263 ≤ i) → i < length t → getD (putRecord s t o j r) i 0 ≡ getD t i 0
+  pub put-frame : (i : ℕ) → (i < placeOf s o j) ⊎ (placeOf s o j + recordLength ≤ i) → i < length t → getD (putRecord s t o j r) i 0 ≡ getD t i 0
+  unfolding putRecord
   put-frame i h l =
       ⊎-elim
       (λ (b : i < placeOf s o j).
       let e = splice-before t (placeOf s o j) (recordBytes r) i 1 (omega arith) fit in
       at-of i 0 (putRecord s t o j r) t e)
-      (λ (b : placeOf s o j + 263 ≤ i).
+      (λ (b : placeOf s o j + recordLength ≤ i).
       let e = splice-after t (placeOf s o j) (recordBytes r) i (omega (arith, length-recordBytes r seven)) (omega arith) in
       at-of i 0 (putRecord s t o j r) t (ap (take 1) e))
       h
@@ -122,19 +132,42 @@ getD-past [] i h = refl
 getD-past (x ∷ l) zero h = absurd (omega arith)
 getD-past (x ∷ l) (suc i) h = getD-past l i (omega arith)
 
-pub part-bytes : (t : List ℕ) (at : ℕ) → ((i : ℕ) → getD t i 0 < 256) → (i : ℕ) → getD (partAt t at) i 0 < 256
+pub part-bytes : (t : List ℕ) (at : ℕ) → Bytes t → Bytes (partAt t at)
 part-bytes t at b i =
     ⊎-elim
-    (λ (h : 263 ≤ i). rw (getD-past (partAt t at) i (simp length-take (omega arith))) (omega arith))
-    (λ (h : i < 263). rw (getD-take 263 (drop at t) i 0 h, getD-drop at t i 0) (b (at + i)))
-    (le-or-gt 263 i)
+    (λ (h : recordLength ≤ i). rw (getD-past (partAt t at) i (simp length-take (omega arith))) (omega arith))
+    (λ (h : i < recordLength). rw (getD-take recordLength (drop at t) i 0 h, getD-drop at t i 0) (b (at + i)))
+    (le-or-gt recordLength i)
 
--- writing back what was read from a sound table
-pub put-get : (n s c : ℕ) (t : List ℕ) → ((i : ℕ) → getD t i 0 < 256) → length t ≡ tableLength n s → soundTable n s c t ≡ true → (o j : ℕ) → Names n s o j
-    → putRecord s t o j (recordIn s t o j) ≡ t
-put-get n s c t byte long h o j a =
+-- a record as read: it fits its fields
+pub fits-in : (s : ℕ) (t : List ℕ) (o j : ℕ) → Bytes t → RecordFits (recordIn s t o j)
+unfolding recordIn
+fits-in s t o j b = recordAt-fits (partAt t (placeOf s o j)) (part-bytes t (placeOf s o j) b)
+
+pub replies-seven : (s : ℕ) (t : List ℕ) (o j : ℕ) → length (recordIn s t o j .replies) ≡ 7
+unfolding recordIn
+replies-seven s t o j = written.replies-seven (partAt t (placeOf s o j))
+
+pub deps-seven : (s : ℕ) (t : List ℕ) (o j : ℕ) → length (recordIn s t o j .vote .deps) ≡ 7
+unfolding recordIn
+deps-seven s t o j = written.deps-seven (partAt t (placeOf s o j))
+
+-- a record of a sound table is sound
+pub record-sound : (n s c : ℕ) (t : List ℕ) → soundTable n s c t ≡ true → (o j : ℕ) → Names n s o j → soundRecord n s c o (recordIn s t o j) ≡ true
+unfolding soundPart recordIn
+record-sound n s c t h o j a =
+    and-true (opsFit (partAt t (placeOf s o j))) (soundRecord n s c o (recordAt (partAt t (placeOf s o j)))) (sound-at n s c t h o j a) .1
+
+-- and is written back as its bytes
+pub record-whole : (n s c : ℕ) (t : List ℕ) → Kept n s c t → (o j : ℕ) → Names n s o j → Whole s t o j
+unfolding Whole recordIn
+record-whole n s c t k o j a =
     let p : List ℕ = partAt t (placeOf s o j) in
-    let l : length p ≡ 263 = simp (length-take, length-drop) (omega (arith, place-end n s o j a)) in
-    let b : (i : ℕ) → getD p i 0 < 256 = part-bytes t (placeOf s o j) byte in
-    let e : recordBytes (recordAt p) ≡ p = recordBytes-recordAt p b l (ops-fit n s c o p (sound-at n s c t h o j a)) in
-    ap (λ (v : List ℕ). splice t (placeOf s o j) v) e ∙ splice-own t (placeOf s o j) 263 (omega (arith, place-end n s o j a))
+    let l : length p ≡ recordLength = simp (length-take, length-drop) (omega (arith, place-end n s o j a, sizes n s c t (k .setup) .long)) in
+    recordBytes-recordAt p (part-bytes t (placeOf s o j) (k .bytes)) l (ops-fit n s c o p (sound-at n s c t (k .sound) o j a))
+
+-- writing back what was read
+pub put-get : (n s : ℕ) (t : List ℕ) → length t ≡ tableLength n s → (o j : ℕ) → Names n s o j → Whole s t o j → putRecord s t o j (recordIn s t o j) ≡ t
+unfolding putRecord Whole recordIn
+put-get n s t long o j a w =
+    ap (λ (v : List ℕ). splice t (placeOf s o j) v) w ∙ splice-own t (placeOf s o j) recordLength (omega (arith, place-end n s o j a))

@@ -9,10 +9,11 @@ use Rattle.paper.specs.Logic.{allBelow}
 use Rattle.record.specs.Part.{idleOk, soundPart}
 use Rattle.record.proofs.Laws.{allBelow-step, allBelow-none}
 use Rattle.record.proofs.Quick.{idle-sound}
-use Rattle.table.specs.Place.{tableLength, placeAt, placeOf, partAt}
+use Rattle.table.specs.Place.{headLength, tableLength, placeAt, placeOf, partAt}
 use Rattle.table.specs.Table.{pastIdle, soundRow}
 use Rattle.table.specs.Sizes.{Row, Names}
 use Rattle.table.proofs.Laws.{row-end}
+use Rattle.record.specs.Layout.{recordLength}
 
 -- the whole is what is left, for any test of each number below a bound
 pub left-true : (f : ℕ → Bool) (left : ℕ) {x : Bool} → x ≡ allBelow left f → 0 < left → f (left - 1) ≡ true → x ≡ allBelow (left - 1) f
@@ -57,12 +58,12 @@ pub record PastLeft (n s o k : ℕ) (t : List ℕ) (left at : ℕ) : Type 0 wher
   pub end : at ≡ placeAt s o left
 
 module _ (n s o k : ℕ) (t : List ℕ) where
-  pub past-start : Names n s o k → length t ≡ tableLength n s → {p : ℕ} → p ≡ placeOf s o k → PastLeft n s o k t k (p + 263)
+  pub past-start : Names n s o k → length t ≡ tableLength n s → {p : ℕ} → p ≡ placeOf s o k → PastLeft n s o k t k (p + recordLength)
   unfolding placeAt
   past-start h l e = let f = h .first in record { names = h; long = l; so = refl; few = omega arith; end = omega arith }
 
   -- the bounds that the walk needs
-  pub past-bounds : (left at : ℕ) → PastLeft n s o k t left at → 0 < left → (263 ≤ at) × (at ≤ length t) × (at - (at - 263) ≡ 263)
+  pub past-bounds : (left at : ℕ) → PastLeft n s o k t left at → 0 < left → (recordLength ≤ at) × (at ≤ length t) × (at - (at - recordLength) ≡ recordLength)
   unfolding placeAt
   past-bounds left at j h =
       let e = j .end in
@@ -73,28 +74,28 @@ module _ (n s o k : ℕ) (t : List ℕ) where
       (omega arith, omega arith, omega arith)
 
   -- the part that was looked at is the record's
-  past-part : (left at : ℕ) → PastLeft n s o k t left at → 0 < left → take (at - (at - 263)) (drop (at - 263) t) ≡ partAt t (placeAt s o (left - 1))
+  past-part : (left at : ℕ) → PastLeft n s o k t left at → 0 < left → take (at - (at - recordLength)) (drop (at - recordLength) t) ≡ partAt t (placeAt s o (left - 1))
   unfolding placeAt
   past-part left at j h =
       let e = j .end in
       let b = past-bounds left at j h .2 in
-      let p : at - 263 ≡ 3 + 263 * (o * s + (left - 1)) = omega arith in
-      ap (λ (k : ℕ). take k (drop (at - 263) t)) b ∙ ap (λ (k : ℕ). take 263 (drop k t)) p
+      let p : at - recordLength ≡ headLength + recordLength * (o * s + (left - 1)) = omega arith in
+      ap (λ (k : ℕ). take k (drop (at - recordLength) t)) b ∙ ap (λ (k : ℕ). take recordLength (drop k t)) p
 
   step : (left : ℕ) → 0 < left → pastIdle n s t o left ≡ cond (idleOk n s (partAt t (placeAt s o (left - 1)))) (pastIdle n s t o (left - 1)) left
   unfolding pastIdle
   step zero h = absurd (omega arith)
   step (suc i) h = let e : suc i - 1 ≡ i = omega arith in rw e
 
-  pub past-next : (left at : ℕ) → PastLeft n s o k t left at → 0 < left → idleOk n s (take (at - (at - 263)) (drop (at - 263) t)) ≡ true
-      → PastLeft n s o k t (left - 1) (at - 263)
+  pub past-next : (left at : ℕ) → PastLeft n s o k t left at → 0 < left → idleOk n s (take (at - (at - recordLength)) (drop (at - recordLength) t)) ≡ true
+      → PastLeft n s o k t (left - 1) (at - recordLength)
   unfolding placeAt
   past-next left at j h p =
       let q : idleOk n s (partAt t (placeAt s o (left - 1))) ≡ true = sym (ap (idleOk n s) (past-part left at j h)) ∙ p in
       let e = j .end in
       record { names = j .names; long = j .long; so = j .so ∙ step left h ∙ rw q; few = omega (arith, j .few); end = omega arith }
 
-  pub past-stop : (left at : ℕ) → PastLeft n s o k t left at → 0 < left → idleOk n s (take (at - (at - 263)) (drop (at - 263) t)) ≡ false
+  pub past-stop : (left at : ℕ) → PastLeft n s o k t left at → 0 < left → idleOk n s (take (at - (at - recordLength)) (drop (at - recordLength) t)) ≡ false
       → left ≡ pastIdle n s t o k
   past-stop left at j h p =
       let q : idleOk n s (partAt t (placeAt s o (left - 1))) ≡ false = sym (ap (idleOk n s) (past-part left at j h)) ∙ p in

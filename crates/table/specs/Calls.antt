@@ -2,14 +2,17 @@
 use Prim.Native.Nat.{ℕ}
 use mathlib.Core.Bool.{_&&_, not, cond}
 use mathlib.Core.List.{List, []}
+use Rattle.num.specs.Num.{splice}
+use Rattle.paper.specs.Setup.{setupOk}
 use Rattle.paper.specs.Instance.{instanceOk}
 use Rattle.paper.specs.Refusal.{numberOf}
 use Rattle.paper.specs.declared.Refusal.the-variants.{Setup, Unsound}
+use Rattle.record.specs.Layout.{recordLength}
 use Rattle.table.specs.declared.Blanking.{Blanking}
 use Rattle.table.specs.declared.Blanking.the-variants as blanking
 use Rattle.table.specs.declared.Judging.{Judging}
 use Rattle.table.specs.declared.Judging.the-variants as judging
-use Rattle.table.specs.Place.{placeOf, partAt}
+use Rattle.table.specs.Place.{tableLength, placeOf, partAt}
 use Rattle.table.specs.Table.{fits, soundTable, blankTable}
 
 -- refusal 1 only, and nothing is written then
@@ -27,6 +30,21 @@ judged n s c t =
 -- the part of the table that holds the record of o.j, for saving; empty for a bad instance or where 1 would be refused
 unfoldable pub partOf : ℕ → ℕ → ℕ → List ℕ → ℕ → ℕ → List ℕ
 partOf n s c t o j = cond (fits n s c t && instanceOk n s o j) (partAt t (placeOf s o j)) []
+
+-- where it starts and how long it is; both 0 where it is empty
+unfoldable pub partStart : ℕ → ℕ → ℕ → List ℕ → ℕ → ℕ → ℕ
+partStart n s c t o j = cond (fits n s c t && instanceOk n s o j) (placeOf s o j) 0
+
+unfoldable pub partLength : ℕ → ℕ → ℕ → List ℕ → ℕ → ℕ → ℕ
+partLength n s c t o j = cond (fits n s c t && instanceOk n s o j) recordLength 0
+
+-- how long a table of a setup is; 0 of a bad one
+unfoldable pub lengthOf : ℕ → ℕ → ℕ
+lengthOf n s = cond (setupOk n s 0) (tableLength n s) 0
+
+-- a saved table once the part of o.j, as it stands in the table t, is saved whole
+unfoldable pub savedPart : ℕ → ℕ → ℕ → List ℕ → List ℕ → ℕ → ℕ → List ℕ
+savedPart n s c disk t o j = splice disk (partStart n s c t o j) (partOf n s c t o j)
 
 -- the paper's number of an answer, 0 for none
 abbrev pub blankingNumber : Blanking → ℕ

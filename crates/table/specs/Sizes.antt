@@ -24,3 +24,8 @@ pub record Names (n s o j : ℕ) : Type 0 where
   pub owner : o < n
   pub first : 1 ≤ j
   pub last : j ≤ s
+
+-- and a table long enough for it
+pub record Has (n s o j : ℕ) (t : List ℕ) : Type 0 where
+  pub names : Names n s o j
+  pub long : length t ≡ tableLength n s

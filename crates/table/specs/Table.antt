@@ -1,6 +1,7 @@
 -- "The record of one instance": the table, blank and sound. Assumes nothing.
-use Prim.Native.Nat.{ℕ, zero, suc, _+_, _*_}
-use mathlib.Core.Bool.{Bool, _&&_, cond}
+use Prim.Native.Nat.{ℕ, zero, suc, _*_}
+use mathlib.Core.Path.{_≡_}
+use mathlib.Core.Bool.{Bool, true, _&&_, cond}
 use mathlib.Core.List.{List, [], _∷_, _++_}
 use lib.Dec.{eqb}
 use lib.ListN.{length, replicate}
@@ -8,8 +9,8 @@ use Rattle.num.specs.Num.{numAt, splice}
 use Rattle.paper.specs.Logic.{allBelow}
 use Rattle.paper.specs.Setup.{setupOk}
 use Rattle.paper.specs.declared.Record.{Record}
-use Rattle.record.specs.Layout.{recordAt, recordBytes}
-use Rattle.record.specs.Part.{idleOk, soundPart}
+use Rattle.record.specs.Layout.{recordLength, recordAt, recordBytes}
+use Rattle.record.specs.Part.{Bytes, idleOk, soundPart}
 use Rattle.table.specs.Place.{tableLength, placeAt, placeOf, partAt}
 
 -- what refusal 1 asks
@@ -34,11 +35,21 @@ soundTable n s c t = headOk n s c t && allBelow n (soundRow n s c t)
 
 -- the head and blank records
 unfoldable pub blankTable : ℕ → ℕ → ℕ → List ℕ
-blankTable n s c = (n ∷ s ∷ c ∷ []) ++ replicate (263 * (n * s)) 0
+blankTable n s c = (n ∷ s ∷ c ∷ []) ++ replicate (recordLength * (n * s)) 0
 
 -- one record in and out
-abbrev pub recordIn : ℕ → List ℕ → ℕ → ℕ → Record
+unfoldable pub recordIn : ℕ → List ℕ → ℕ → ℕ → Record
 recordIn s t o j = recordAt (partAt t (placeOf s o j))
 
-abbrev pub putRecord : ℕ → List ℕ → ℕ → ℕ → Record → List ℕ
+unfoldable pub putRecord : ℕ → List ℕ → ℕ → ℕ → Record → List ℕ
 putRecord s t o j r = splice t (placeOf s o j) (recordBytes r)
+
+-- what is read of o.j is written as its bytes, as of every record of a sound table
+unfoldable pub Whole : ℕ → List ℕ → ℕ → ℕ → Type 0
+Whole s t o j = recordBytes (recordIn s t o j) ≡ partAt t (placeOf s o j)
+
+-- a table that neither 1 nor 11 refuses
+pub record Kept (n s c : ℕ) (t : List ℕ) : Type 0 where
+  pub bytes : Bytes t
+  pub setup : fits n s c t ≡ true
+  pub sound : soundTable n s c t ≡ true

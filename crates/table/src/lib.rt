@@ -4,19 +4,34 @@ use nouns::logic::equal;
 use nouns::logic::wide8;
 use nouns::setup::instance_ok;
 use nouns::setup::setup_ok;
-use paper::Record;
 use paper::Refusal;
+use record::places::LENGTH;
 ghost use mathlib.Core.Path.{_≡_};
+ghost use mathlib.Core.Bool.{_&&_};
 ghost use Prim.Native.Nat.{_+_, _*_, _≤_, _<_};
 ghost use lib.ListN.{length, replicate};
-ghost use Rattle.num.specs.Num.{splice};
+ghost use Rattle.paper.specs.Instance.{instanceOk};
 ghost use Rattle.paper.specs.Logic.{allBelow};
-ghost use Rattle.record.specs.Layout.{recordAt, recordBytes};
+ghost use Rattle.record.specs.Layout.{recordLength};
 ghost use Rattle.record.specs.Part.{soundPart};
-ghost use Rattle.table.specs.Place.{tableLength, placeOf, partAt};
+ghost use Rattle.table.specs.Place.{headLength, tableLength, placeOf, partAt};
 ghost use Rattle.table.specs.Table.{fits, headOk, pastIdle, soundRow, soundTable, blankTable};
-ghost use Rattle.table.specs.Calls.{blanked, blankedTable, judged, partOf};
-ghost use Rattle.table.specs.Sizes.{Sizes, Row, Names};
+ghost use Rattle.table.specs.Calls.{blanked, blankedTable, judged, partOf, partStart, partLength, lengthOf};
+ghost use Rattle.table.specs.Sizes.{Sizes, Row, Names, Has};
+
+pub mod records;
+
+// The head: N, S and the copy's number, a byte each.
+const COPIES: usize = 0;
+
+const NUMBERS: usize = COPIES + 1;
+
+const COPY: usize = NUMBERS + 1;
+
+pub const HEAD: usize = COPY + 1;
+
+// A table of seven copies and 64 numbers.
+pub const LONGEST: usize = HEAD + LENGTH * (7 * 64);
 
 pub enum Blanking {
     Blank,
@@ -39,7 +54,17 @@ fn table_length(n: usize, s: usize) -> usize
     requires { ⌜ (n ≤ 7) × (s ≤ 64) ⌝ }
     ensures { λ r. ⌜ r ≡ tableLength n s ⌝ }
 {
-    3 + 263 * times(n, s)
+    HEAD + LENGTH * times(n, s)
+}
+
+// How long a table of the setup is; 0 of a bad setup.
+pub fn length_of(n: usize, s: usize) -> usize
+    ensures { λ r. ⌜ r ≡ lengthOf n s ⌝ }
+{
+    if !setup_ok(n, s, 0) {
+        return 0;
+    }
+    table_length(n, s)
 }
 
 // What refusal 1 asks.
@@ -53,38 +78,31 @@ pub fn fits_setup(t: &[u8], n: usize, s: usize, c: usize) -> bool
 }
 
 // Where the record of o.j starts.
-pub fn place_of(n: usize, s: usize, o: usize, j: usize) -> usize
+fn place_of(n: usize, s: usize, o: usize, j: usize) -> usize
     requires { ⌜ Names n s o j ⌝ }
-    ensures { λ r. ⌜ (r ≡ placeOf s o j) × (r + 263 ≤ tableLength n s) ⌝ }
+    ensures { λ r. ⌜ (r ≡ placeOf s o j) × (r + recordLength ≤ tableLength n s) ⌝ }
 {
-    3 + 263 * (times(o, s) + (j - 1))
+    HEAD + LENGTH * (times(o, s) + (j - 1))
 }
 
-// One record is read from its part of the table.
-pub fn load(t: &[u8], at: usize) -> Record
-    requires { ⌜ at + 263 ≤ length (now t) ⌝ }
-    ensures { λ r. ⌜ r ≡ recordAt (partAt (now (t .entry)) at) ⌝ }
+// The part of the table that the record of o.j takes.
+fn part(t: &[u8], n: usize, s: usize, o: usize, j: usize) -> &[u8]
+    requires { ⌜ Has n s o j (now t) ⌝ }
+    ensures part { λ r. ⌜ now r ≡ partAt (now (t .entry)) (placeOf s o j) ⌝ }
+    ensures long { λ r. ⌜ length (now r) ≡ recordLength ⌝ }
 {
-    let end = at + 263;
-    record::read_record(&t[at..end])
-}
-
-// The record's bytes, from the middle of the table, are lent on to the record writer; no other byte changes.
-pub fn store(t: &mut [u8], at: usize, r: Record)
-    requires { ⌜ at + 263 ≤ length (now t) ⌝ }
-    ensures { λ _. ⌜ now (t .exit) ≡ splice (now (t .entry)) at (recordBytes r) ⌝ }
-{
-    let next = at + 263;
-    record::write_record(&mut t[at..next], r);
+    let at = place_of(n, s, o, j);
+    let end = at + LENGTH;
+    &t[at..end]
 }
 
 fn head_ok(t: &[u8], n: usize, s: usize, c: usize) -> bool
-    requires { ⌜ 3 ≤ length (now t) ⌝ }
+    requires { ⌜ headLength ≤ length (now t) ⌝ }
     ensures { λ r. ⌜ r ≡ headOk n s c (now (t .entry)) ⌝ }
 {
-    let copies = equal(wide8(num::get_u8(t, 0)), n);
-    let numbers = equal(wide8(num::get_u8(t, 1)), s);
-    both(both(copies, numbers), equal(wide8(num::get_u8(t, 2)), c))
+    let copies = equal(wide8(num::get_u8(t, COPIES)), n);
+    let numbers = equal(wide8(num::get_u8(t, NUMBERS)), s);
+    both(both(copies, numbers), equal(wide8(num::get_u8(t, COPY)), c))
 }
 
 // What is left of the first k records of owner o's row when those at their end that are idle and right are passed over:
@@ -94,10 +112,10 @@ fn past_idle(t: &[u8], n: usize, s: usize, o: usize, k: usize) -> usize
     ensures { λ r. ⌜ r ≡ pastIdle n s (now (t .entry)) o k ⌝ }
 {
     let mut left = k;
-    let mut at = place_of(n, s, o, k) + 263;
+    let mut at = place_of(n, s, o, k) + LENGTH;
     while 0 < left {
         let end = at;
-        at -= 263;
+        at -= LENGTH;
         if !record::idle_ok(&t[at..end], n, s) {
             return left;
         }
@@ -110,9 +128,7 @@ fn record_sound(t: &[u8], n: usize, s: usize, c: usize, o: usize, j: usize) -> b
     requires { ⌜ Sizes n s c (now t) × Names n s o j ⌝ }
     ensures { λ r. ⌜ r ≡ soundPart n s c o (partAt (now (t .entry)) (placeOf s o j)) ⌝ }
 {
-    let at = place_of(n, s, o, j);
-    let end = at + 263;
-    record::sound_part(&t[at..end], n, s, c, o)
+    record::sound_part(part(t, n, s, o, j), n, s, c, o)
 }
 
 // Every record of owner o's row is sound; the row is walked from its end.
@@ -192,9 +208,9 @@ fn put_blank(t: &mut [u8], n: usize, s: usize, c: usize)
     ensures { λ _. ⌜ now (t .exit) ≡ blankTable n s c ⌝ }
 {
     clear(&mut *t);
-    num::put_u8(&mut *t, 0, small(n));
-    num::put_u8(&mut *t, 1, small(s));
-    num::put_u8(&mut *t, 2, small(c));
+    num::put_u8(&mut *t, COPIES, small(n));
+    num::put_u8(&mut *t, NUMBERS, small(s));
+    num::put_u8(&mut *t, COPY, small(c));
 }
 
 // Writes a blank table.
@@ -209,17 +225,38 @@ pub fn blank_table(t: &mut [u8], n: usize, s: usize, c: usize) -> Blanking
     Blanking::Blank
 }
 
+fn has_part(t: &[u8], n: usize, s: usize, c: usize, o: usize, j: usize) -> bool
+    ensures { λ r. ⌜ r ≡ (fits n s c (now (t .entry)) && instanceOk n s o j) ⌝ }
+{
+    both(fits_setup(t, n, s, c), instance_ok(n, s, o, j))
+}
+
 // The part of the table that holds the record of o.j, for saving; empty for a bad instance or where 1 would be refused.
 pub fn record_part(t: &[u8], n: usize, s: usize, c: usize, o: usize, j: usize) -> &[u8]
     ensures { λ r. ⌜ now r ≡ partOf n s c (now (t .entry)) o j ⌝ }
 {
-    if !fits_setup(t, n, s, c) {
+    if !has_part(t, n, s, c, o, j) {
         return &t[..0];
     }
-    if !instance_ok(n, s, o, j) {
-        return &t[..0];
+    part(t, n, s, o, j)
+}
+
+// Where that part starts; 0 where it is empty.
+pub fn part_start(t: &[u8], n: usize, s: usize, c: usize, o: usize, j: usize) -> usize
+    ensures { λ r. ⌜ r ≡ partStart n s c (now (t .entry)) o j ⌝ }
+{
+    if !has_part(t, n, s, c, o, j) {
+        return 0;
     }
-    let at = place_of(n, s, o, j);
-    let after = at + 263;
-    &t[at..after]
+    place_of(n, s, o, j)
+}
+
+// How long it is.
+pub fn part_length(t: &[u8], n: usize, s: usize, c: usize, o: usize, j: usize) -> usize
+    ensures { λ r. ⌜ r ≡ partLength n s c (now (t .entry)) o j ⌝ }
+{
+    if !has_part(t, n, s, c, o, j) {
+        return 0;
+    }
+    LENGTH
 }

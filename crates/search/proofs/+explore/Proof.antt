@@ -6,8 +6,7 @@ use Rattle.search.proofs.explore.Kinds as explore-kinds
 use Rattle.search.proofs.+explore.Lts-explore as explore-lts
 use Rattle.nouns.proofs.logic.wide16.Reads as wide16-reads
 use Rattle.nouns.proofs.logic.wide8.Reads as wide8-reads
-use Rattle.search.proofs.deps_at.Reads as deps-at-reads
-use Rattle.table.proofs.place_of.Reads as place-of-reads
+use Rattle.table.proofs.records.deps_of.Reads as deps-of-reads
 use Rattle.search.proofs.+explore.{statement}
 use Rattle.search.proofs.+explore.Tie.{close}
 use borrow.Author.Needs.{needs}
@@ -34,11 +33,9 @@ explore-Inv-loop t n s p k m₀ deps q₀ m q = Explored n s (recordsIn s t) p k
 abbrev explore-μ-loop : explore-lts.MeasureT-loop
 explore-μ-loop t n s p k m₀ deps q₀ m q = unvisited n s m + (n - q)
 
-explore-place-of-requires : (t : ℕ) → explore-lts.Need-place-of-requires (
-  place-of-reads.Asked,
-  place-of-reads.Learnt,
-  deps-at-reads.Asked,
-  deps-at-reads.Learnt,
+explore-deps-of-requires : (t : ℕ) → explore-lts.Need-deps-of-requires (
+  deps-of-reads.Asked,
+  deps-of-reads.Learnt,
   wide8-reads.Asked,
   wide8-reads.Learnt,
   wide16-reads.Asked,
@@ -46,27 +43,11 @@ explore-place-of-requires : (t : ℕ) → explore-lts.Need-place-of-requires (
   explore-below t,
   explore.Post,
 ) (explore-at t) explore.Post explore-Inv-loop explore-μ-loop
-explore-place-of-requires t c κs = c .before .before .pre .1 .names
-
-explore-deps-at-requires : (t : ℕ) → explore-lts.Need-deps-at-requires (
-  place-of-reads.Asked,
-  place-of-reads.Learnt,
-  deps-at-reads.Asked,
-  deps-at-reads.Learnt,
-  wide8-reads.Asked,
-  wide8-reads.Learnt,
-  wide16-reads.Asked,
-  wide16-reads.Learnt,
-  explore-below t,
-  explore.Post,
-) (explore-at t) explore.Post explore-Inv-loop explore-μ-loop
-explore-deps-at-requires t c κs = omega (arith, c .place-of .ensures .1, c .before .before .before .pre .1 .long)
+explore-deps-of-requires t c κs = let h = c .before .before .pre .1 in record { names = h .names; long = h .long }
 
 explore-loop-holds : (t : ℕ) → explore-lts.Need-loop-holds (
-  place-of-reads.Asked,
-  place-of-reads.Learnt,
-  deps-at-reads.Asked,
-  deps-at-reads.Learnt,
+  deps-of-reads.Asked,
+  deps-of-reads.Learnt,
   wide8-reads.Asked,
   wide8-reads.Learnt,
   wide16-reads.Asked,
@@ -74,13 +55,11 @@ explore-loop-holds : (t : ℕ) → explore-lts.Need-loop-holds (
   explore-below t,
   explore.Post,
 ) (explore-at t) explore.Post explore-Inv-loop explore-μ-loop
-explore-loop-holds t c = let e = c .before .before .before .before in (explore-start _ _ _ _ _ _ (e .pre .1 .few), omega arith)
+explore-loop-holds t c = let e = c .before .before .before in (explore-start _ _ _ _ _ _ (e .pre .1 .few), omega arith)
 
 explore-slice-read-wide8 : (t : ℕ) → explore-lts.Need-slice-read-wide8 (
-  place-of-reads.Asked,
-  place-of-reads.Learnt,
-  deps-at-reads.Asked,
-  deps-at-reads.Learnt,
+  deps-of-reads.Asked,
+  deps-of-reads.Learnt,
   wide8-reads.Asked,
   wide8-reads.Learnt,
   wide16-reads.Asked,
@@ -88,13 +67,11 @@ explore-slice-read-wide8 : (t : ℕ) → explore-lts.Need-slice-read-wide8 (
   explore-below t,
   explore.Post,
 ) (explore-at t) explore.Post explore-Inv-loop explore-μ-loop
-explore-slice-read-wide8 t c = let l = c .before .before in let e = l .before .before .before .before .before in marks-long _ _ _ _ _ _ (e .pre .1) _ _ (l .loop .inv .0) (c .before .loop-test .taken)
+explore-slice-read-wide8 t c = let l = c .before .before in let e = l .before .before .before .before in marks-long _ _ _ _ _ _ (e .pre .1) _ _ (l .loop .inv .0) (c .before .loop-test .taken)
 
 explore-wide8-requires : (t : ℕ) → explore-lts.Need-wide8-requires (
-  place-of-reads.Asked,
-  place-of-reads.Learnt,
-  deps-at-reads.Asked,
-  deps-at-reads.Learnt,
+  deps-of-reads.Asked,
+  deps-of-reads.Learnt,
   wide8-reads.Asked,
   wide8-reads.Learnt,
   wide16-reads.Asked,
@@ -105,10 +82,8 @@ explore-wide8-requires : (t : ℕ) → explore-lts.Need-wide8-requires (
 explore-wide8-requires t c κs = search needs
 
 explore-mul-wide16 : (t : ℕ) → explore-lts.Need-mul-wide16 (
-  place-of-reads.Asked,
-  place-of-reads.Learnt,
-  deps-at-reads.Asked,
-  deps-at-reads.Learnt,
+  deps-of-reads.Asked,
+  deps-of-reads.Learnt,
   wide8-reads.Asked,
   wide8-reads.Learnt,
   wide16-reads.Asked,
@@ -119,10 +94,8 @@ explore-mul-wide16 : (t : ℕ) → explore-lts.Need-mul-wide16 (
 explore-mul-wide16 t c = search needs
 
 explore-array-read-wide16 : (t : ℕ) → explore-lts.Need-array-read-wide16 (
-  place-of-reads.Asked,
-  place-of-reads.Learnt,
-  deps-at-reads.Asked,
-  deps-at-reads.Learnt,
+  deps-of-reads.Asked,
+  deps-of-reads.Learnt,
   wide8-reads.Asked,
   wide8-reads.Learnt,
   wide16-reads.Asked,
@@ -130,13 +103,11 @@ explore-array-read-wide16 : (t : ℕ) → explore-lts.Need-array-read-wide16 (
   explore-below t,
   explore.Post,
 ) (explore-at t) explore.Post explore-Inv-loop explore-μ-loop
-explore-array-read-wide16 t c = omega (arith, c .before .before .loop-test .taken, c .before .before .before .before .before .before .before .before .pre .1 .names .copies)
+explore-array-read-wide16 t c = omega (arith, c .before .before .loop-test .taken, c .before .before .before .before .before .before .before .pre .1 .names .copies)
 
 explore-wide16-requires : (t : ℕ) → explore-lts.Need-wide16-requires (
-  place-of-reads.Asked,
-  place-of-reads.Learnt,
-  deps-at-reads.Asked,
-  deps-at-reads.Learnt,
+  deps-of-reads.Asked,
+  deps-of-reads.Learnt,
   wide8-reads.Asked,
   wide8-reads.Learnt,
   wide16-reads.Asked,
@@ -147,10 +118,8 @@ explore-wide16-requires : (t : ℕ) → explore-lts.Need-wide16-requires (
 explore-wide16-requires t c κs = search needs
 
 explore-slice-read-x : (t : ℕ) → explore-lts.Need-slice-read-x (
-  place-of-reads.Asked,
-  place-of-reads.Learnt,
-  deps-at-reads.Asked,
-  deps-at-reads.Learnt,
+  deps-of-reads.Asked,
+  deps-of-reads.Learnt,
   wide8-reads.Asked,
   wide8-reads.Learnt,
   wide16-reads.Asked,
@@ -158,13 +127,11 @@ explore-slice-read-x : (t : ℕ) → explore-lts.Need-slice-read-x (
   explore-below t,
   explore.Post,
 ) (explore-at t) explore.Post explore-Inv-loop explore-μ-loop
-explore-slice-read-x t c = let l = c .before .before .before .before .before .before in let e = l .before .before .before .before .before in marks-long _ _ _ _ _ _ (e .pre .1) _ _ (l .loop .inv .0) (c .before .before .before .before .before .loop-test .taken)
+explore-slice-read-x t c = let l = c .before .before .before .before .before .before in let e = l .before .before .before .before in marks-long _ _ _ _ _ _ (e .pre .1) _ _ (l .loop .inv .0) (c .before .before .before .before .before .loop-test .taken)
 
 explore-add-x : (t : ℕ) → explore-lts.Need-add-x (
-  place-of-reads.Asked,
-  place-of-reads.Learnt,
-  deps-at-reads.Asked,
-  deps-at-reads.Learnt,
+  deps-of-reads.Asked,
+  deps-of-reads.Learnt,
   wide8-reads.Asked,
   wide8-reads.Learnt,
   wide16-reads.Asked,
@@ -172,13 +139,11 @@ explore-add-x : (t : ℕ) → explore-lts.Need-add-x (
   explore-below t,
   explore.Post,
 ) (explore-at t) explore.Post explore-Inv-loop explore-μ-loop
-explore-add-x t c = let l = c .before .before .before .before .before .before in let e = l .before .before .before .before .before in omega (arith, l .loop .inv .0 .few (l .loop .q) (c .before .before .before .before .before .loop-test .taken), e .pre .1 .names .numbers)
+explore-add-x t c = let l = c .before .before .before .before .before .before in let e = l .before .before .before .before in omega (arith, l .loop .inv .0 .few (l .loop .q) (c .before .before .before .before .before .loop-test .taken), e .pre .1 .names .numbers)
 
 explore-slice-write-m : (t : ℕ) → explore-lts.Need-slice-write-m (
-  place-of-reads.Asked,
-  place-of-reads.Learnt,
-  deps-at-reads.Asked,
-  deps-at-reads.Learnt,
+  deps-of-reads.Asked,
+  deps-of-reads.Learnt,
   wide8-reads.Asked,
   wide8-reads.Learnt,
   wide16-reads.Asked,
@@ -186,13 +151,11 @@ explore-slice-write-m : (t : ℕ) → explore-lts.Need-slice-write-m (
   explore-below t,
   explore.Post,
 ) (explore-at t) explore.Post explore-Inv-loop explore-μ-loop
-explore-slice-write-m t c = let l = c .before .before .before .before .before .before in let e = l .before .before .before .before .before in marks-long _ _ _ _ _ _ (e .pre .1) _ _ (l .loop .inv .0) (c .before .before .before .before .before .loop-test .taken)
+explore-slice-write-m t c = let l = c .before .before .before .before .before .before in let e = l .before .before .before .before in marks-long _ _ _ _ _ _ (e .pre .1) _ _ (l .loop .inv .0) (c .before .before .before .before .before .loop-test .taken)
 
 explore-wide8-requires-2 : (t : ℕ) → explore-lts.Need-wide8-requires-2 (
-  place-of-reads.Asked,
-  place-of-reads.Learnt,
-  deps-at-reads.Asked,
-  deps-at-reads.Learnt,
+  deps-of-reads.Asked,
+  deps-of-reads.Learnt,
   wide8-reads.Asked,
   wide8-reads.Learnt,
   wide16-reads.Asked,
@@ -203,10 +166,8 @@ explore-wide8-requires-2 : (t : ℕ) → explore-lts.Need-wide8-requires-2 (
 explore-wide8-requires-2 t c κs = search needs
 
 explore-explore-requires : (t : ℕ) → explore-lts.Need-explore-requires (
-  place-of-reads.Asked,
-  place-of-reads.Learnt,
-  deps-at-reads.Asked,
-  deps-at-reads.Learnt,
+  deps-of-reads.Asked,
+  deps-of-reads.Learnt,
   wide8-reads.Asked,
   wide8-reads.Learnt,
   wide16-reads.Asked,
@@ -216,16 +177,14 @@ explore-explore-requires : (t : ℕ) → explore-lts.Need-explore-requires (
 ) (explore-at t) explore.Post explore-Inv-loop explore-μ-loop
 explore-explore-requires t c κs =
     let l = c .before .before .before .before .before .before .before .before in
-    let e = l .before .before .before .before .before in
-    let d = above (e .args .s) (e .args .t .now) (e .args .p) (e .args .k) (l .loop .q) (l .loop .m) (l .before .before .place-of .ensures .0) (l .before .deps-at .ensures) (c .before .before .before .before .before .wide8 .ensures) (c .before .before .before .before .wide16 .ensures) (c .before .before .before .if1 .taken) in
+    let e = l .before .before .before .before in
+    let d = above (e .args .s) (e .args .t .now) (e .args .p) (e .args .k) (l .loop .q) (l .loop .m) (l .before .deps-of .ensures) (c .before .before .before .before .before .wide8 .ensures) (c .before .before .before .before .wide16 .ensures) (c .before .before .before .if1 .taken) in
     let f = fewer _ _ _ _ _ _ (e .pre .1) _ _ (l .loop .inv .0) (c .before .before .before .before .before .before .before .loop-test .taken) _ refl d in
     (omega (arith, e .pre .0), onward _ _ _ _ _ _ (e .pre .1) _ _ (l .loop .inv .0) (c .before .before .before .before .before .before .before .loop-test .taken) _ refl d _ (c .before .wide82 .ensures))
 
 explore-loop-less : (t : ℕ) → explore-lts.Need-loop-less (
-  place-of-reads.Asked,
-  place-of-reads.Learnt,
-  deps-at-reads.Asked,
-  deps-at-reads.Learnt,
+  deps-of-reads.Asked,
+  deps-of-reads.Learnt,
   wide8-reads.Asked,
   wide8-reads.Learnt,
   wide16-reads.Asked,
@@ -235,16 +194,14 @@ explore-loop-less : (t : ℕ) → explore-lts.Need-loop-less (
 ) (explore-at t) explore.Post explore-Inv-loop explore-μ-loop
 explore-loop-less t c =
     let l = c .before .before .before .before .before .before .before .before .before .before .before in
-    let e = l .before .before .before .before .before in
-    let d = above (e .args .s) (e .args .t .now) (e .args .p) (e .args .k) (l .loop .q) (l .loop .m) (l .before .before .place-of .ensures .0) (l .before .deps-at .ensures) (c .before .before .before .before .before .before .before .before .wide8 .ensures) (c .before .before .before .before .before .before .before .wide16 .ensures) (c .before .before .before .before .before .before .if1 .taken) in
+    let e = l .before .before .before .before in
+    let d = above (e .args .s) (e .args .t .now) (e .args .p) (e .args .k) (l .loop .q) (l .loop .m) (l .before .deps-of .ensures) (c .before .before .before .before .before .before .before .before .wide8 .ensures) (c .before .before .before .before .before .before .before .wide16 .ensures) (c .before .before .before .before .before .before .if1 .taken) in
     let f = shrinks _ _ _ _ _ _ (e .pre .1) _ _ (l .loop .inv .0) (c .before .before .before .before .before .before .before .before .before .before .loop-test .taken) _ refl d _ _ (c .before .before .explore .ensures) in
     omega arith
 
 explore-loop-again : (t : ℕ) → explore-lts.Need-loop-again (
-  place-of-reads.Asked,
-  place-of-reads.Learnt,
-  deps-at-reads.Asked,
-  deps-at-reads.Learnt,
+  deps-of-reads.Asked,
+  deps-of-reads.Learnt,
   wide8-reads.Asked,
   wide8-reads.Learnt,
   wide16-reads.Asked,
@@ -254,15 +211,13 @@ explore-loop-again : (t : ℕ) → explore-lts.Need-loop-again (
 ) (explore-at t) explore.Post explore-Inv-loop explore-μ-loop
 explore-loop-again t c =
     let l = c .before .before .before .before .before .before .before .before .before .before .before in
-    let e = l .before .before .before .before .before in
-    let d = above (e .args .s) (e .args .t .now) (e .args .p) (e .args .k) (l .loop .q) (l .loop .m) (l .before .before .place-of .ensures .0) (l .before .deps-at .ensures) (c .before .before .before .before .before .before .before .before .wide8 .ensures) (c .before .before .before .before .before .before .before .wide16 .ensures) (c .before .before .before .before .before .before .if1 .taken) in
+    let e = l .before .before .before .before in
+    let d = above (e .args .s) (e .args .t .now) (e .args .p) (e .args .k) (l .loop .q) (l .loop .m) (l .before .deps-of .ensures) (c .before .before .before .before .before .before .before .before .wide8 .ensures) (c .before .before .before .before .before .before .before .wide16 .ensures) (c .before .before .before .before .before .before .if1 .taken) in
     (more _ _ _ _ _ _ (e .pre .1) _ _ (l .loop .inv .0) (c .before .before .before .before .before .before .before .before .before .before .loop-test .taken) _ refl d _ _ (c .before .before .before .before .wide82 .ensures) (c .before .before .explore .ensures), l .loop .inv .1)
 
 explore-add-q : (t : ℕ) → explore-lts.Need-add-q (
-  place-of-reads.Asked,
-  place-of-reads.Learnt,
-  deps-at-reads.Asked,
-  deps-at-reads.Learnt,
+  deps-of-reads.Asked,
+  deps-of-reads.Learnt,
   wide8-reads.Asked,
   wide8-reads.Learnt,
   wide16-reads.Asked,
@@ -273,10 +228,8 @@ explore-add-q : (t : ℕ) → explore-lts.Need-add-q (
 explore-add-q t c = search needs
 
 explore-loop-less-2 : (t : ℕ) → explore-lts.Need-loop-less-2 (
-  place-of-reads.Asked,
-  place-of-reads.Learnt,
-  deps-at-reads.Asked,
-  deps-at-reads.Learnt,
+  deps-of-reads.Asked,
+  deps-of-reads.Learnt,
   wide8-reads.Asked,
   wide8-reads.Learnt,
   wide16-reads.Asked,
@@ -287,10 +240,8 @@ explore-loop-less-2 : (t : ℕ) → explore-lts.Need-loop-less-2 (
 explore-loop-less-2 t c = search needs
 
 explore-loop-again-2 : (t : ℕ) → explore-lts.Need-loop-again-2 (
-  place-of-reads.Asked,
-  place-of-reads.Learnt,
-  deps-at-reads.Asked,
-  deps-at-reads.Learnt,
+  deps-of-reads.Asked,
+  deps-of-reads.Learnt,
   wide8-reads.Asked,
   wide8-reads.Learnt,
   wide16-reads.Asked,
@@ -300,14 +251,12 @@ explore-loop-again-2 : (t : ℕ) → explore-lts.Need-loop-again-2 (
 ) (explore-at t) explore.Post explore-Inv-loop explore-μ-loop
 explore-loop-again-2 t c =
     let l = c .before .before .before .before .before in
-    let e = l .before .before .before .before .before in
-    (explore-skip _ _ _ _ _ _ _ _ _ (l .loop .inv .0) refl (reached (e .args .s) (e .args .t .now) (e .args .p) (e .args .k) (l .loop .q) (l .loop .m) (l .before .before .place-of .ensures .0) (l .before .deps-at .ensures) (c .before .before .wide8 .ensures) (c .before .wide16 .ensures) (c .if1 .left)), omega arith)
+    let e = l .before .before .before .before in
+    (explore-skip _ _ _ _ _ _ _ _ _ (l .loop .inv .0) refl (reached (e .args .s) (e .args .t .now) (e .args .p) (e .args .k) (l .loop .q) (l .loop .m) (l .before .deps-of .ensures) (c .before .before .wide8 .ensures) (c .before .wide16 .ensures) (c .if1 .left)), omega arith)
 
 explore-same-length : (t : ℕ) → explore-lts.Need-same-length (
-  place-of-reads.Asked,
-  place-of-reads.Learnt,
-  deps-at-reads.Asked,
-  deps-at-reads.Learnt,
+  deps-of-reads.Asked,
+  deps-of-reads.Learnt,
   wide8-reads.Asked,
   wide8-reads.Learnt,
   wide16-reads.Asked,
@@ -318,10 +267,8 @@ explore-same-length : (t : ℕ) → explore-lts.Need-same-length (
 explore-same-length t c = c .before .loop .inv .0 .long
 
 explore-returns : (t : ℕ) → explore-lts.Need-returns (
-  place-of-reads.Asked,
-  place-of-reads.Learnt,
-  deps-at-reads.Asked,
-  deps-at-reads.Learnt,
+  deps-of-reads.Asked,
+  deps-of-reads.Learnt,
   wide8-reads.Asked,
   wide8-reads.Learnt,
   wide16-reads.Asked,
@@ -331,16 +278,14 @@ explore-returns : (t : ℕ) → explore-lts.Need-returns (
 ) (explore-at t) explore.Post explore-Inv-loop explore-μ-loop
 explore-returns t c =
     let l = c .before in
-    let e = l .before .before .before .before .before in
+    let e = l .before .before .before .before in
     let z : l .loop .q ≡ e .args .n = omega arith in
     rw z at (l .loop .inv .0)
 
 pub +explore-spec : {M : Type 1} → statement M
 +explore-spec = close μ-explore λ t. explore-lts.spec (
-  place-of-reads.Asked,
-  place-of-reads.Learnt,
-  deps-at-reads.Asked,
-  deps-at-reads.Learnt,
+  deps-of-reads.Asked,
+  deps-of-reads.Learnt,
   wide8-reads.Asked,
   wide8-reads.Learnt,
   wide16-reads.Asked,
@@ -352,8 +297,7 @@ pub +explore-spec : {M : Type 1} → statement M
     explore.Post
     explore-Inv-loop
     explore-μ-loop
-    (explore-place-of-requires t)
-    (explore-deps-at-requires t)
+    (explore-deps-of-requires t)
     (explore-loop-holds t)
     (explore-slice-read-wide8 t)
     (explore-wide8-requires t)

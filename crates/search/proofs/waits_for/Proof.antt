@@ -5,9 +5,6 @@ use Rattle.search.proofs.Laws.{waits-is}
 use mathlib.Core.Path.{ap₂, _∙_}
 use mathlib.Core.Bool.{_&&_}
 
-place-of-requires : tie.Need-place-of-requires
-place-of-requires c κs = search needs
-
 equal-requires : tie.Need-equal-requires
 equal-requires c κs = search needs
 
@@ -29,20 +26,19 @@ at-most-requires c κs = search needs
 either-requires : tie.Need-either-requires
 either-requires c κs = search needs
 
-committed-at-requires : tie.Need-committed-at-requires
-committed-at-requires c κs = search needs
+committed-of-requires : tie.Need-committed-of-requires
+committed-of-requires c κs = search needs
 
 both-requires-2 : tie.Need-both-requires-2
 both-requires-2 c κs = search needs
 
 returns : tie.Need-returns
-returns c = waits-is _ _ _ _ _ _ _ _ (c .before .before .before .before .before .before .before .before .before .before .before .before .pre) (c .before .before .before .before .before .before .before .before .before .place-of .ensures .0) (c .before .before .before .before .before .before .both .ensures ∙ ap₂ _&&_ (c .before .before .before .before .before .before .before .before .equal .ensures) (c .before .before .before .before .before .before .before .equal2 .ensures)) (c .before .before .before .before .wide8 .ensures) (c .before .before .before .at-most .ensures) (c .before .before .either .ensures) (c .before .committed-at .ensures) (c .both2 .ensures)
+returns c = waits-is _ _ _ _ _ _ _ _ (c .before .before .before .before .before .before .before .before .before .before .before .pre) (c .before .before .before .before .before .before .both .ensures ∙ ap₂ _&&_ (c .before .before .before .before .before .before .before .before .equal .ensures) (c .before .before .before .before .before .before .before .equal2 .ensures)) (c .before .before .before .before .wide8 .ensures) (c .before .before .before .at-most .ensures) (c .before .before .either .ensures) (c .before .committed-of .ensures) (c .both2 .ensures)
 
 pub waits-for-spec : {M : Type 1} → statement M
 waits-for-spec =
     tie.close
     (tie.spec
-    place-of-requires
     equal-requires
     equal-requires-2
     both-requires
@@ -50,6 +46,6 @@ waits-for-spec =
     wide8-requires
     at-most-requires
     either-requires
-    committed-at-requires
+    committed-of-requires
     both-requires-2
     returns)

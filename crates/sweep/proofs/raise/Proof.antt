@@ -7,19 +7,16 @@ use Rattle.sweep.proofs.Rises.{at-place, raise-taking, raise-first, rai
 slot-of-requires : tie.Need-slot-of-requires
 slot-of-requires c κs = search needs
 
-place-of-requires : tie.Need-place-of-requires
-place-of-requires c κs = search needs
-
-deps-at-requires : tie.Need-deps-at-requires
-deps-at-requires c κs = search needs
+deps-of-requires : tie.Need-deps-of-requires
+deps-of-requires c κs = search needs
 
 put-row-requires : tie.Need-put-row-requires
 put-row-requires c κs = search needs
 
 beyond-requires : tie.Need-beyond-requires
 beyond-requires c κs =
-    let e = c .before .before .before .before .before .before .before .before .before .before .before .before in
-    let w = raise-first (e .args .n) (e .args .s) (e .args .t .now) (e .args .g .now) (e .pre .0 .sized) (e .pre .0 .rows) (e .args .o) (e .args .j) (e .pre .1) _ (e .pre .0 .long) (λ i. omega (arith, c .before .before .before .before .before .before .before .before .before .before .before .shared-slice-known .given i)) (c .before .before .before .before .before .before .before .before .slot-of .ensures .0) (c .before .before .before .before .before .before .place-of .ensures .0) (c .before .before .before .before .before .deps-at .ensures) (c .before .before .before .before .put-row .ensures) in
+    let e = c .before .before .before .before .before .before .before .before .before .before .before in
+    let w = raise-first (e .args .n) (e .args .s) (e .args .t .now) (e .args .g .now) (e .pre .0 .sized) (e .pre .0 .rows) (e .args .o) (e .args .j) (e .pre .1) _ (e .pre .0 .long) (λ i. omega (arith, c .before .before .before .before .before .before .before .before .before .before .shared-slice-known .given i)) (c .before .before .before .before .before .before .before .slot-of .ensures .0) (c .before .before .before .before .before .deps-of .ensures) (c .before .before .before .before .put-row .ensures) in
     (rw (w .0) (raise-taking (e .args .n) (e .args .s) (e .args .t .now) (e .args .g .now) (e .pre .0 .sized) (e .pre .0 .rows) (e .args .o) (e .args .j) (e .pre .1)), w .1)
 
 row-of-requires : tie.Need-row-of-requires
@@ -33,7 +30,7 @@ join-of-requires c κs = search needs
 
 before-requires : tie.Need-before-requires
 before-requires c κs =
-    let e = c .before .before .before .before .before .before .before .before .before .before .before .before .before .before .before .before .before .before .before .before .before in
+    let e = c .before .before .before .before .before .before .before .before .before .before .before .before .before .before .before .before .before .before .before .before in
     (e .pre .0 .rows .long, omega (arith, e .pre .1 .owner, e .pre .0 .sized .copies), omega (arith, e .pre .1 .last, e .pre .0 .sized .numbers))
 
 join-of-requires-2 : tie.Need-join-of-requires-2
@@ -41,8 +38,8 @@ join-of-requires-2 c κs = search needs
 
 put-row-requires-2 : tie.Need-put-row-requires-2
 put-row-requires-2 c κs =
-    let e = c .before .before .before .before .before .before .before .before .before .before .before .before .before .before .before .before .before .before .before .before .before .before .before .before in
-    rw (c .before .before .before .before .before .before .before .before .before .before .before .before .before .before .before .before .before .before .before .before .slot-of .ensures .0) (at-place (e .args .n) (e .args .s) (e .args .t .now) (e .args .g .now) (e .pre .0 .sized) (e .pre .0 .rows) (e .args .o) (e .args .j) (e .pre .1))
+    let e = c .before .before .before .before .before .before .before .before .before .before .before .before .before .before .before .before .before .before .before .before .before .before .before in
+    rw (c .before .before .before .before .before .before .before .before .before .before .before .before .before .before .before .before .before .before .before .slot-of .ensures .0) (at-place (e .args .n) (e .args .s) (e .args .t .now) (e .args .g .now) (e .pre .0 .sized) (e .pre .0 .rows) (e .args .o) (e .args .j) (e .pre .1))
 
 same-length : tie.Need-same-length
 same-length c = search needs
@@ -52,14 +49,14 @@ same-length-2 c = search needs
 
 returns : tie.Need-returns
 returns c =
-    let e = c .before .before .before .before .before .before .before .before .before .before .before .before .before .before .before .before .before .before .before .before .before .before .before .before .before .before .before in
-    let y = c .before .before .before .before .before .before .before .before .before .before .before .before .before .before .before .before .before .before .before .before .before .before .before .slot-of .ensures .0 in
-    let w = raise-first (e .args .n) (e .args .s) (e .args .t .now) (e .args .g .now) (e .pre .0 .sized) (e .pre .0 .rows) (e .args .o) (e .args .j) (e .pre .1) _ (e .pre .0 .long) (λ i. omega (arith, c .before .before .before .before .before .before .before .before .before .before .before .before .before .before .before .before .before .before .before .before .before .before .before .before .before .before .shared-slice-known .given i)) (c .before .before .before .before .before .before .before .before .before .before .before .before .before .before .before .before .before .before .before .before .before .before .before .slot-of .ensures .0) (c .before .before .before .before .before .before .before .before .before .before .before .before .before .before .before .before .before .before .before .before .before .place-of .ensures .0) (c .before .before .before .before .before .before .before .before .before .before .before .before .before .before .before .before .before .before .before .before .deps-at .ensures) (c .before .before .before .before .before .before .before .before .before .before .before .before .before .before .before .before .before .before .before .put-row .ensures) in
+    let e = c .before .before .before .before .before .before .before .before .before .before .before .before .before .before .before .before .before .before .before .before .before .before .before .before .before .before in
+    let y = c .before .before .before .before .before .before .before .before .before .before .before .before .before .before .before .before .before .before .before .before .before .before .slot-of .ensures .0 in
+    let w = raise-first (e .args .n) (e .args .s) (e .args .t .now) (e .args .g .now) (e .pre .0 .sized) (e .pre .0 .rows) (e .args .o) (e .args .j) (e .pre .1) _ (e .pre .0 .long) (λ i. omega (arith, c .before .before .before .before .before .before .before .before .before .before .before .before .before .before .before .before .before .before .before .before .before .before .before .before .before .shared-slice-known .given i)) (c .before .before .before .before .before .before .before .before .before .before .before .before .before .before .before .before .before .before .before .before .before .before .slot-of .ensures .0) (c .before .before .before .before .before .before .before .before .before .before .before .before .before .before .before .before .before .before .before .before .deps-of .ensures) (c .before .before .before .before .before .before .before .before .before .before .before .before .before .before .before .before .before .before .before .put-row .ensures) in
     let m = rw (w .0) at (c .before .before .before .before .before .before .before .before .before .before .before .before .before .before .beyond .ensures .0) in
     let k = raise-read (e .args .n) (e .args .s) (e .args .t .now) (e .args .g .now) (e .pre .0 .sized) (e .pre .0 .rows) (e .args .o) (e .args .j) (e .pre .1) _ y m (c .before .before .before .before .before .before .before .before .before .before .row-of .ensures) (c .before .before .before .before .before .before .before .before .row-of2 .ensures) (c .before .before .before .before .before .before .before .join-of .ensures) (c .before .before .before .before .before .before2 .ensures) (c .before .before .before .before .join-of2 .ensures) in (
       c .before .before .before .before .before .before .before .before .before .before .before .before .before .before .beyond .ensures .1 .long,
       rw (c .before .before .put-row2 .ensures, k, y)
-          (raise-raised (e .args .n) (e .args .s) (e .args .t .now) (e .args .g .now) (e .pre .0 .sized) (e .pre .0 .rows) (e .args .o) (e .args .j) (e .pre .1) (λ i. omega (arith, c .before .before .before .before .before .before .before .before .before .before .before .before .before .before .before .before .before .before .before .before .before .before .before .before .before .slice-known .given i)) (read-fits _ _ m (λ i. omega (arith, c .before .before .before .before .before .before .before .before .before .before .before .before .slice-known4 .given i)))),
+          (raise-raised (e .args .n) (e .args .s) (e .args .t .now) (e .args .g .now) (e .pre .0 .sized) (e .pre .0 .rows) (e .args .o) (e .args .j) (e .pre .1) (λ i. omega (arith, c .before .before .before .before .before .before .before .before .before .before .before .before .before .before .before .before .before .before .before .before .before .before .before .before .slice-known .given i)) (read-fits _ _ m (λ i. omega (arith, c .before .before .before .before .before .before .before .before .before .before .before .before .slice-known4 .given i)))),
     )
 
 pub raise-spec : {M : Type 1} → statement M
@@ -67,8 +64,7 @@ raise-spec =
     tie.close
     (tie.spec
     slot-of-requires
-    place-of-requires
-    deps-at-requires
+    deps-of-requires
     put-row-requires
     beyond-requires
     row-of-requires

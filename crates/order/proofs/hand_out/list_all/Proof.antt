@@ -56,7 +56,13 @@ set-mark-requires : tie.Need-set-mark-requires Inv-loop μ-loop
 set-mark-requires c κs =
     let l = c .before .before .before .before .before .before .before .before .before .before .before .before .before .before .loop .inv in
     let i = found-inst _ _ _ _ _ _ _ _ _ _ _ l _ _ (sym (c .before .before .before .found .given .1) ∙ c .before .before .before .before .before .before .before .before .before .next-out .ensures .0) in
-    record { copies = l .listing .going .lists .copies; numbers = l .listing .going .lists .numbers; long = l .listing .long; inst = i; whole = l .listing .whole _ _ i }
+    record {
+      has = record {
+        names = record { copies = l .listing .going .lists .copies; numbers = l .listing .going .lists .numbers; owner = i .owner; first = i .first; last = i .last };
+        long = l .listing .long;
+      };
+      whole = l .listing .whole _ _ i;
+    }
 
 code-of-requires : tie.Need-code-of-requires Inv-loop μ-loop
 code-of-requires c κs =

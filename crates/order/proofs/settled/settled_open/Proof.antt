@@ -2,7 +2,6 @@ use borrow.Author.Needs.{needs}
 use Rattle.order.proofs.settled.settled_open.Statement.{statement}
 use Rattle.order.proofs.settled.settled_open.Tie as tie
 use mathlib.Core.Path.{sym, _∙_}
-use native.Mathlib.Omega.{arith}
 use borrow.Author.Tests.{not-true, not-false}
 use Rattle.table.proofs.Laws.{names}
 use Rattle.order.proofs.Passed.{passed-long}
@@ -35,14 +34,14 @@ returns-2 c = settled-waits _ _ (c .before .before .before .before .before .befo
 enum-told : tie.Need-enum-told
 enum-told c = search needs
 
-place-of-requires : tie.Need-place-of-requires
-place-of-requires c κs = names _ _ _ _ _ _ (c .before .before .before .before .before .before .before .before .before .before .pre .setup) (sym (c .before .before .before .before .before .before .before .before .instance-ok .ensures) ∙ not-false _ (c .before .before .before .before .before .before .before .if1 .left))
-
 load-requires : tie.Need-load-requires
-load-requires c κs = omega (arith, c .place-of .ensures .1, passed-long _ _ _ _ (c .before .before .before .before .before .before .before .before .before .before .before .pre))
+load-requires c κs =
+    let g = c .before .before .before .before .before .before .before .before .before .before .pre in
+    let i = sym (c .before .before .before .before .before .before .before .before .instance-ok .ensures) ∙ not-false _ (c .before .before .before .before .before .before .before .if1 .left) in
+    record { names = names _ _ _ _ _ _ (g .setup) i; long = passed-long _ _ _ _ g }
 
 returns-3 : tie.Need-returns-3
-returns-3 c = settled-gives _ _ (c .before .before .before .before .before .before .before .before .before .before .before .before .before .before .args .c) _ _ _ (sym (c .before .before .before .before .before .before .before .before .before .before .before .before .instance-ok .ensures) ∙ not-false _ (c .before .before .before .before .before .before .before .before .before .before .before .if1 .left)) (sym (c .before .before .before .before .enum-told .given .1) ∙ c .before .before .before .before .before .before .first-open .ensures) (c .before .before .before .place-of .ensures .0) (c .before .before .load .ensures)
+returns-3 c = settled-gives _ _ (c .before .before .before .before .before .before .before .before .before .before .before .before .before .args .c) _ _ _ (sym (c .before .before .before .before .before .before .before .before .before .before .before .instance-ok .ensures) ∙ not-false _ (c .before .before .before .before .before .before .before .before .before .before .if1 .left)) (sym (c .before .before .before .enum-told .given .1) ∙ c .before .before .before .before .before .first-open .ensures) (c .before .before .load .ensures)
 
 pub settled-open-spec : {M : Type 1} → statement M
 settled-open-spec =
@@ -57,6 +56,5 @@ settled-open-spec =
     enum-known-found
     returns-2
     enum-told
-    place-of-requires
     load-requires
     returns-3)

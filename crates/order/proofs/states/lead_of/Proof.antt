@@ -4,12 +4,10 @@ use mathlib.Core.Path.{_≡_, sym, _∙_}
 use mathlib.Core.Bool.{true}
 use Prim.Native.Nat.{ℕ, _-_, _≤_}
 use native.Mathlib.Omega.{arith}
-use mathlib.Core.List.{List}
 use borrow.Author.Tests.{not-true, not-false}
-use Rattle.record.specs.Layout.{recordAt}
 use Rattle.rules.specs.Step.{isCommitted}
 use Rattle.seen.specs.Records.{recordsIn}
-use Rattle.order.proofs.Stated.{at-place, sized-names, all-more, lead-here, lead-whole}
+use Rattle.order.proofs.Stated.{sized-has, all-more, lead-here, lead-whole}
 
 abbrev Inv-loop : tie.InvT-loop
 Inv-loop t n s q j₀ j = (j ≤ s) × ((i : ℕ) → 1 ≤ i → i ≤ j → isCommitted (recordsIn s t q i) ≡ true)
@@ -20,22 +18,18 @@ abbrev μ-loop : tie.MeasureT-loop
 loop-holds : tie.Need-loop-holds Inv-loop μ-loop
 loop-holds c = (omega arith, λ i a b. absurd (omega arith))
 
-add-place-of : tie.Need-add-place-of Inv-loop μ-loop
-add-place-of c = let g = c .before .before .before .pre in omega (arith, g .0 .numbers, c .loop-test .taken)
+add-committed-of : tie.Need-add-committed-of Inv-loop μ-loop
+add-committed-of c = let g = c .before .before .before .pre in omega (arith, g .0 .numbers, c .loop-test .taken)
 
-place-of-requires : tie.Need-place-of-requires Inv-loop μ-loop
-place-of-requires c κs = let g = c .before .before .before .pre in sized-names _ _ _ (g .0) _ _ (record { owner = g .1; first = omega arith; last = omega (arith, c .loop-test .taken) })
-
-committed-at-requires : tie.Need-committed-at-requires Inv-loop μ-loop
-committed-at-requires c κs = omega (arith, c .place-of .ensures .1, c .before .before .before .before .pre .0 .long)
+committed-of-requires : tie.Need-committed-of-requires Inv-loop μ-loop
+committed-of-requires c κs = let g = c .before .before .before .pre in sized-has _ _ _ (g .0) _ _ (record { owner = g .1; first = omega arith; last = omega (arith, c .loop-test .taken) })
 
 returns : tie.Need-returns Inv-loop μ-loop
 returns c =
     let d = c .before in
-    let l = d .before .before .before in
+    let l = d .before .before in
     let a = l .before .before .args in
-    let e = at-place (λ (b : List ℕ). isCommitted (recordAt b)) (a .s) (a .t .now) (a .q) _ (d .before .place-of .ensures .0) (d .committed-at .ensures) in
-    lead-here _ (recordsIn (a .s) (a .t .now)) (a .q) _ (d .before .before .loop-test .taken) (l .loop .inv .1) (sym e ∙ not-true _ (c .if1 .taken))
+    lead-here _ (recordsIn (a .s) (a .t .now)) (a .q) _ (d .before .loop-test .taken) (l .loop .inv .1) (sym (d .committed-of .ensures) ∙ not-true _ (c .if1 .taken))
 
 add-j : tie.Need-add-j Inv-loop μ-loop
 add-j c = omega arith
@@ -46,10 +40,9 @@ loop-less c = omega arith
 loop-again : tie.Need-loop-again Inv-loop μ-loop
 loop-again c =
     let d = c .before in
-    let l = d .before .before .before in
+    let l = d .before .before in
     let a = l .before .before .args in
-    let e = at-place (λ (b : List ℕ). isCommitted (recordAt b)) (a .s) (a .t .now) (a .q) _ (d .before .place-of .ensures .0) (d .committed-at .ensures) in
-    (omega (arith, d .before .before .loop-test .taken), all-more (a .s) (recordsIn (a .s) (a .t .now)) (a .q) _ (l .loop .inv .1) (sym e ∙ not-false _ (c .if1 .left)))
+    (omega (arith, d .before .loop-test .taken), all-more (a .s) (recordsIn (a .s) (a .t .now)) (a .q) _ (l .loop .inv .1) (sym (d .committed-of .ensures) ∙ not-false _ (c .if1 .left)))
 
 returns-2 : tie.Need-returns-2 Inv-loop μ-loop
 returns-2 c = let l = c .before in let a = l .before .before .args in lead-whole _ (recordsIn (a .s) (a .t .now)) (a .q) _ (l .loop .inv .0) (c .loop-test .left) (l .loop .inv .1)
@@ -61,9 +54,8 @@ lead-of-spec =
     Inv-loop
     μ-loop
     loop-holds
-    add-place-of
-    place-of-requires
-    committed-at-requires
+    add-committed-of
+    committed-of-requires
     returns
     add-j
     loop-less

@@ -2,34 +2,26 @@ use borrow.Author.Needs.{needs}
 use Rattle.order.proofs.states.state_of.Statement.{statement}
 use Rattle.order.proofs.states.state_of.Tie as tie
 use mathlib.Core.Path.{sym, _∙_}
-use mathlib.Core.List.{List}
-use Prim.Native.Nat.{ℕ}
 use borrow.Author.Tests.{not-true, not-false}
-use Rattle.record.specs.Layout.{recordAt}
-use Rattle.rules.specs.Step.{isCommitted}
-use Rattle.rules.specs.Order.{isMarked}
-use Rattle.order.proofs.Stated.{at-place, state-out, state-open, state-settled, state-behind}
+use Rattle.order.proofs.Stated.{state-out, state-open, state-settled, state-behind}
 
-place-of-requires : tie.Need-place-of-requires
-place-of-requires c κs = search needs
-
-marked-at-requires : tie.Need-marked-at-requires
-marked-at-requires c κs = search needs
+marked-of-requires : tie.Need-marked-of-requires
+marked-of-requires c κs = search needs
 
 returns : tie.Need-returns
 returns c =
-    let a = c .before .before .before .before .before .before in
-    let m = at-place (λ (b : List ℕ). isMarked (recordAt b)) (a .args .s) (a .args .t .now) (a .args .p) (a .args .k) (c .before .before .place-of .ensures .0) (c .before .marked-at .ensures) in
+    let a = c .before .before .before .before .before in
+    let m = c .before .marked-of .ensures in
     state-out _ _ _ _ _ _ _ (a .pre) (sym m ∙ c .if1 .taken)
 
-committed-at-requires : tie.Need-committed-at-requires
-committed-at-requires c κs = search needs
+committed-of-requires : tie.Need-committed-of-requires
+committed-of-requires c κs = search needs
 
 returns-2 : tie.Need-returns-2
 returns-2 c =
-    let a = c .before .before .before .before .before .before .before .before in
-    let m = at-place (λ (b : List ℕ). isMarked (recordAt b)) (a .args .s) (a .args .t .now) (a .args .p) (a .args .k) (c .before .before .before .before .place-of .ensures .0) (c .before .before .before .marked-at .ensures) in
-    let d = at-place (λ (b : List ℕ). isCommitted (recordAt b)) (a .args .s) (a .args .t .now) (a .args .p) (a .args .k) (c .before .before .before .before .place-of .ensures .0) (c .before .committed-at .ensures) in
+    let a = c .before .before .before .before .before .before .before in
+    let m = c .before .before .before .marked-of .ensures in
+    let d = c .before .committed-of .ensures in
     state-open _ _ _ _ _ _ _ (a .pre) (sym m ∙ c .before .before .if1 .left) (sym d ∙ not-true _ (c .if2 .taken))
 
 slot-of-requires : tie.Need-slot-of-requires
@@ -40,25 +32,24 @@ none-behind-requires c κs = search needs
 
 returns-3 : tie.Need-returns-3
 returns-3 c =
-    let a = c .before .before .before .before .before .before .before .before .before .before .before in
-    let m = at-place (λ (b : List ℕ). isMarked (recordAt b)) (a .args .s) (a .args .t .now) (a .args .p) (a .args .k) (c .before .before .before .before .before .before .before .place-of .ensures .0) (c .before .before .before .before .before .before .marked-at .ensures) in
-    let d = at-place (λ (b : List ℕ). isCommitted (recordAt b)) (a .args .s) (a .args .t .now) (a .args .p) (a .args .k) (c .before .before .before .before .before .before .before .place-of .ensures .0) (c .before .before .before .before .committed-at .ensures) in
+    let a = c .before .before .before .before .before .before .before .before .before .before in
+    let m = c .before .before .before .before .before .before .marked-of .ensures in
+    let d = c .before .before .before .before .committed-of .ensures in
     state-settled _ _ _ _ _ _ _ (a .pre) _ (c .before .before .slot-of .ensures .0) (sym m ∙ c .before .before .before .before .before .if1 .left) (sym d ∙ not-false _ (c .before .before .before .if2 .left)) (sym (c .before .none-behind .ensures) ∙ c .if3 .taken)
 
 returns-4 : tie.Need-returns-4
 returns-4 c =
-    let a = c .before .before .before .before .before .before .before .before .before .before .before in
-    let m = at-place (λ (b : List ℕ). isMarked (recordAt b)) (a .args .s) (a .args .t .now) (a .args .p) (a .args .k) (c .before .before .before .before .before .before .before .place-of .ensures .0) (c .before .before .before .before .before .before .marked-at .ensures) in
+    let a = c .before .before .before .before .before .before .before .before .before .before in
+    let m = c .before .before .before .before .before .before .marked-of .ensures in
     state-behind _ _ _ _ _ _ _ (a .pre) _ (c .before .before .slot-of .ensures .0) (sym m ∙ c .before .before .before .before .before .if1 .left) (sym (c .before .none-behind .ensures) ∙ c .if3 .left)
 
 pub state-of-spec : {M : Type 1} → statement M
 state-of-spec =
     tie.close
     (tie.spec
-    place-of-requires
-    marked-at-requires
+    marked-of-requires
     returns
-    committed-at-requires
+    committed-of-requires
     returns-2
     slot-of-requires
     none-behind-requires

@@ -6,10 +6,10 @@ use Prim.Native.Nat.{ℕ}
 use native.Mathlib.Omega.{arith}
 use Rattle.paper.specs.declared.Refusal.the-variants as why
 use Rattle.table.proofs.Laws.{sizes}
-use Rattle.log.proofs.Held.{Bytes}
+use Rattle.record.specs.Part.{Bytes}
 use Rattle.log.proofs.Calls.{met, refused, acted-is}
 use Rattle.receive.proofs.Laws.{named, ready, small-set, message-room, heard-10, heard-ok, message-step}
-use Rattle.table.specs.Place.{placeOf}
+use Rattle.table.specs.Table.{recordIn}
 
 wide8-requires : tie.Need-wide8-requires
 wide8-requires c κs = search needs
@@ -17,13 +17,11 @@ wide8-requires c κs = search needs
 wide16-requires : tie.Need-wide16-requires
 wide16-requires c κs = search needs
 
-place-of-requires : tie.Need-place-of-requires
-place-of-requires c κs = rw (c .before .wide8 .ensures, c .wide16 .ensures) (named _ _ _ _ _ _ (c .before .before .before .before .pre))
-
 load-requires : tie.Need-load-requires
-load-requires c κs = let z = c .before .before .before .before .before .before in
+load-requires c κs =
+    let z = c .before .before .before .before .before in
     let sz = sizes _ _ _ _ (z .pre .passed .setup) in
-    omega (arith, sz .long, c .before .place-of .ensures .1)
+    record { names = rw (c .before .before .wide8 .ensures, c .before .wide16 .ensures) (named _ _ _ _ _ _ (z .pre)); long = sz .long }
 
 is-refused10-requires : tie.Need-is-refused10-requires
 is-refused10-requires c κs = search needs
@@ -32,27 +30,27 @@ same-length : tie.Need-same-length
 same-length c = search needs
 
 returns : tie.Need-returns
-returns c = let z = c .before .before .before .before .before .before .before .before .before in
+returns c = let z = c .before .before .before .before .before .before .before .before in
     let a = z .args in
     let t = a .t .now in
-    met (heard-10 (a .n) (a .s) (a .c) t (a .out .now) (a .m) (c .before .before .before .before .place-of .ensures .0) (c .before .before .before .before .before .before .wide8 .ensures) (c .before .before .before .before .before .wide16 .ensures) (c .before .before .load .ensures) (sym (c .before .is-refused10 .ensures) ∙ c .if1 .taken)) (refused why.Differs _ _)
+    met (heard-10 (a .n) (a .s) (a .c) t (a .out .now) (a .m) (c .before .before .before .before .before .wide8 .ensures) (c .before .before .before .before .wide16 .ensures) (c .before .before .load .ensures) (sym (c .before .is-refused10 .ensures) ∙ c .if1 .taken)) (refused why.Differs _ _)
 
 received-as-requires : tie.Need-received-as-requires
-received-as-requires c κs = let z = c .before .before .before .before .before .before .before .before .before .before in
+received-as-requires c κs = let z = c .before .before .before .before .before .before .before .before .before in
     let a = z .args in
     let t = a .t .now in
-    let bt : Bytes t = λ i. omega (arith, c .before .before .before .before .before .before .before .before .before .slice-known .given i) in
-    let e = c .before .before .before .before .before .place-of .ensures .0 ∙ ap₂ (λ (o j : ℕ). placeOf (a .s) o j) (c .before .before .before .before .before .before .before .wide8 .ensures) (c .before .before .before .before .before .before .wide16 .ensures) in
-    (ready _ _ _ _ _ _ (z .pre), small-set _ _ _ _ _ _ (z .pre) bt e (c .before .before .before .load .ensures))
+    let bt : Bytes t = λ i. omega (arith, c .before .before .before .before .before .before .before .before .slice-known .given i) in
+    let e = ap₂ (λ (o j : ℕ). recordIn (a .s) t o j) (c .before .before .before .before .before .before .wide8 .ensures) (c .before .before .before .before .before .wide16 .ensures) in
+    (ready _ _ _ _ _ _ (z .pre), small-set _ _ _ _ _ _ (z .pre) bt (c .before .before .before .load .ensures ∙ e))
 
 act-requires : tie.Need-act-requires
-act-requires c κs = let z = c .before .before .before .before .before .before .before .before .before .before .before .before .before in
+act-requires c κs = let z = c .before .before .before .before .before .before .before .before .before .before .before .before in
     let a = z .args in
     let t = a .t .now in
     let sz = sizes _ _ _ _ (z .pre .passed .setup) in
-    let bt : Bytes t = λ i. omega (arith, c .before .before .before .before .before .before .before .before .before .before .before .before .slice-known .given i) in
-    let x = message-step (a .n) (a .s) (a .c) t (a .out .now) (a .m) (c .before .before .before .before .before .before .before .before .place-of .ensures .0) (c .before .before .before .before .before .before .before .before .before .before .wide8 .ensures) (c .before .before .before .before .before .before .before .before .before .wide16 .ensures) (c .before .before .before .before .before .before .load .ensures) (c .before .before .received-as .ensures) in
-    (omega (arith, sz .long, c .before .before .before .before .before .before .before .before .place-of .ensures .1), z .pre .passed .long, rw x (message-room _ _ _ _ _ _ (z .pre) bt))
+    let bt : Bytes t = λ i. omega (arith, c .before .before .before .before .before .before .before .before .before .before .before .slice-known .given i) in
+    let x = message-step (a .n) (a .s) (a .c) t (a .out .now) (a .m) (c .before .before .before .before .before .before .before .before .before .wide8 .ensures) (c .before .before .before .before .before .before .before .before .wide16 .ensures) (c .before .before .before .before .before .before .load .ensures) (c .before .before .received-as .ensures) in
+    (record { names = rw (c .before .before .before .before .before .before .before .before .before .wide8 .ensures, c .before .before .before .before .before .before .before .before .wide16 .ensures) (named _ _ _ _ _ _ (z .pre)); long = sz .long }, z .pre .passed .long, rw x (message-room _ _ _ _ _ _ (z .pre) bt))
 
 same-length-2 : tie.Need-same-length-2
 same-length-2 c = search needs
@@ -61,12 +59,12 @@ same-length-3 : tie.Need-same-length-3
 same-length-3 c = search needs
 
 returns-2 : tie.Need-returns-2
-returns-2 c = let z = c .before .before .before .before .before .before .before .before .before .before .before .before .before .before .before .before .before .before in
+returns-2 c = let z = c .before .before .before .before .before .before .before .before .before .before .before .before .before .before .before .before .before in
     let a = z .args in
     let t = a .t .now in
-    let x = message-step (a .n) (a .s) (a .c) t (a .out .now) (a .m) (c .before .before .before .before .before .before .before .before .before .before .before .before .before .place-of .ensures .0) (c .before .before .before .before .before .before .before .before .before .before .before .before .before .before .before .wide8 .ensures) (c .before .before .before .before .before .before .before .before .before .before .before .before .before .before .wide16 .ensures) (c .before .before .before .before .before .before .before .before .before .before .before .load .ensures) (c .before .before .before .before .before .before .before .received-as .ensures) in
+    let x = message-step (a .n) (a .s) (a .c) t (a .out .now) (a .m) (c .before .before .before .before .before .before .before .before .before .before .before .before .before .before .wide8 .ensures) (c .before .before .before .before .before .before .before .before .before .before .before .before .before .wide16 .ensures) (c .before .before .before .before .before .before .before .before .before .before .before .load .ensures) (c .before .before .before .before .before .before .before .received-as .ensures) in
     let w = c .before .before .before .before .act .ensures in
-    met (heard-ok (a .n) (a .s) (a .c) t (a .out .now) (a .m) (c .before .before .before .before .before .before .before .before .before .before .before .before .before .place-of .ensures .0) (c .before .before .before .before .before .before .before .before .before .before .before .before .before .before .before .wide8 .ensures) (c .before .before .before .before .before .before .before .before .before .before .before .before .before .before .wide16 .ensures) (c .before .before .before .before .before .before .before .before .before .before .before .load .ensures) (sym (c .before .before .before .before .before .before .before .before .before .before .is-refused10 .ensures) ∙ c .before .before .before .before .before .before .before .before .before .if1 .left)) (acted-is (a .s) t (a .out .now) _ _ x (c .before .before .before .before .before .before .before .before .before .before .before .before .before .place-of .ensures .0) (w .0) (w .1 .0) (w .1 .1))
+    met (heard-ok (a .n) (a .s) (a .c) t (a .out .now) (a .m) (c .before .before .before .before .before .before .before .before .before .before .before .before .before .before .wide8 .ensures) (c .before .before .before .before .before .before .before .before .before .before .before .before .before .wide16 .ensures) (c .before .before .before .before .before .before .before .before .before .before .before .load .ensures) (sym (c .before .before .before .before .before .before .before .before .before .before .is-refused10 .ensures) ∙ c .before .before .before .before .before .before .before .before .before .if1 .left)) (acted-is (a .s) t (a .out .now) _ _ x (w .0) (w .1 .0) (w .1 .1))
 
 pub hear-spec : {M : Type 1} → statement M
 hear-spec =
@@ -74,7 +72,6 @@ hear-spec =
     (tie.spec
     wide8-requires
     wide16-requires
-    place-of-requires
     load-requires
     is-refused10-requires
     same-length

@@ -5,7 +5,7 @@ use Prim.Native.Nat.{_-_}
 use native.Mathlib.Omega.{arith}
 use Rattle.paper.specs.declared.Refusal.the-variants as why
 use Rattle.table.proofs.Laws.{sizes}
-use Rattle.log.proofs.Held.{Bytes}
+use Rattle.record.specs.Part.{Bytes}
 use Rattle.log.proofs.Calls.{met, refused, acted-is}
 use Rattle.request.proofs.Laws.{asked-5, asked-ok, own-names, request-room}
 
@@ -21,25 +21,19 @@ returns c = let z = c .before .before .before .before .before in
     let t = a .t .now in
     met (asked-5 (a .n) (a .s) (a .c) t (a .out .now) (a .k) (c .before .lowest-blank .ensures .0) (c .if1 .taken)) (refused why.Full _ _)
 
-place-of-requires : tie.Need-place-of-requires
-place-of-requires c κs = let z = c .before .before .before .before .before in
-    let a = z .args in
-    let t = a .t .now in
-    own-names _ _ _ _ (a .out .now) (z .pre .passed) _ (c .before .lowest-blank .ensures .1) (c .if1 .left)
-
 request-at-requires : tie.Need-request-at-requires
-request-at-requires c κs = let z = c .before .before .before .before .before .before .before in
+request-at-requires c κs = let z = c .before .before .before .before .before .before in
     let a = z .args in
     let t = a .t .now in
-    (sizes _ _ _ _ (z .pre .passed .setup), c .before .before .if1 .left, c .before .before .before .lowest-blank .ensures .0)
+    (sizes _ _ _ _ (z .pre .passed .setup), c .before .if1 .left, c .before .before .lowest-blank .ensures .0)
 
 act-requires : tie.Need-act-requires
-act-requires c κs = let z = c .before .before .before .before .before .before .before .before .before .before in
+act-requires c κs = let z = c .before .before .before .before .before .before .before .before .before in
     let a = z .args in
     let t = a .t .now in
     let sz = sizes _ _ _ _ (z .pre .passed .setup) in
-    let bt : Bytes t = λ i. omega (arith, c .before .before .before .before .before .before .before .before .before .slice-known .given i) in
-    (omega (arith, sz .long, c .before .before .before .before .place-of .ensures .1), z .pre .passed .long, rw (c .before .before .request-at .ensures) (request-room _ _ _ _ (a .out .now) (a .k) (z .pre) bt (c .before .before .before .before .before .before .lowest-blank .ensures .0) (c .before .before .before .before .before .if1 .left)))
+    let bt : Bytes t = λ i. omega (arith, c .before .before .before .before .before .before .before .before .slice-known .given i) in
+    (record { names = own-names _ _ _ _ (a .out .now) (z .pre .passed) _ (c .before .before .before .before .before .lowest-blank .ensures .1) (c .before .before .before .before .if1 .left); long = sz .long }, z .pre .passed .long, rw (c .before .before .request-at .ensures) (request-room _ _ _ _ (a .out .now) (a .k) (z .pre) bt (c .before .before .before .before .before .lowest-blank .ensures .0) (c .before .before .before .before .if1 .left)))
 
 same-length-2 : tie.Need-same-length-2
 same-length-2 c = search needs
@@ -48,11 +42,11 @@ same-length-3 : tie.Need-same-length-3
 same-length-3 c = search needs
 
 returns-2 : tie.Need-returns-2
-returns-2 c = let z = c .before .before .before .before .before .before .before .before .before .before .before .before .before .before .before in
+returns-2 c = let z = c .before .before .before .before .before .before .before .before .before .before .before .before .before .before in
     let a = z .args in
     let t = a .t .now in
     let w = c .before .before .before .before .act .ensures in
-    met (asked-ok (a .n) (a .s) (a .c) t (a .out .now) (a .k) (c .before .before .before .before .before .before .before .before .before .before .before .lowest-blank .ensures .0) (c .before .before .before .before .before .before .before .before .before .before .if1 .left)) (acted-is (a .s) t (a .out .now) _ _ (c .before .before .before .before .before .before .before .request-at .ensures) (c .before .before .before .before .before .before .before .before .before .place-of .ensures .0) (w .0) (w .1 .0) (w .1 .1))
+    met (asked-ok (a .n) (a .s) (a .c) t (a .out .now) (a .k) (c .before .before .before .before .before .before .before .before .before .before .lowest-blank .ensures .0) (c .before .before .before .before .before .before .before .before .before .if1 .left)) (acted-is (a .s) t (a .out .now) _ _ (c .before .before .before .before .before .before .before .request-at .ensures) (w .0) (w .1 .0) (w .1 .1))
 
 pub ask-spec : {M : Type 1} → statement M
 ask-spec =
@@ -61,7 +55,6 @@ ask-spec =
     lowest-blank-requires
     same-length
     returns
-    place-of-requires
     request-at-requires
     act-requires
     same-length-2

@@ -1,12 +1,10 @@
 use borrow.Author.Needs.{needs}
 use Rattle.request.proofs.lowest.is_untouched.Statement.{statement}
 use Rattle.request.proofs.lowest.is_untouched.Tie as tie
-use Rattle.record.specs.Layout.{recordAt}
-use Rattle.codec.specs.Parts.{voteAt}
 use Rattle.request.specs.Request.{isUntouched}
 
-get-u32-requires : tie.Need-get-u32-requires
-get-u32-requires c κs = search needs
+joined-of-requires : tie.Need-joined-of-requires
+joined-of-requires c κs = search needs
 
 wide32-requires : tie.Need-wide32-requires
 wide32-requires c κs = search needs
@@ -14,8 +12,8 @@ wide32-requires c κs = search needs
 equal-requires : tie.Need-equal-requires
 equal-requires c κs = search needs
 
-get-u8-requires : tie.Need-get-u8-requires
-get-u8-requires c κs = search needs
+status-of-requires : tie.Need-status-of-requires
+status-of-requires c κs = search needs
 
 wide8-requires : tie.Need-wide8-requires
 wide8-requires c κs = search needs
@@ -23,8 +21,8 @@ wide8-requires c κs = search needs
 equal-requires-2 : tie.Need-equal-requires-2
 equal-requires-2 c κs = search needs
 
-get-u8-requires-2 : tie.Need-get-u8-requires-2
-get-u8-requires-2 c κs = search needs
+phase-of-requires : tie.Need-phase-of-requires
+phase-of-requires c κs = search needs
 
 wide8-requires-2 : tie.Need-wide8-requires-2
 wide8-requires-2 c κs = search needs
@@ -39,20 +37,20 @@ both-requires-2 : tie.Need-both-requires-2
 both-requires-2 c κs = search needs
 
 returns : tie.Need-returns
-unfolding isUntouched recordAt voteAt
+unfolding isUntouched
 returns c = cc
 
 pub is-untouched-spec : {M : Type 1} → statement M
 is-untouched-spec =
     tie.close
     (tie.spec
-    get-u32-requires
+    joined-of-requires
     wide32-requires
     equal-requires
-    get-u8-requires
+    status-of-requires
     wide8-requires
     equal-requires-2
-    get-u8-requires-2
+    phase-of-requires
     wide8-requires-2
     equal-requires-3
     both-requires

@@ -4,11 +4,16 @@ use Prim.Native.Nat.{ℕ, _+_, _-_}
 use native.Mathlib.Omega.{arith}
 use lib.ListN.{length}
 use borrow.Rule.Slice.PartMut.{putMid}
-use Rattle.record.specs.Layout.{recordBytes}
+use Rattle.num.specs.Num.{splice}
+use Rattle.record.specs.Layout.{recordLength, recordBytes}
+use Rattle.table.specs.Table.{putRecord}
 use Rattle.table.proofs.Laws.{put-splice}
 use borrow.Author.Needs.{needs}
-use Rattle.table.proofs.store.Statement.{statement}
-use Rattle.table.proofs.store.Tie as tie
+use Rattle.table.proofs.records.store.Statement.{statement}
+use Rattle.table.proofs.records.store.Tie as tie
+
+place-of-requires : tie.Need-place-of-requires
+place-of-requires c κs = search needs
 
 add-next : tie.Need-add-next
 add-next c = search needs
@@ -29,17 +34,20 @@ same-length : tie.Need-same-length
 same-length c = search needs
 
 returns : tie.Need-returns
+unfolding putRecord
 returns c =
     let w = c .before .before .write-record .ensures in
-    let e = c .before .before .before .before .before in
-    let at = e .args .at in
-    ap (λ (v : List ℕ). putMid at (at + 263 - at) (e .args .t .now) v) w
-    ∙ put-splice (e .args .t .now) at 263 (recordBytes (e .args .r)) (omega (arith, ap length w))
+    let p = c .before .before .before .before .place-of in
+    let e = c .before .before .before .before .before .before in
+    ap (λ (v : List ℕ). putMid (p .result) (p .result + recordLength - p .result) (e .args .t .now) v) w
+    ∙ put-splice (e .args .t .now) (p .result) recordLength (recordBytes (e .args .r)) (omega (arith, ap length w))
+    ∙ ap (λ (k : ℕ). splice (e .args .t .now) k (recordBytes (e .args .r))) (p .ensures .0)
 
 pub store-spec : {M : Type 1} → statement M
 store-spec =
     tie.close
     (tie.spec
+    place-of-requires
     add-next
     sub-write-record
     part-write-record-start

@@ -1,0 +1,14 @@
+use borrow.Author.Needs.{needs}
+use Rattle.record.specs.Layout.{recordAt}
+use Rattle.record.proofs.fields.phase_in.Statement.{statement}
+use Rattle.record.proofs.fields.phase_in.Tie as tie
+
+get-u8-requires : tie.Need-get-u8-requires
+get-u8-requires c κs = search needs
+
+returns : tie.Need-returns
+unfolding recordAt
+returns c = c .get-u8 .ensures
+
+pub phase-in-spec : {M : Type 1} → statement M
+phase-in-spec = tie.close (tie.spec get-u8-requires returns)
