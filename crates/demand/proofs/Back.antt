@@ -24,7 +24,7 @@ use Rattle.rules.specs.Nudge.{nothingToNudge}
 use Rattle.rules.specs.Events.{requestNumber, onRequest, onMessage, onRecover, onNudge, messages}
 use Rattle.rules.specs.Order.{candidate, nextOut, codeOf, found, handOut}
 use Rattle.wire.specs.Wire.{messageAt, messageBytes}
-use Rattle.table.specs.Table.{blankTable, recordIn}
+use Rattle.table.specs.Table.{blankTable, recordIn, Kept}
 use Rattle.seen.specs.Records.{recordsIn}
 use Rattle.paper.specs.Fits.{CommandFits, MessageFits}
 use Rattle.closed.proofs.Heard.{valid-instance}
@@ -32,6 +32,7 @@ use Rattle.closed.proofs.Mark.{Found, nextOut-found}
 use Rattle.log.specs.Out.{outBytes}
 use Rattle.log.specs.Events.{Outcome, asked, receiveOpen, recoverOpen, nudgeOpen, answerNumber}
 use Rattle.log.specs.Events as log
+use Rattle.log.proofs.Calls.{setup-of}
 use Rattle.log.proofs.Held.{out-short}
 use Rattle.order.specs.declared.Handing.the-variants.{Codes}
 use Rattle.order.specs.Calls.{settled, handedCodes, handed}
@@ -40,7 +41,6 @@ use Rattle.safety.specs.Run as rules
 use Rattle.safety.proofs.Runs.{history-more}
 use Rattle.demand.specs.Run.{Copy, savedTable, State, begun, Start, blanks, Call, request, receive, recover, nudge, outcome, Possible, written, acted, handing, marking, restarted, changed, remembered, Move, event, leave, question, cut, Run, stay, further}
 use Rattle.demand.specs.Run.{mark as mv-mark, handOut as mv-handOut}
-use Rattle.demand.proofs.Saved.{Kept, setup-of}
 use Rattle.demand.proofs.Range.{number-alike, next-alike}
 use Rattle.demand.proofs.Records.{records, at-range, alike, setup-at}
 use Rattle.demand.proofs.Written.{reads, Carried, carried-more, mapped, message-carried, written-is}

@@ -8,7 +8,6 @@ use mathlib.Core.List.{List, [], _∷_, _++_, map, map-append, List·Memᴰ, Lis
 use lib.Dec.{eqb}
 use lib.ListN.{length}
 use borrow.Author.Tests.{eqb-true, eqb-false, eq-eqb, ne-eqb}
-use Rattle.num.specs.Num.{splice}
 use Rattle.paper.specs.Setup.{setupOk}
 use Rattle.paper.specs.Instance.{instanceOk}
 use Rattle.paper.specs.Vote.{blank}
@@ -20,14 +19,14 @@ use Rattle.rules.specs.Seen.{Records}
 use Rattle.rules.specs.Events.{put, messages}
 use Rattle.rules.specs.Order.{nextOut, mark}
 use Rattle.wire.specs.Wire.{messageBytes}
-use Rattle.table.specs.Place.{placeOf}
-use Rattle.table.specs.Table.{blankTable, recordIn, putRecord}
+use Rattle.table.specs.Table.{blankTable, recordIn, putRecord, Kept}
 use Rattle.seen.specs.Records.{recordsIn}
 use Rattle.closed.specs.Held.{Closed}
 use Rattle.log.specs.Out.{outBytes}
 use Rattle.log.specs.declared.Answer.the-variants.{Event}
 use Rattle.log.specs.Events.{Outcome, answerNumber, answerOwner, answerInstance, answerWritten}
 use Rattle.log.specs.Events as log
+use Rattle.log.proofs.Calls.{setup-of}
 use Rattle.log.proofs.Held.{out-short}
 use Rattle.order.specs.declared.Handing.the-variants.{Codes}
 use Rattle.order.specs.Calls.{settled, markIn, handed}
@@ -35,11 +34,10 @@ use Rattle.safety.specs.Run.{Instance, Happening, answered, Setup, replaced}
 use Rattle.safety.specs.Run as rules
 use Rattle.demand.specs.Run.{Copy, savedTable, State, begun, Start, blanks, Call, request, receive, recover, nudge, outcome, Possible, recorded, written, saveOf, stored, acted, handing, marking, restarted, changed, remembered, Move, event, leave, handOut, question, cut, Run, stay, further}
 use Rattle.demand.specs.Run.{mark as mv-mark}
-use Rattle.demand.proofs.Saved.{Kept, setup-of, blank-kept, put-own, put-kept}
 use Rattle.demand.proofs.Range.{SameVotes, next-alike}
-use Rattle.demand.proofs.Records.{records, at-range, alike, setup-at, blank-records, put-records}
+use Rattle.demand.proofs.Records.{records, at-range, alike, setup-at, blank-table, blank-records, saved-record, put-held, put-here, put-records}
 use Rattle.demand.proofs.Written.{Carried, carried-more, sent-carried, written-is}
-use Rattle.demand.proofs.Handing.{Pending, part-at, none-pending, all-saved, left, hand-vote, listed-pending, Marked, marked-next, mark-kept, mark-records}
+use Rattle.demand.proofs.Handing.{Pending, none-pending, all-saved, left, hand-vote, listed-pending, Marked, marked-next, mark-kept, mark-records}
 use Rattle.demand.proofs.History.{heard, recorded-heard, settled-heard}
 use Rattle.demand.proofs.Steps.{Brought, ownerIn, numberIn, stepIn, moved, Stepped, stepped}
 
@@ -101,7 +99,7 @@ module _ (n s : ℕ) (setup : Setup n s) where
         copies = λ q.
             record {
               table = sym (blank-records n s setup q);
-              kept = λ l. blank-kept n s q (setup-at n s setup q l);
+              kept = λ l. blank-table n s setup q l;
               pending = none-pending n s (blankTable n s q) (blankTable n s q) refl;
               leaving = λ b i. absurd (List·Memᴰ·not-nil i);
               marks = refl;
@@ -135,8 +133,8 @@ module _ (n s : ℕ) (setup : Setup n s) where
     part-saved : (t : List ℕ) (o j : ℕ) (e : Step) → Kept n s c t → instanceOk n s o j ≡ true → Closed n s c o e
         → stored s t (saveOf n s c (putRecord s t o j (e .entry)) o j) ≡ putRecord s t o j (e .entry)
     part-saved t o j e h i d =
-        ap (splice t (placeOf s o j))
-        (part-at n s c (putRecord s t o j (e .entry)) (put-kept n s c t h o j i (e .entry) (d .held)) o j i ∙ put-own n s c t h o j i (e .entry) (d .held))
+        saved-record n s c (putRecord s t o j (e .entry)) (put-held n s c t h o j i (e .entry) (d .held)) t o j i
+        ∙ ap (putRecord s t o j) (put-here n s c t h o j i (e .entry) (d .held))
 
     -- the instance and the step of a call here
     abbrev ownerOf : Call → ℕ
@@ -201,7 +199,7 @@ module _ (n s : ℕ) (setup : Setup n s) where
                   table = here-is (y .tables) c (put (y .tables c) (ownerOf call) (numberOf call) (e .entry))
                       ∙ ap (λ (f : Records). put f (ownerOf call) (numberOf call) (e .entry)) (side .table)
                       ∙ sym (ap (records n s) saved-is ∙ put-records n s c (savedTable k) here (ownerOf call) (numberOf call) (st .range) (e .entry) (st .closed .held));
-                  kept = λ l. subst (Kept n s c) (sym saved-is) (put-kept n s c (savedTable k) here (ownerOf call) (numberOf call) (st .range) (e .entry) (st .closed .held));
+                  kept = λ l. subst (Kept n s c) (sym saved-is) (put-held n s c (savedTable k) here (ownerOf call) (numberOf call) (st .range) (e .entry) (st .closed .held));
                   pending = none-pending n s (savedTable (host call out)) (host call out .lent) (lent-is ∙ sym saved-is);
                   leaving = λ b i.
                       ⊎-elim (λ (w : List·Memᴰ b (k .leaving)). carried-more n s (y .sent) (z .sent) b more (side .leaving b w))

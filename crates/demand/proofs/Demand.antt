@@ -28,7 +28,7 @@ use Rattle.rules.specs.Nudge.{nothingToNudge}
 use Rattle.rules.specs.Events.{requestNumber}
 use Rattle.rules.specs.Order.{found, firstOpen}
 use Rattle.wire.specs.Wire.{messageAt, validBytes, framed, opFits}
-use Rattle.table.specs.Table.{recordIn}
+use Rattle.table.specs.Table.{recordIn, Kept}
 use Rattle.seen.specs.Records.{recordsIn}
 use Rattle.closed.proofs.Laws.{by-cond, tf}
 use Rattle.closed.proofs.Heard.{valid-instance}
@@ -43,7 +43,6 @@ use Rattle.safety.specs.Demand as rules-demand
 use Rattle.safety.proofs.Demand as rules-proved
 use Rattle.demand.specs.Run.{savedTable, State, Start, Call, request, receive, recover, nudge, outcome, Run, stay}
 use Rattle.demand.specs.Demand.{Committed, Unrefused, Lasting, Demand}
-use Rattle.demand.proofs.Saved.{Kept}
 use Rattle.demand.proofs.Records.{at-range}
 use Rattle.demand.proofs.Handing.{sound-judged}
 use Rattle.demand.proofs.History.{requested-heard}

@@ -7,42 +7,33 @@ use native.Mathlib.Omega.{arith}
 use lib.ListN.{length, take, drop, getD}
 use lib.Dec.{eqb}
 use borrow.Author.Tests.{eqb-true, not-true}
-use Rattle.num.specs.Num.{splice}
 use Rattle.num.proofs.Laws.{splice-same}
 use Rattle.paper.specs.Instance.{instanceOk}
 use Rattle.paper.specs.declared.Record.{Record}
-use Rattle.record.specs.Layout.{recordBytes}
 use Rattle.rules.specs.declared.First.{First}
 use Rattle.rules.specs.declared.First.the-variants.{At, Nowhere}
 use Rattle.rules.specs.Seen.{Records}
 use Rattle.rules.specs.Events.{put}
 use Rattle.rules.specs.Order.{isSettled, isMarked, candidate, marked, mark, nextOut, codeOf, found, handOut}
-use Rattle.table.specs.Place.{placeOf, partAt}
-use Rattle.table.specs.Table.{fits, recordIn}
-use Rattle.table.specs.Calls.{judged, partOf}
+use Rattle.table.specs.Table.{recordIn, putRecord, Kept}
+use Rattle.table.specs.Calls.{judged}
 use Rattle.table.specs.declared.Judging.the-variants as judging
-use Rattle.table.proofs.Laws.{sizes, names}
-use Rattle.table.proofs.Round.{put-part}
+use Rattle.table.proofs.Laws.{names}
 use Rattle.seen.specs.Records.{recordsIn}
 use Rattle.closed.specs.Held.{Held}
-use Rattle.closed.proofs.Laws.{two, three, tf, eqb-self}
+use Rattle.closed.proofs.Laws.{two, three, tf}
 use Rattle.closed.proofs.Mark.{marked-held, Found, candidate-committed, nextOut-found}
 use Rattle.order.specs.Calls.{markIn, handedTable, handedCodes, handedOpen, handed}
 use Rattle.order.specs.declared.Handing.{Handing}
 use Rattle.order.specs.declared.Handing.the-variants.{Codes}
 use Rattle.order.specs.declared.Handing.the-variants as handing
 use Rattle.demand.specs.Run.{saveOf, stored}
-use Rattle.demand.proofs.Saved.{Kept, put-own, put-kept}
 use Rattle.demand.proofs.Range.{Alike, out-alike}
-use Rattle.demand.proofs.Records.{records, at-range, held, put-records}
+use Rattle.demand.proofs.Records.{records, at-range, held, saved-record, put-held, put-here, put-other, put-records}
 
 pub sound-judged : (n s c : ℕ) (t : List ℕ) → Kept n s c t → judged n s c t ≡ judging.Sound
 unfolding judged
 sound-judged n s c t k = rw (k .setup, k .sound)
-
-pub part-at : (n s c : ℕ) (t : List ℕ) → Kept n s c t → (o j : ℕ) → instanceOk n s o j ≡ true → partOf n s c t o j ≡ partAt t (placeOf s o j)
-unfolding partOf
-part-at n s c t k o j i = rw (k .setup, i)
 
 -- a mark of a sound table, on what it hands out next
 module _ (n s c : ℕ) (t : List ℕ) (k : Kept n s c t) (o j : ℕ) (f : Found n s (candidate n s (recordsIn s t)) (At o j)) where
@@ -51,7 +42,7 @@ module _ (n s c : ℕ) (t : List ℕ) (k : Kept n s c t) (o j : ℕ) (f : Found 
 
   pub mark-kept : Kept n s c (markIn s t o j)
   unfolding markIn
-  mark-kept = put-kept n s c t k o j (f .0) (marked (recordIn s t o j)) mark-held
+  mark-kept = put-held n s c t k o j (f .0) (marked (recordIn s t o j)) mark-held
 
   pub mark-records : records n s (markIn s t o j) ≡ mark (records n s t) o j
   unfolding markIn
@@ -65,16 +56,15 @@ module _ (n s c : ℕ) (t : List ℕ) (k : Kept n s c t) (o j : ℕ) (f : Found 
       let a : recordIn s (markIn s t o j) p i ≡ mark (records n s t) o j p i = sym (at-range n s (markIn s t o j) p i z) ∙ ap (λ (u : Records). u p i) mark-records in
       sym (a ∙ rw (at-range n s t o j (f .0), at-range n s t p i z))
 
-  mark-part : partAt (markIn s t o j) (placeOf s o j) ≡ recordBytes (marked (recordIn s t o j))
+  mark-here : recordIn s (markIn s t o j) o j ≡ marked (recordIn s t o j)
   unfolding markIn
-  mark-part = put-own n s c t k o j (f .0) (marked (recordIn s t o j)) mark-held
+  mark-here = put-here n s c t k o j (f .0) (marked (recordIn s t o j)) mark-held
 
-  -- what was marked before is another instance, and its part stays
-  mark-frame : (p i : ℕ) → instanceOk n s p i ≡ true → isMarked (recordIn s t p i) ≡ true → partAt (markIn s t o j) (placeOf s p i) ≡ partAt t (placeOf s p i)
+  -- what was marked before is another instance, and its record stays
+  mark-frame : (p i : ℕ) → instanceOk n s p i ≡ true → isMarked (recordIn s t p i) ≡ true → recordIn s (markIn s t o j) p i ≡ recordIn s t p i
   unfolding markIn candidate
   mark-frame p i z m =
-      put-part n s t (sizes n s c t (k .setup) .long) o j (names n s c t o j (k .setup) (f .0)) (marked (recordIn s t o j)) (mark-held .fits .seven) p i
-      (names n s c t p i (k .setup) z)
+      put-other n s c t k o j (f .0) (marked (recordIn s t o j)) mark-held p i z
       (λ (x, y). let u : isMarked (recordIn s t o j) ≡ true = rw (x, y) m in tf _ u (not-true _ (three (isSettled n s (recordsIn s t) o j) (not (isMarked (recordIn s t o j))) _ (f .1) .1)))
 
   -- the hand-out goes on from there
@@ -87,10 +77,10 @@ module _ (n s c : ℕ) (t : List ℕ) (k : Kept n s c t) (o j : ℕ) (f : Found 
   next-codes room e =
       rw e (ap (λ (l : List ℕ). codeOf o j ∷ l) (out-alike n s room (mark (recordsIn s t) o j) (recordsIn s (markIn s t o j)) mark-alike))
 
--- it leaves a sound table, and the part of what is marked already
+-- it leaves a sound table, and the record of what is marked already
 pub record Left (n s c : ℕ) (t u : List ℕ) : Type 0 where
   pub kept : Kept n s c u
-  pub frame : (p i : ℕ) → instanceOk n s p i ≡ true → isMarked (recordIn s t p i) ≡ true → partAt u (placeOf s p i) ≡ partAt t (placeOf s p i)
+  pub frame : (p i : ℕ) → instanceOk n s p i ≡ true → isMarked (recordIn s t p i) ≡ true → recordIn s u p i ≡ recordIn s t p i
 
 pub left : (room n s c : ℕ) (t : List ℕ) → Kept n s c t → Left n s c t (handedTable room n s t)
 unfolding handedTable
@@ -136,10 +126,6 @@ module _ (n s : ℕ) where
       go Nowhere f more = refl
       go (At p q) f more = more (markIn s t p q) (mark-kept n s c t k p q f) ∙ mark-vote c t k p q f o j i
 
-at-mark : (x : Records) (o j : ℕ) → isMarked (mark x o j o j) ≡ true
-unfolding put
-at-mark x o j = rw (eqb-self o, eqb-self j)
-
 -- the first mark of a hand-out, saved, is one mark of the saved table
 pub save-mark : (n s c : ℕ) (t : List ℕ) (k : Kept n s c t) (o j : ℕ) (f : Found n s (candidate n s (recordsIn s t)) (At o j)) (room : ℕ)
     → nextOut n s (recordsIn s t) ≡ At o j → stored s t (saveOf n s c (handedTable (suc room) n s t) o j) ≡ markIn s t o j
@@ -147,13 +133,10 @@ unfolding markIn
 save-mark n s c t k o j f room e =
     let u : List ℕ = markIn s t o j in
     let l = left room n s c u (mark-kept n s c t k o j f) in
-    let p : partAt u (placeOf s o j) ≡ recordBytes (marked (recordIn s t o j)) = mark-part n s c t k o j f in
-    let m : isMarked (recordIn s u o j) ≡ true =
-    ap isMarked (sym (at-range n s u o j (f .0)) ∙ ap (λ (x : Records). x o j) (mark-records n s c t k o j f)) ∙ at-mark (records n s t) o j in
-    let q : partOf n s c (handedTable (suc room) n s t) o j ≡ recordBytes (marked (recordIn s t o j)) =
-    ap (λ (x : List ℕ). partOf n s c x o j) (next-table n s c t k o j f room e) ∙ part-at n s c (handedTable room n s u) (l .kept) o j (f .0)
-    ∙ l .frame o j (f .0) m ∙ p in
-    ap (splice t (placeOf s o j)) q
+    let here : recordIn s u o j ≡ marked (recordIn s t o j) = mark-here n s c t k o j f in
+    let r : recordIn s (handedTable room n s u) o j ≡ marked (recordIn s t o j) = l .frame o j (f .0) (ap isMarked here) ∙ here in
+    ap (λ (x : List ℕ). stored s t (saveOf n s c x o j)) (next-table n s c t k o j f room e) ∙ saved-record n s c (handedTable room n s u) (l .kept) t o j (f .0)
+    ∙ ap (putRecord s t o j) r
 
 -- what a copy's host has in memory beside what it saved: a hand-out of so many places, of which nothing is saved yet
 pub record Pending (n s : ℕ) (saved lent listed : List ℕ) : Type 0 where

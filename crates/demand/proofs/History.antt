@@ -11,7 +11,7 @@ use Rattle.rules.specs.declared.First.{First}
 use Rattle.rules.specs.declared.First.the-variants.{At, Nowhere}
 use Rattle.rules.specs.Seen.{Records}
 use Rattle.rules.specs.Order.{found, firstOpen}
-use Rattle.table.specs.Table.{recordIn}
+use Rattle.table.specs.Table.{recordIn, Kept}
 use Rattle.seen.specs.Records.{recordsIn}
 use Rattle.closed.proofs.Laws.{clash}
 use Rattle.order.specs.declared.Settling.{Settling}
@@ -20,7 +20,6 @@ use Rattle.order.specs.Calls.{settledOpen, settled}
 use Rattle.safety.specs.Run.{Happening, requested, answered}
 use Rattle.safety.specs.Run as rules
 use Rattle.demand.specs.Run.{Call, request, receive, recover, nudge, recorded}
-use Rattle.demand.proofs.Saved.{Kept}
 use Rattle.demand.proofs.Range.{SameVotes, open-alike}
 use Rattle.demand.proofs.Handing.{sound-judged}
 

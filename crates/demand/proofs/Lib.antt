@@ -1,6 +1,5 @@
 -- Demand 3 over bytes is proved in three floors.
 -- Bytes: sound tables, their records, what an event writes, and what a hand-out leaves to be saved.
-pub mod Saved
 pub mod Range
 pub mod Records
 pub mod Written

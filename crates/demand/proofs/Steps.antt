@@ -28,7 +28,7 @@ use Rattle.rules.specs.Nudge.{nothingToNudge}
 use Rattle.rules.specs.Events.{put, requestNumber, onRequest, onMessage, onRecover, onNudge, messages}
 use Rattle.rules.proofs.Rests.{blank-above}
 use Rattle.wire.specs.Wire.{messageAt, validBytes, framed, opFits}
-use Rattle.table.specs.Table.{fits, recordIn}
+use Rattle.table.specs.Table.{recordIn, Kept}
 use Rattle.seen.specs.Records.{recordsIn}
 use Rattle.paper.specs.Fits.{CommandFits}
 use Rattle.closed.specs.Held.{Closed}
@@ -39,10 +39,10 @@ use Rattle.log.specs.declared.Gate.{Gate}
 use Rattle.log.specs.declared.Gate.the-variants.{Open, Shut}
 use Rattle.log.specs.declared.Answer.the-variants.{Event}
 use Rattle.log.specs.Events.{Outcome, refuse, acted, gateOf, gated, through, commandOf, opTaken, asked, requestOpen, receiveOpen, recoverOpen, nudgeOpen, answerNumber}
+use Rattle.log.proofs.Calls.{setup-of}
 use Rattle.safety.specs.Run.{replaced}
 use Rattle.safety.specs.Run as rules
 use Rattle.demand.specs.Run.{Call, request, receive, recover, nudge, outcome, PublicRequest, recorded}
-use Rattle.demand.proofs.Saved.{Kept, setup-of}
 use Rattle.demand.proofs.Range.{in-range, number-alike, request-alike, message-alike, recover-alike, nudge-alike}
 use Rattle.demand.proofs.Records.{records, at-range, alike, held}
 use Rattle.demand.proofs.Written.{Carried}

@@ -5,14 +5,12 @@ use mathlib.Core.Path.{_≡_}
 use mathlib.Core.Bool.{false}
 use mathlib.Core.List.{List, [], _∷_, _++_, List·Memᴰ}
 use lib.ListN.{take, drop}
-use Rattle.num.specs.Num.{splice}
 use Rattle.paper.specs.Command.{isNoop}
 use Rattle.paper.specs.Fits.{CommandFits}
 use Rattle.paper.specs.declared.Command.{Command}
 use Rattle.wire.specs.Wire.{lengthOf, kindAt}
-use Rattle.table.specs.Place.{placeOf}
 use Rattle.table.specs.Table.{blankTable}
-use Rattle.table.specs.Calls.{partOf}
+use Rattle.table.specs.Calls.{partOf, putPart}
 use Rattle.log.specs.declared.Answer.the-variants.{Event}
 use Rattle.log.specs.Events.{Outcome, gated, commandOf, asked, received, recovered, nudged}
 use Rattle.log.specs.Events as log
@@ -112,7 +110,7 @@ saveOf n s c t o j = entry o j (partOf n s c t o j)
 
 -- the disk after a save
 abbrev pub stored : ℕ → List ℕ → Save → List ℕ
-stored s disk (entry o j part) = splice disk (placeOf s o j) part
+stored s disk (entry o j part) = putPart s disk o j part
 
 -- an event answered o.j and w bytes: its record is saved, and then its messages may leave
 abbrev pub acted : ℕ → ℕ → ℕ → Copy → Outcome → ℕ → ℕ → ℕ → Copy

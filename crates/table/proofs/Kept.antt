@@ -24,7 +24,7 @@ use Rattle.record.proofs.Round.{recordAt-recordBytes}
 use Rattle.record.proofs.Written.{Are, append, written-bytes, all-in, written-sound, blank-bytes}
 use Rattle.table.specs.Place.{headLength, tableLength, placeAt, placeOf, partAt}
 use Rattle.table.specs.Table.{fits, headOk, soundRow, soundTable, blankTable, recordIn, putRecord, Whole, Kept}
-use Rattle.table.specs.Calls.{partOf, partStart, savedPart}
+use Rattle.table.specs.Calls.{partOf, putPart}
 use Rattle.table.specs.Sizes.{Names}
 use Rattle.table.proofs.Laws.{sizes, names, place-end, setup-bounds}
 use Rattle.table.proofs.Round.{put-long, put-own, put-part, put-frame, sound-at}
@@ -96,10 +96,10 @@ module _ (n s c : ℕ) (t : List ℕ) (k : Kept n s c t) (o j : ℕ) (i : instan
     sound = sound-in n s c _ (head-stays ∙ and-true _ _ (k .sound) .0) (λ p q lp l1 ls. part p q lp l1 ls (ℕ-discrete o p) (ℕ-discrete j q));
   }
 
--- what is saved of o.j is the record that stands in the table
+-- what is saved of o.j is the record that stands in the table t
 pub saved-is : (n s c : ℕ) (disk t : List ℕ) (o j : ℕ) → fits n s c t ≡ true → instanceOk n s o j ≡ true → Whole s t o j
-    → savedPart n s c disk t o j ≡ putRecord s disk o j (recordIn s t o j)
-unfolding savedPart partStart partOf putRecord Whole
+    → putPart s disk o j (partOf n s c t o j) ≡ putRecord s disk o j (recordIn s t o j)
+unfolding putPart partOf putRecord Whole
 saved-is n s c disk t o j f i w = rw (f, i) (ap (splice disk (placeOf s o j)) (sym w))
 
 zero-at : (k i : ℕ) → _≡_ {A = ℕ} (getD (replicate k 0) i 0) 0

@@ -42,9 +42,9 @@ partLength n s c t o j = cond (fits n s c t && instanceOk n s o j) recordLength 
 unfoldable pub lengthOf : ℕ → ℕ → ℕ
 lengthOf n s = cond (setupOk n s 0) (tableLength n s) 0
 
--- a saved table once the part of o.j, as it stands in the table t, is saved whole
-unfoldable pub savedPart : ℕ → ℕ → ℕ → List ℕ → List ℕ → ℕ → ℕ → List ℕ
-savedPart n s c disk t o j = splice disk (partStart n s c t o j) (partOf n s c t o j)
+-- a table with a part of o.j, as it was handed back for saving, in its place
+unfoldable pub putPart : ℕ → List ℕ → ℕ → ℕ → List ℕ → List ℕ
+putPart s t o j part = splice t (placeOf s o j) part
 
 -- the paper's number of an answer, 0 for none
 abbrev pub blankingNumber : Blanking → ℕ
