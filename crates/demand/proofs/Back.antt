@@ -72,29 +72,29 @@ module _ (n s : ℕ) (setup : Setup n s) where
   run-on r (further q m) = further (run-on r q) m
 
   -- messages leave one after the other
-  record Gone (x : State) (bs : List (List ℕ)) : Type 0 where
+  record Gone (x : State) (strings : List (List ℕ)) : Type 0 where
     later : State
     run : Run n s x later
     copies : later .copies ≡ x .copies
     history : later .history ≡ x .history
     old : (b : List ℕ) → List·Memᴰ b (x .sent) → List·Memᴰ b (later .sent)
-    new : (b : List ℕ) → List·Memᴰ b bs → List·Memᴰ b (later .sent)
-    only : (b : List ℕ) → List·Memᴰ b (later .sent) → List·Memᴰ b (x .sent) ⊎ List·Memᴰ b bs
+    new : (b : List ℕ) → List·Memᴰ b strings → List·Memᴰ b (later .sent)
+    only : (b : List ℕ) → List·Memᴰ b (later .sent) → List·Memᴰ b (x .sent) ⊎ List·Memᴰ b strings
 
-  go-out : (x : State) (c : ℕ) → c < n → (bs : List (List ℕ)) → ((b : List ℕ) → List·Memᴰ b bs → List·Memᴰ b (x .copies c .leaving)) → Gone x bs
+  go-out : (x : State) (c : ℕ) → c < n → (strings : List (List ℕ)) → ((b : List ℕ) → List·Memᴰ b strings → List·Memᴰ b (x .copies c .leaving)) → Gone x strings
   go-out x c l [] h = record { later = x; run = stay; copies = refl; history = refl; old = λ b i. i; new = λ b i. absurd (List·Memᴰ·not-nil i); only = λ b i. inl i }
-  go-out x c l (b ∷ bs) h =
-      let r = go-out x c l bs (λ d i. h d (List·Memᴰ·tail i)) in
+  go-out x c l (b ∷ strings) h =
+      let r = go-out x c l strings (λ d i. h d (List·Memᴰ·tail i)) in
       record {
         later = record { copies = r .later .copies; sent = r .later .sent ++ b ∷ []; history = r .later .history };
         run = further (r .run) (leave c b l (rw (r .copies) (h b (List·Memᴰ·head refl))));
         copies = r .copies;
         history = r .history;
         old = λ d i. Memᴰ·append-left (b ∷ []) (r .old d i);
-        new = λ d i. ⊎-elim (λ (e : d ≡ b). Memᴰ·append-right (r .later .sent) (List·Memᴰ·head e)) (λ (k : List·Memᴰ d bs). Memᴰ·append-left (b ∷ []) (r .new d k)) (List·Memᴰ·cases-cons i);
+        new = λ d i. ⊎-elim (λ (e : d ≡ b). Memᴰ·append-right (r .later .sent) (List·Memᴰ·head e)) (λ (k : List·Memᴰ d strings). Memᴰ·append-left (b ∷ []) (r .new d k)) (List·Memᴰ·cases-cons i);
         only = λ d i.
             ⊎-elim
-            (λ (k : List·Memᴰ d (r .later .sent)). ⊎-elim (λ (a : List·Memᴰ d (x .sent)). inl a) (λ (a : List·Memᴰ d bs). inr (List·Memᴰ·tail a)) (r .only d k))
+            (λ (k : List·Memᴰ d (r .later .sent)). ⊎-elim (λ (a : List·Memᴰ d (x .sent)). inl a) (λ (a : List·Memᴰ d strings). inr (List·Memᴰ·tail a)) (r .only d k))
             (λ (k : List·Memᴰ d (b ∷ [])). inr (List·Memᴰ·head (List·Memᴰ·eq-of-singleton k)))
             (List·Memᴰ·append-cases (r .later .sent) i);
       }
@@ -117,29 +117,29 @@ module _ (n s : ℕ) (setup : Setup n s) where
     event-back : (call : Call) → Possible x call → Brought n s (y .sent) call → answerNumber (outcome n s c (savedTable k) room call .answer) ≡ 0
         → (l : List Message) → rules.Among l (messages (stepIn n s c (y .tables c) call)) → Back x (moved n s y c call l)
     unfolding log.acted
-    event-back call poss br ans l am =
+    event-back call possible brought answer-is l among =
         let t = f .tie in
         let o : ℕ = ownerIn c call in
         let j : ℕ = numberIn s c (y .tables c) call in
         let e : Step = stepIn n s c (y .tables c) call in
-        let st = stepped n s c (savedTable k) room kept copy y (t .copies c .table) call br ans in
+        let st = stepped n s c (savedTable k) room kept copy y (t .copies c .table) call brought answer-is in
         let p = setup-of n s c (savedTable k) (kept .setup) in
-        let res : outcome n s c (k .lent) room call ≡ log.acted s (savedTable k) room o j e = ap (λ (v : List ℕ). outcome n s c v room call) memory ∙ st .is in
+        let result : outcome n s c (k .lent) room call ≡ log.acted s (savedTable k) room o j e = ap (λ (v : List ℕ). outcome n s c v room call) memory ∙ st .is in
         let x₁ : State = after n s setup x y t c copy call room in
-        let first : Move n s x x₁ = event c call room o j (length (outBytes e)) copy poss (f .saved c) (ap (λ (z : Outcome). z .answer) res) in
+        let first : Move n s x x₁ = event c call room o j (length (outBytes e)) copy possible (f .saved c) (ap (λ (z : Outcome). z .answer) result) in
         let tie₁ : Tie n s setup x₁ (moved n s y c call (messages e)) = event-tie n s setup x y t c copy call room st memory in
         let wrote : written (length (outBytes e)) (outcome n s c (k .lent) room call .out) ≡ map messageBytes (messages e) =
-        ap (λ (z : Outcome). written (length (outBytes e)) (z .out)) res ∙ written-is e room (st .long) (out-short n s c p e (st .closed .sent)) in
-        let bs : List (List ℕ) = map messageBytes l in
-        let ready : (b : List ℕ) → List·Memᴰ b bs → List·Memᴰ b (x₁ .copies c .leaving) =
+        ap (λ (z : Outcome). written (length (outBytes e)) (z .out)) result ∙ written-is e room (st .long) (out-short n s c p e (st .closed .sent)) in
+        let strings : List (List ℕ) = map messageBytes l in
+        let ready : (b : List ℕ) → List·Memᴰ b strings → List·Memᴰ b (x₁ .copies c .leaving) =
         λ b i.
         let g = mapped l b i in
         rw (here-is n s setup (x .copies) c (acted n s c k (outcome n s c (k .lent) room call) o j (length (outBytes e))), g .is)
-        (Memᴰ·append-right (k .leaving) (rw wrote (in-map (messages e) (g .message) (am (g .message) (g .among))))) in
-        let r = go-out x₁ c copy bs ready in
+        (Memᴰ·append-right (k .leaving) (rw wrote (in-map (messages e) (g .message) (among (g .message) (g .among))))) in
+        let r = go-out x₁ c copy strings ready in
         let x₂ : State = r .later in
         let said : (m : Message) → List·Memᴰ m l → Carried n s (y .sent ++ l) (messageBytes m) × (messageAt (messageBytes m) ≡ m) =
-        λ m i. message-carried n s c (setup-at n s setup) p e (st .closed .sent) m (am m i) (y .sent ++ l) (Memᴰ·append-right (y .sent) i) in
+        λ m i. message-carried n s c (setup-at n s setup) p e (st .closed .sent) m (among m i) (y .sent ++ l) (Memᴰ·append-right (y .sent) i) in
         record {
           later = changed x₂ c (restarted (x₂ .copies c));
           run = further (run-on (further stay first) (r .run)) (cut c copy);
@@ -148,7 +148,7 @@ module _ (n s : ℕ) (setup : Setup n s) where
               copies = λ q. side (x₂ .copies) (moved n s y c call l) (λ i. rw (r .copies) (tie₁ .copies i .table)) (λ i. rw (r .copies) (tie₁ .copies i .kept)) (λ i. rw (r .copies) (tie₁ .copies i .pending)) (λ i. rw (r .copies) (tie₁ .copies i .marks)) (λ i ne. rw (r .copies, other-stays n s setup (x .copies) c _ i ne) (f .still i)) q;
               sent = λ b i.
                   ⊎-elim (λ (h : List·Memᴰ b (x .sent)). carried-more n s (y .sent) (y .sent ++ l) b (λ m z. Memᴰ·append-left l z) (t .sent b h))
-                  (λ (h : List·Memᴰ b bs). let g = mapped l b h in rw (g .is) (said (g .message) (g .among) .0)) (r .only b i);
+                  (λ (h : List·Memᴰ b strings). let g = mapped l b h in rw (g .is) (said (g .message) (g .among) .0)) (r .only b i);
               history = tie₁ .history ∙ sym (ap (map heard) (r .history));
             };
             still = λ q. quiet (x₂ .copies) (λ (z : Copy). z .leaving ≡ []) refl (λ i ne. rw (r .copies, other-stays n s setup (x .copies) c _ i ne) (f .still i)) q;
@@ -183,10 +183,10 @@ module _ (n s : ℕ) (setup : Setup n s) where
         let i : ℕ = length (handedCodes 1 n s d) in
         let e : nextOut n s (recordsIn s d) ≡ At o j = next-alike n s (recordsIn s d) (records n s d) (alike n s d) ∙ ap (nextOut n s) (sym (t .copies c .table)) ∙ next in
         let ok : Found n s (candidate n s (recordsIn s d)) (At o j) = rw e at (nextOut-found n s (recordsIn s d)) in
-        let ans : handed n s c (k .lent) one .answer ≡ Codes i = rw memory (hand-answers n s c d one kept) in
+        let answer-is : handed n s c (k .lent) one .answer ≡ Codes i = rw memory (hand-answers n s c d one kept) in
         let h : Copy = handing k (handed n s c (k .lent) one) i in
         let x₁ : State = changed x c h in
-        let tie₁ : Tie n s setup x₁ y = hand-tie n s setup x y t c copy one i (f .saved c) ans in
+        let tie₁ : Tie n s setup x₁ y = hand-tie n s setup x y t c copy one i (f .saved c) answer-is in
         let at : x₁ .copies c ≡ h = here-is n s setup (x .copies) c h in
         let codes : h .listed ≡ codeOf o j ∷ [] =
         ap (λ (v : List ℕ). take i (handed n s c v one .list)) memory ∙ listed-is n s c d one kept i (hand-answers n s c d one kept) ∙ next-codes n s c d kept o j ok 0 e in
@@ -198,7 +198,7 @@ module _ (n s : ℕ) (setup : Setup n s) where
         let tie₂ = mark-tie n s setup x₁ y tie₁ c copy (codeOf o j) [] m in
         record {
           later = changed x₁ c (marking n s c (x₁ .copies c) (codeOf o j) []);
-          run = further (further stay (mv-handOut c one i copy (f .saved c) ans)) (mv-mark c (codeOf o j) [] copy listed);
+          run = further (further stay (mv-handOut c one i copy (f .saved c) answer-is)) (mv-mark c (codeOf o j) [] copy listed);
           full = record {
             tie = rw (own, num) at tie₂;
             still = λ q. twice (λ (z : Copy). z .leaving ≡ []) h (marking n s c (x₁ .copies c) (codeOf o j) []) (ap (λ (z : Copy). z .leaving) at ∙ f .still c) (λ p. f .still p) q;
@@ -222,44 +222,44 @@ module _ (n s : ℕ) (setup : Setup n s) where
     request-back : (v : Command) → CommandFits v → isNoop v ≡ false → requestNumber s c (y .tables c) ≤ s → (l : List Message)
         → rules.Among l (messages (onRequest n s c (y .tables c) v)) → Back x (moved n s y c (request v) l)
     unfolding asked log.acted
-    request-back v fits noop small l am =
+    request-back v fits noop small l among =
         let t : List ℕ = savedTable k in
         let num : requestNumber s c (recordsIn s t) ≤ s =
         rw (number-alike n s (recordsIn s t) (records n s t) (alike n s t) c copy, ← f .tie .copies c .table) small in
-        event-back (request v) (noop, fits) (noop, fits) (rw (gate-is n s c t room (asked n s c t room v) kept, le-ltb s (requestNumber s c (recordsIn s t)) num)) l am
+        event-back (request v) (noop, fits) (noop, fits) (rw (gate-is n s c t room (asked n s c t room v) kept, le-ltb s (requestNumber s c (recordsIn s t)) num)) l among
 
     receive-back : (m : Message) → List·Memᴰ m (y .sent) → valid n s c m ≡ true → refused10 (y .tables c (m .owner) (m .number)) m ≡ false → (l : List Message)
         → rules.Among l (messages (onMessage n s c (y .tables c) m)) → Back x (rules.saved y c (rules.saveOf (m .owner) (m .number) (onMessage n s c (y .tables c) m)) l)
     unfolding receiveOpen log.acted
-    receive-back m i v r l am =
+    receive-back m i v r l among =
         let t : List ℕ = savedTable k in
         let b : List ℕ = messageBytes m in
         let read : messageAt b ≡ m = f .read m i in
-        let br : Carried n s (y .sent) b = f .tie .sent b (f .bytes m i) in
-        let fits : MessageFits m = rw read at (br .fits) in
+        let brought : Carried n s (y .sent) b = f .tie .sent b (f .bytes m i) in
+        let fits : MessageFits m = rw read at (brought .fits) in
         let taken = reads n s c m fits (setup-at n s setup c copy) v .taken in
         let test : refused10 (recordIn s t (m .owner) (m .number)) m ≡ false = rw (← there (m .owner) (m .number) (valid-instance n s c m v)) r in
-        let ans : answerNumber (outcome n s c t room (receive b) .answer) ≡ 0 =
+        let answer-is : answerNumber (outcome n s c t room (receive b) .answer) ≡ 0 =
         rw (gate-is n s c t room (receiveOpen n s c t room b) kept, taken, read, test) in
         subst (λ (z : Message). rules.Among l (messages (onMessage n s c (y .tables c) z)) → Back x (rules.saved y c (rules.saveOf (z .owner) (z .number) (onMessage n s c (y .tables c) z)) l))
-        read (λ a. event-back (receive b) (f .bytes m i) br ans l a) am
+        read (λ a. event-back (receive b) (f .bytes m i) brought answer-is l a) among
 
     recover-back : (o j : ℕ) → instanceOk n s o j ≡ true → isCommitted (y .tables c o j) ≡ false → outOfBallots (y .tables c o j) ≡ false → (l : List Message)
         → rules.Among l (messages (onRecover n c (y .tables c) o j)) → Back x (rules.saved y c (rules.saveOf o j (onRecover n c (y .tables c) o j)) l)
     unfolding recoverOpen log.acted
-    recover-back o j i free low l am =
+    recover-back o j i free low l among =
         let t : List ℕ = savedTable k in
         let a : isCommitted (recordIn s t o j) ≡ false = rw (← there o j i) free in
         let b : outOfBallots (recordIn s t o j) ≡ false = rw (← there o j i) low in
-        event-back (recover o j) tt tt (rw (gate-is n s c t room (recoverOpen n s c t room o j) kept, i, a, b)) l am
+        event-back (recover o j) tt tt (rw (gate-is n s c t room (recoverOpen n s c t room o j) kept, i, a, b)) l among
 
     nudge-back : (o j : ℕ) → instanceOk n s o j ≡ true → nothingToNudge (y .tables c o j) ≡ false → (l : List Message)
         → rules.Among l (messages (onNudge n c (y .tables c) o j)) → Back x (rules.saved y c (rules.saveOf o j (onNudge n c (y .tables c) o j)) l)
     unfolding nudgeOpen log.acted
-    nudge-back o j i busy l am =
+    nudge-back o j i busy l among =
         let t : List ℕ = savedTable k in
         let a : nothingToNudge (recordIn s t o j) ≡ false = rw (← there o j i) busy in
-        event-back (nudge o j) tt tt (rw (gate-is n s c t room (nudgeOpen n s c t room o j) kept, i, a)) l am
+        event-back (nudge o j) tt tt (rw (gate-is n s c t room (nudgeOpen n s c t room o j) kept, i, a)) l among
 
     question-back : (o j : ℕ) → Back x (rules.happened y (answered c o j (rules.settling n s (y .tables c) o j)))
     question-back o j = record {
@@ -273,11 +273,11 @@ module _ (n s : ℕ) (setup : Setup n s) where
   Fitting l = (o j : ℕ) (k : Command) → List·Memᴰ (requested o j k) l → CommandFits k
 
   move-back : {y z : rules.State} (x : State) → Full x y → rules.Move n s y z → Fitting (z .history) → Back x z
-  move-back {y = y} x f (rules.request c v l copy noop small am) fit =
-      request-back x y f c copy v (fit _ _ _ (Memᴰ·append-right (y .history) (List·Memᴰ·head refl))) noop small l am
-  move-back {y = y} x f (rules.receive c m l copy i v r am) fit = receive-back x y f c copy m i v r l am
-  move-back {y = y} x f (rules.recover c o j l copy i free low am) fit = recover-back x y f c copy o j i free low l am
-  move-back {y = y} x f (rules.nudge c o j l copy i busy am) fit = nudge-back x y f c copy o j i busy l am
+  move-back {y = y} x f (rules.request c v l copy noop small among) fit =
+      request-back x y f c copy v (fit _ _ _ (Memᴰ·append-right (y .history) (List·Memᴰ·head refl))) noop small l among
+  move-back {y = y} x f (rules.receive c m l copy i v r among) fit = receive-back x y f c copy m i v r l among
+  move-back {y = y} x f (rules.recover c o j l copy i free low among) fit = recover-back x y f c copy o j i free low l among
+  move-back {y = y} x f (rules.nudge c o j l copy i busy among) fit = nudge-back x y f c copy o j i busy l among
   move-back {y = y} x f (rules.handOut c o j copy e) fit = mark-back x y f c copy o j e
   move-back {y = y} x f (rules.question c o j copy) fit = question-back x y f c copy o j
 

@@ -153,7 +153,7 @@ module _ (n s : ℕ) (setup : Setup n s) where
     abbrev pub after : (call : Call) (out : List ℕ) → State
     after call out = remembered (changed x c (host call out)) (recorded (x .history) (ownerOf call) (numberOf call) call)
 
-    module _ (call : Call) (out : List ℕ) (st : Stepped n s c (savedTable k) out call y) (eu : k .lent ≡ savedTable k) where
+    module _ (call : Call) (out : List ℕ) (st : Stepped n s c (savedTable k) out call y) (memory : k .lent ≡ savedTable k) where
       abbrev e : Step
       e = stepOf call
 
@@ -167,7 +167,7 @@ module _ (n s : ℕ) (setup : Setup n s) where
       named = setup-of n s c (savedTable k) (here .setup)
 
       did : outcome n s c (k .lent) out call ≡ log.acted s (savedTable k) out (ownerOf call) (numberOf call) e
-      did = ap (λ (v : List ℕ). outcome n s c v out call) eu ∙ st .is
+      did = ap (λ (v : List ℕ). outcome n s c v out call) memory ∙ st .is
 
       -- the table in memory is the call's
       lent-is : host call out .lent ≡ table
@@ -253,13 +253,13 @@ module _ (n s : ℕ) (setup : Setup n s) where
 
     pub hand-tie : (list : List ℕ) (i : ℕ) → k .listed ≡ [] → handed n s c (k .lent) list .answer ≡ Codes i
         → Tie (changed x c (handing k (handed n s c (k .lent) list) i)) y
-    hand-tie list i none ans =
-        let eu = in-memory none in
+    hand-tie list i none answer-is =
+        let memory = in-memory none in
         quietly (handing k (handed n s c (k .lent) list) i)
         (record {
           table = side .table;
           kept = side .kept;
-          pending = rw eu (listed-pending n s c (savedTable k) list (side .kept copy) i (rw eu at ans));
+          pending = rw memory (listed-pending n s c (savedTable k) list (side .kept copy) i (rw memory at answer-is));
           leaving = side .leaving;
           marks = side .marks;
         })
@@ -316,24 +316,24 @@ module _ (n s : ℕ) (setup : Setup n s) where
       → outcome n s c (x .copies c .lent) out call .answer ≡ Event o j w
       → Next y (remembered (changed x c (acted n s c (x .copies c) (outcome n s c (x .copies c .lent) out call) o j w)) (recorded (x .history) o j call))
   unfolding log.acted
-  event-next x y tie c copy call out o j w poss none ans =
-      let eu = in-memory x y tie c copy none in
-      let res : outcome n s c (savedTable (x .copies c)) out call .answer ≡ Event o j w = ap (λ (v : List ℕ). outcome n s c v out call .answer) (sym eu) ∙ ans in
-      let st = stepped n s c (savedTable (x .copies c)) out (tie .copies c .kept copy) copy y (tie .copies c .table) call (brought x y tie c copy call poss) (ap answerNumber res) in
+  event-next x y tie c copy call out o j w possible none answer-is =
+      let memory = in-memory x y tie c copy none in
+      let result : outcome n s c (savedTable (x .copies c)) out call .answer ≡ Event o j w = ap (λ (v : List ℕ). outcome n s c v out call .answer) (sym memory) ∙ answer-is in
+      let st = stepped n s c (savedTable (x .copies c)) out (tie .copies c .kept copy) copy y (tie .copies c .table) call (brought x y tie c copy call possible) (ap answerNumber result) in
       let e : Event o j w ≡ Event (ownerIn c call) (numberIn s c (y .tables c) call) (length (outBytes (stepIn n s c (y .tables c) call))) =
-      sym res ∙ ap (λ (v : Outcome). v .answer) (st .is) in
+      sym result ∙ ap (λ (v : Outcome). v .answer) (st .is) in
       rw (ap answerOwner e, ap answerInstance e, ap answerWritten e)
       (record {
         later = moved n s y c call (messages (stepIn n s c (y .tables c) call));
         run = rules.further rules.stay (st .move _ (λ m i. i));
-        tie = event-tie x y tie c copy call out st eu;
+        tie = event-tie x y tie c copy call out st memory;
       })
 
   -- every move over bytes is a move of the rules, or none
   pub move-next : {x z : State} (y : rules.State) → Tie x y → Move n s x z → Next y z
-  move-next {x = x} y tie (event c call out o j w copy poss none ans) = event-next x y tie c copy call out o j w poss none ans
+  move-next {x = x} y tie (event c call out o j w copy possible none answer-is) = event-next x y tie c copy call out o j w possible none answer-is
   move-next {x = x} y tie (leave c b copy i) = still y (leave-tie x y tie c copy b i)
-  move-next {x = x} y tie (handOut c list i copy none ans) = still y (hand-tie x y tie c copy list i none ans)
+  move-next {x = x} y tie (handOut c list i copy none answer-is) = still y (hand-tie x y tie c copy list i none answer-is)
   move-next {x = x} y tie (mv-mark c code rest copy e) =
       let m = marked-here x y tie c copy code rest e in
       record {

@@ -61,13 +61,13 @@ module _ (n s : ℕ) (setup : Setup n s) where
 
   module _ (idle : Idle) where
     move-idle : {x z : State} (y : rules.State) → Tie n s setup x y → (m : Move n s x z) → On disk x → On disk z
-    move-idle {x = x} {z = z} y t (event c call out o j w copy poss none ans) h =
-        let a = move-next n s setup y t (event c call out o j w copy poss none ans) in
+    move-idle {x = x} {z = z} y t (event c call out o j w copy possible none answer-is) h =
+        let a = move-next n s setup y t (event c call out o j w copy possible none answer-is) in
         let g = to-memory x y t h in
         to-disk z (a .later) (a .tie)
         (one memory x c _ g (λ p i l r. is-false _ (λ e. tf _ (idle c (x .copies c .lent) out call p i e) (g c p i l r))))
     move-idle y t (leave c b copy i) h = h
-    move-idle {x = x} y t (handOut c list i copy none ans) h = one disk x c _ h (λ p i l r. h c p i l r)
+    move-idle {x = x} y t (handOut c list i copy none answer-is) h = one disk x c _ h (λ p i l r. h c p i l r)
     move-idle {x = x} {z = z} y t (mv-mark c code rest copy e) h =
         let a = move-next n s setup y t (mv-mark c code rest copy e) in
         let g = to-memory x y t h in

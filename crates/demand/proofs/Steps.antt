@@ -155,7 +155,7 @@ module _ (n s c : ℕ) (t out : List ℕ) (k : Kept n s c t) (copy : c < n) (y :
         range = rw num (in-range n s c j copy (blank-above s 1 (recordsIn s t c)) small);
         closed = rw same (request-event n s c setup (recordsIn s t) (held n s c t k) v (rw noop) f noop small);
         long = ltb-false (length out) 256 (a .test);
-        move = λ l am. rules.request c v l copy noop (rw num small) am;
+        move = λ l among. rules.request c v l copy noop (rw num small) among;
       }
 
   receive-step : (b : List ℕ) → Brought n s (y .sent) (receive b) → answerNumber (outcome n s c t out (receive b) .answer) ≡ 0 → Stepped n s c t out (receive b) y
@@ -174,7 +174,7 @@ module _ (n s c : ℕ) (t out : List ℕ) (k : Kept n s c t) (copy : c < n) (y :
         range = i;
         closed = rw same (message-event n s c setup (recordsIn s t) (held n s c t k) m v (f .fits));
         long = ltb-false (length out) 256 (a .test);
-        move = λ l am. rules.receive c m l copy (f .among) v (rw (here (m .owner) (m .number) i) (e .test)) am;
+        move = λ l among. rules.receive c m l copy (f .among) v (rw (here (m .owner) (m .number) i) (e .test)) among;
       }
 
   recover-step : (o j : ℕ) → answerNumber (outcome n s c t out (recover o j) .answer) ≡ 0 → Stepped n s c t out (recover o j) y
@@ -193,7 +193,7 @@ module _ (n s c : ℕ) (t out : List ℕ) (k : Kept n s c t) (copy : c < n) (y :
         range = i;
         closed = rw same (recover-event n s c setup (recordsIn s t) (held n s c t k) o j i (d .test) (e .test));
         long = ltb-false (length out) 256 (a .test);
-        move = λ l am. rules.recover c o j l copy i (rw (here o j i) (d .test)) (rw (here o j i) (e .test)) am;
+        move = λ l among. rules.recover c o j l copy i (rw (here o j i) (d .test)) (rw (here o j i) (e .test)) among;
       }
 
   nudge-step : (o j : ℕ) → answerNumber (outcome n s c t out (nudge o j) .answer) ≡ 0 → Stepped n s c t out (nudge o j) y
@@ -211,7 +211,7 @@ module _ (n s c : ℕ) (t out : List ℕ) (k : Kept n s c t) (copy : c < n) (y :
         range = i;
         closed = rw same (nudge-event n s c setup (recordsIn s t) (held n s c t k) o j i (d .test));
         long = ltb-false (length out) 256 (a .test);
-        move = λ l am. rules.nudge c o j l copy i (rw (here o j i) (d .test)) am;
+        move = λ l among. rules.nudge c o j l copy i (rw (here o j i) (d .test)) among;
       }
 
   pub stepped : (call : Call) → Brought n s (y .sent) call → answerNumber (outcome n s c t out call .answer) ≡ 0 → Stepped n s c t out call y
