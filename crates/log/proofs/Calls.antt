@@ -8,27 +8,17 @@ use lib.Dec.{ltb, eqb}
 use lib.ListN.{length}
 use borrow.Author.Tests.{lt-ltb, le-ltb, ltb-true, ltb-false, eqb-true}
 use Rattle.paper.specs.Setup.{setupOk, copiesOk, numbersOk, copyOk}
-use Rattle.paper.specs.Instance.{instanceOk}
 use Rattle.paper.proofs.Laws.{and-true}
 use Rattle.paper.specs.declared.Refusal.{Refusal}
 use Rattle.paper.specs.declared.Refusal.the-variants as why
-use Rattle.rules.specs.Step.{isCommitted}
-use Rattle.rules.specs.Recover.{outOfBallots, recover}
-use Rattle.rules.specs.Nudge.{nothingToNudge, nudge}
-use Rattle.rules.specs.Events.{onRecover, onNudge}
 use Rattle.num.specs.Num.{splice}
-use Rattle.paper.specs.declared.Record.{Record}
-use Rattle.record.specs.Part.{Bytes}
 use Rattle.rules.specs.declared.Step.{Step}
-use Rattle.table.specs.Table.{fits, soundTable, recordIn, putRecord}
-use Rattle.seen.specs.Records.{recordsIn}
-use Rattle.closed.proofs.Closed.{recover-event, nudge-event}
+use Rattle.table.specs.Table.{fits, soundTable, putRecord}
 use Rattle.log.specs.declared.Answer.{Answer}
 use Rattle.log.specs.declared.Answer.the-variants.{Event, Refused}
 use Rattle.log.specs.declared.Gate.the-variants.{Open, Shut}
 use Rattle.log.specs.Out.{outBytes}
-use Rattle.log.specs.Events.{Outcome, refuse, acted, gateOf, gated, Passed, recoverOpen, nudgeOpen}
-use Rattle.log.proofs.Held.{sound-records, out-short}
+use Rattle.log.specs.Events.{Outcome, refuse, acted, gateOf, gated, Passed}
 
 -- the gate
 module _ (n s c : ℕ) (t : List ℕ) (room : ℕ) where
@@ -93,62 +83,6 @@ acted-is s t out o j e a b c = (
 pub setup-of : (n s c : ℕ) (t : List ℕ) → fits n s c t ≡ true → setupOk n s c ≡ true
 unfolding fits
 setup-of n s c t h = and-true (setupOk n s c) _ h .0
-
--- Recover
-module _ (n s c : ℕ) (t out : List ℕ) (o j : ℕ) where
-  pub recover-6 : instanceOk n s o j ≡ false → refuse why.Instance t out ≡ recoverOpen n s c t out o j
-  unfolding recoverOpen
-  recover-6 p = rw p
-
-  pub recover-8 : instanceOk n s o j ≡ true → isCommitted (recordIn s t o j) ≡ true → refuse why.Committed t out ≡ recoverOpen n s c t out o j
-  unfolding recoverOpen
-  recover-8 p q = rw (p, q)
-
-  pub recover-7 : instanceOk n s o j ≡ true → isCommitted (recordIn s t o j) ≡ false → outOfBallots (recordIn s t o j) ≡ true
-      → refuse why.Ballots t out ≡ recoverOpen n s c t out o j
-  unfolding recoverOpen
-  recover-7 p q r = rw (p, q, r)
-
-  pub recover-ok : instanceOk n s o j ≡ true → isCommitted (recordIn s t o j) ≡ false → outOfBallots (recordIn s t o j) ≡ false
-      → acted s t out o j (onRecover n c (recordsIn s t) o j) ≡ recoverOpen n s c t out o j
-  unfolding recoverOpen
-  recover-ok p q r = rw (p, q, r)
-
-  pub recover-room : Bytes t → Passed n s c t (length out) → instanceOk n s o j ≡ true → isCommitted (recordIn s t o j) ≡ false
-      → outOfBallots (recordIn s t o j) ≡ false → length (outBytes (onRecover n c (recordsIn s t) o j)) ≤ 222
-  recover-room b p i k l =
-      let setup = setup-of n s c t (p .setup) in
-      out-short n s c setup _ (recover-event n s c setup (recordsIn s t) (sound-records n s c t b (p .setup) (p .sound)) o j i k l .sent)
-
-  pub nudge-6 : instanceOk n s o j ≡ false → refuse why.Instance t out ≡ nudgeOpen n s c t out o j
-  unfolding nudgeOpen
-  nudge-6 p = rw p
-
-  pub nudge-9 : instanceOk n s o j ≡ true → nothingToNudge (recordIn s t o j) ≡ true → refuse why.Idle t out ≡ nudgeOpen n s c t out o j
-  unfolding nudgeOpen
-  nudge-9 p q = rw (p, q)
-
-  pub nudge-ok : instanceOk n s o j ≡ true → nothingToNudge (recordIn s t o j) ≡ false
-      → acted s t out o j (onNudge n c (recordsIn s t) o j) ≡ nudgeOpen n s c t out o j
-  unfolding nudgeOpen
-  nudge-ok p q = rw (p, q)
-
-  pub nudge-room : Bytes t → Passed n s c t (length out) → instanceOk n s o j ≡ true → nothingToNudge (recordIn s t o j) ≡ false
-      → length (outBytes (onNudge n c (recordsIn s t) o j)) ≤ 222
-  nudge-room b p i k =
-      let setup = setup-of n s c t (p .setup) in
-      out-short n s c setup _ (nudge-event n s c setup (recordsIn s t) (sound-records n s c t b (p .setup) (p .sound)) o j i k .sent)
-
-  -- the step that was taken is the rule's
-  pub recover-step : {bc bo bj : ℕ} {r : Record} {x : Step} → bc ≡ c → bo ≡ o → bj ≡ j → r ≡ recordIn s t o j
-      → x ≡ recover n bc bo bj r → x ≡ onRecover n c (recordsIn s t) o j
-  unfolding onRecover
-  recover-step ec eo ej er ex = rw (ex, er, ec, eo, ej)
-
-  pub nudge-step : {bc bo bj : ℕ} {r : Record} {x : Step} → bc ≡ c → bo ≡ o → bj ≡ j → r ≡ recordIn s t o j
-      → x ≡ nudge n bc bo bj r → x ≡ onNudge n c (recordsIn s t) o j
-  unfolding onNudge
-  nudge-step ec eo ej er ex = rw (ex, er, ec, eo, ej)
 
 -- a setup has three copies or more
 pub three : (n s c : ℕ) (t : List ℕ) → fits n s c t ≡ true → 3 ≤ n

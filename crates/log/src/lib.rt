@@ -1,10 +1,8 @@
-// The public calls for events: refusals in the paper's order, then the step.
+// What the public calls for events share: the gate, what an event does last, and sending.
 use paper::Refusal;
 
 pub mod act;
 pub mod entrance;
-pub mod nudge;
-pub mod recover;
 pub mod send;
 
 pub enum Answer {

@@ -86,10 +86,7 @@ pub extern "C" fn pumxaqert_recover(
     ensures table { λ _. ⌜ now (table .exit) ≡ recovered n s c (now (table .entry)) (now (out .entry)) owner number .table ⌝ }
     ensures room { λ _. ⌜ now (out .exit) ≡ recovered n s c (now (table .entry)) (now (out .entry)) owner number .out ⌝ }
 {
-    give(
-        log::recover::recover(table, n, s, c, out, owner, number),
-        values,
-    )
+    give(recover::recover(table, n, s, c, out, owner, number), values)
 }
 
 #[no_mangle]
@@ -108,8 +105,5 @@ pub extern "C" fn pumxaqert_nudge(
     ensures table { λ _. ⌜ now (table .exit) ≡ nudged n s c (now (table .entry)) (now (out .entry)) owner number .table ⌝ }
     ensures room { λ _. ⌜ now (out .exit) ≡ nudged n s c (now (table .entry)) (now (out .entry)) owner number .out ⌝ }
 {
-    give(
-        log::nudge::nudge(table, n, s, c, out, owner, number),
-        values,
-    )
+    give(nudge::nudge(table, n, s, c, out, owner, number), values)
 }

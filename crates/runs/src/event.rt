@@ -68,8 +68,8 @@ fn on_table(name: usize, v: [u64; 3], w: Told, t: &mut [u8], room: &mut [u8]) ->
     let b = size(v[1]);
     match name {
         0 => request::ask::request(t, w.n, w.s, w.c, room, a, low32(v[1]), v[2]),
-        1 => log::recover::recover(t, w.n, w.s, w.c, room, a, b),
-        _ => log::nudge::nudge(t, w.n, w.s, w.c, room, a, b),
+        1 => recover::recover(t, w.n, w.s, w.c, room, a, b),
+        _ => nudge::nudge(t, w.n, w.s, w.c, room, a, b),
     }
 }
 

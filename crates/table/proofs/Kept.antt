@@ -24,7 +24,7 @@ use Rattle.record.proofs.Round.{recordAt-recordBytes}
 use Rattle.record.proofs.Written.{Are, append, written-bytes, all-in, written-sound, blank-bytes}
 use Rattle.table.specs.Place.{headLength, tableLength, placeAt, placeOf, partAt}
 use Rattle.table.specs.Table.{fits, headOk, soundRow, soundTable, blankTable, recordIn, putRecord, Whole, Kept}
-use Rattle.table.specs.Calls.{partOf, putPart}
+use Rattle.table.specs.Calls.{partOf, partStart, putPart}
 use Rattle.table.specs.Sizes.{Names}
 use Rattle.table.proofs.Laws.{sizes, names, place-end, setup-bounds}
 use Rattle.table.proofs.Round.{put-long, put-own, put-part, put-frame, sound-at}
@@ -101,6 +101,12 @@ pub saved-is : (n s c : ℕ) (disk t : List ℕ) (o j : ℕ) → fits n s c t �
     → putPart s disk o j (partOf n s c t o j) ≡ putRecord s disk o j (recordIn s t o j)
 unfolding putPart partOf putRecord Whole
 saved-is n s c disk t o j f i w = rw (f, i) (ap (splice disk (placeOf s o j)) (sym w))
+
+-- and that part goes where the library says that it starts
+pub saved-at : (n s c : ℕ) (disk t : List ℕ) (o j : ℕ) → fits n s c t ≡ true → instanceOk n s o j ≡ true
+    → putPart s disk o j (partOf n s c t o j) ≡ splice disk (partStart n s c t o j) (partOf n s c t o j)
+unfolding putPart partOf partStart
+saved-at n s c disk t o j f i = rw (f, i)
 
 zero-at : (k i : ℕ) → _≡_ {A = ℕ} (getD (replicate k 0) i 0) 0
 zero-at zero i = refl

@@ -11,7 +11,7 @@ same-length c = search needs
 
 returns : tie.Need-returns
 unfolding markIn
-returns c = c .before .put-mark .ensures
+returns c = c .before .before .put-mark .ensures
 
 pub set-mark-spec : {M : Type 1} → statement M
 set-mark-spec = tie.close (tie.spec put-mark-requires same-length returns)

@@ -3,7 +3,7 @@ use Rattle.receive.proofs.message.message_open.Statement.{statement}
 use Rattle.receive.proofs.message.message_open.Tie as tie
 use native.Mathlib.Omega.{arith}
 use Rattle.paper.specs.declared.Refusal.the-variants as why
-use Rattle.log.proofs.Held.{Bytes}
+use Rattle.record.specs.Part.{Bytes}
 use Rattle.log.proofs.Calls.{met, refused, setup-of}
 use Rattle.receive.proofs.Laws.{unread, read, receive-ok, hearing}
 

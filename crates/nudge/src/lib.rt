@@ -1,11 +1,11 @@
 // "Nudge I", as a public call.
-use crate::Answer;
-use crate::Gate;
-use crate::act::act;
-use crate::act::byte;
-use crate::act::short;
-use crate::entrance::gate_of;
 use lead::nudge::on_nudge;
+use log::Answer;
+use log::Gate;
+use log::act::act;
+use log::act::byte;
+use log::act::short;
+use log::entrance::gate_of;
 use nouns::logic::both;
 use nouns::logic::equal;
 use nouns::logic::wide8;

@@ -1,18 +1,18 @@
 // "Recover I", as a public call.
-use crate::Answer;
-use crate::Gate;
-use crate::act::act;
-use crate::act::byte;
-use crate::act::short;
-use crate::entrance::gate_of;
 use lead::recover::on_recover;
+use log::Answer;
+use log::Gate;
+use log::act::act;
+use log::act::byte;
+use log::act::short;
+use log::entrance::gate_of;
 use nouns::setup::instance_ok;
 use paper::Refusal;
 use step::made::is_committed;
 use table::records::load;
 ghost use mathlib.Core.Path.{_≡_};
 ghost use lib.ListN.{length};
 ghost use Rattle.log.specs.Events.{Passed, recoverOpen, recovered};
 
 // Past the gate.
 fn recover_open(

@@ -6,10 +6,11 @@ use Rattle.rules.specs.Step.{isCommitted}
 use Rattle.table.proofs.Laws.{sizes, names}
 use Rattle.record.specs.Part.{Bytes}
 use Rattle.rules.specs.Recover.{outOfBallots}
-use Rattle.log.proofs.Calls.{met, refused, acted-is, recover-6, recover-8, recover-7, recover-ok, recover-room, recover-step}
+use Rattle.log.proofs.Calls.{met, refused, acted-is}
+use Rattle.recover.proofs.Laws.{recover-6, recover-8, recover-7, recover-ok, recover-room, recover-step}
 use borrow.Author.Needs.{needs}
-use Rattle.log.proofs.recover.recover_open.Statement.{statement}
-use Rattle.log.proofs.recover.recover_open.Tie as tie
+use Rattle.recover.proofs.recover_open.Statement.{statement}
+use Rattle.recover.proofs.recover_open.Tie as tie
 
 instance-ok-requires : tie.Need-instance-ok-requires
 instance-ok-requires c κs = search needs

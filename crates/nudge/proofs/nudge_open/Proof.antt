@@ -5,10 +5,11 @@ use Rattle.paper.specs.declared.Refusal.the-variants as why
 use Rattle.table.proofs.Laws.{sizes, names}
 use Rattle.record.specs.Part.{Bytes}
 use Rattle.rules.specs.Nudge.{nothingToNudge}
-use Rattle.log.proofs.Calls.{three, met, refused, acted-is, nudge-6, nudge-9, nudge-ok, nudge-room, nudge-step}
+use Rattle.log.proofs.Calls.{three, met, refused, acted-is}
+use Rattle.nudge.proofs.Laws.{nudge-6, nudge-9, nudge-ok, nudge-room, nudge-step}
 use borrow.Author.Needs.{needs}
-use Rattle.log.proofs.nudge.nudge_open.Statement.{statement}
-use Rattle.log.proofs.nudge.nudge_open.Tie as tie
+use Rattle.nudge.proofs.nudge_open.Statement.{statement}
+use Rattle.nudge.proofs.nudge_open.Tie as tie
 
 instance-ok-requires : tie.Need-instance-ok-requires
 instance-ok-requires c κs = search needs

@@ -1,0 +1,46 @@
+-- The outcomes of a nudge, one law each, and what its step needs. Assumes nothing.
+use mathlib.Core.Path.{_≡_}
+use mathlib.Core.Bool.{true, false}
+use mathlib.Core.List.{List}
+use Prim.Native.Nat.{ℕ, _≤_}
+use lib.ListN.{length}
+use Rattle.paper.specs.Instance.{instanceOk}
+use Rattle.paper.specs.declared.Record.{Record}
+use Rattle.paper.specs.declared.Refusal.the-variants as why
+use Rattle.record.specs.Part.{Bytes}
+use Rattle.rules.specs.Nudge.{nothingToNudge, nudge}
+use Rattle.rules.specs.Events.{onNudge}
+use Rattle.rules.specs.declared.Step.{Step}
+use Rattle.table.specs.Table.{recordIn}
+use Rattle.seen.specs.Records.{recordsIn}
+use Rattle.closed.proofs.Closed.{nudge-event}
+use Rattle.log.specs.Out.{outBytes}
+use Rattle.log.specs.Events.{refuse, acted, Passed, nudgeOpen}
+use Rattle.log.proofs.Held.{sound-records, out-short}
+use Rattle.log.proofs.Calls.{setup-of}
+
+module _ (n s c : ℕ) (t out : List ℕ) (o j : ℕ) where
+  pub nudge-6 : instanceOk n s o j ≡ false → refuse why.Instance t out ≡ nudgeOpen n s c t out o j
+  unfolding nudgeOpen
+  nudge-6 p = rw p
+
+  pub nudge-9 : instanceOk n s o j ≡ true → nothingToNudge (recordIn s t o j) ≡ true → refuse why.Idle t out ≡ nudgeOpen n s c t out o j
+  unfolding nudgeOpen
+  nudge-9 p q = rw (p, q)
+
+  pub nudge-ok : instanceOk n s o j ≡ true → nothingToNudge (recordIn s t o j) ≡ false
+      → acted s t out o j (onNudge n c (recordsIn s t) o j) ≡ nudgeOpen n s c t out o j
+  unfolding nudgeOpen
+  nudge-ok p q = rw (p, q)
+
+  pub nudge-room : Bytes t → Passed n s c t (length out) → instanceOk n s o j ≡ true → nothingToNudge (recordIn s t o j) ≡ false
+      → length (outBytes (onNudge n c (recordsIn s t) o j)) ≤ 222
+  nudge-room b p i k =
+      let setup = setup-of n s c t (p .setup) in
+      out-short n s c setup _ (nudge-event n s c setup (recordsIn s t) (sound-records n s c t b (p .setup) (p .sound)) o j i k .sent)
+
+  -- the step that was taken is the rule's
+  pub nudge-step : {bc bo bj : ℕ} {r : Record} {x : Step} → bc ≡ c → bo ≡ o → bj ≡ j → r ≡ recordIn s t o j
+      → x ≡ nudge n bc bo bj r → x ≡ onNudge n c (recordsIn s t) o j
+  unfolding onNudge
+  nudge-step ec eo ej er ex = rw (ex, er, ec, eo, ej)

@@ -1,0 +1,52 @@
+-- The outcomes of a recovery, one law each, and what its step needs. Assumes nothing.
+use mathlib.Core.Path.{_≡_}
+use mathlib.Core.Bool.{true, false}
+use mathlib.Core.List.{List}
+use Prim.Native.Nat.{ℕ, _≤_}
+use lib.ListN.{length}
+use Rattle.paper.specs.Instance.{instanceOk}
+use Rattle.paper.specs.declared.Record.{Record}
+use Rattle.paper.specs.declared.Refusal.the-variants as why
+use Rattle.record.specs.Part.{Bytes}
+use Rattle.rules.specs.Step.{isCommitted}
+use Rattle.rules.specs.Recover.{outOfBallots, recover}
+use Rattle.rules.specs.Events.{onRecover}
+use Rattle.rules.specs.declared.Step.{Step}
+use Rattle.table.specs.Table.{recordIn}
+use Rattle.seen.specs.Records.{recordsIn}
+use Rattle.closed.proofs.Closed.{recover-event}
+use Rattle.log.specs.Out.{outBytes}
+use Rattle.log.specs.Events.{refuse, acted, Passed, recoverOpen}
+use Rattle.log.proofs.Held.{sound-records, out-short}
+use Rattle.log.proofs.Calls.{setup-of}
+
+module _ (n s c : ℕ) (t out : List ℕ) (o j : ℕ) where
+  pub recover-6 : instanceOk n s o j ≡ false → refuse why.Instance t out ≡ recoverOpen n s c t out o j
+  unfolding recoverOpen
+  recover-6 p = rw p
+
+  pub recover-8 : instanceOk n s o j ≡ true → isCommitted (recordIn s t o j) ≡ true → refuse why.Committed t out ≡ recoverOpen n s c t out o j
+  unfolding recoverOpen
+  recover-8 p q = rw (p, q)
+
+  pub recover-7 : instanceOk n s o j ≡ true → isCommitted (recordIn s t o j) ≡ false → outOfBallots (recordIn s t o j) ≡ true
+      → refuse why.Ballots t out ≡ recoverOpen n s c t out o j
+  unfolding recoverOpen
+  recover-7 p q r = rw (p, q, r)
+
+  pub recover-ok : instanceOk n s o j ≡ true → isCommitted (recordIn s t o j) ≡ false → outOfBallots (recordIn s t o j) ≡ false
+      → acted s t out o j (onRecover n c (recordsIn s t) o j) ≡ recoverOpen n s c t out o j
+  unfolding recoverOpen
+  recover-ok p q r = rw (p, q, r)
+
+  pub recover-room : Bytes t → Passed n s c t (length out) → instanceOk n s o j ≡ true → isCommitted (recordIn s t o j) ≡ false
+      → outOfBallots (recordIn s t o j) ≡ false → length (outBytes (onRecover n c (recordsIn s t) o j)) ≤ 222
+  recover-room b p i k l =
+      let setup = setup-of n s c t (p .setup) in
+      out-short n s c setup _ (recover-event n s c setup (recordsIn s t) (sound-records n s c t b (p .setup) (p .sound)) o j i k l .sent)
+
+  -- the step that was taken is the rule's
+  pub recover-step : {bc bo bj : ℕ} {r : Record} {x : Step} → bc ≡ c → bo ≡ o → bj ≡ j → r ≡ recordIn s t o j
+      → x ≡ recover n bc bo bj r → x ≡ onRecover n c (recordsIn s t) o j
+  unfolding onRecover
+  recover-step ec eo ej er ex = rw (ex, er, ec, eo, ej)
