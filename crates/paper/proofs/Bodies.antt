@@ -2,16 +2,18 @@
 -- body's. Assumes nothing.
 use Prim.Native.Nat.{ℕ, zero, suc, _<_}
 use mathlib.Core.Path.{_≡_, refl}
-use mathlib.Core.Bool.{Bool, true, false, cond}
+use mathlib.Core.Bool.{Bool, true, false, _&&_, cond}
 use mathlib.Core.List.{List, [], _∷_}
 use native.Mathlib.Omega.{arith}
 use lib.ListN.{getD}
 use Rattle.paper.specs.Command.{noop}
-use Rattle.paper.specs.Message.{rowOf, rowIn, partsOf, partsIn, kindOf, carriedIn, bodyOf, kept}
+use Rattle.paper.specs.Message.{unknown, rows, rowOf, rowIn, partsOf, partsIn, kindOf, carriedIn, bodyOf, kept}
 use Rattle.paper.specs.declared.Body.{Body}
 use Rattle.paper.specs.declared.Body.the-variants.{PreAccept, PreAcceptOk, Accept, AcceptOk, Commit, Prepare, PrepareOk, Nack}
 use Rattle.paper.specs.declared.Carried.{Carried}
 use Rattle.paper.specs.declared.Parts.{Parts}
+use Rattle.paper.specs.declared.Row.{Row}
+use Rattle.paper.proofs.Laws.{and-true}
 
 pub kind-small : (b : Body) → kindOf b < 256
 kind-small (PreAccept k) = omega arith
@@ -44,6 +46,23 @@ body-is (Commit k) = refl
 body-is Prepare = refl
 body-is (PrepareOk v t k) = refl
 body-is (Nack x) = refl
+
+-- what is tested of every row of the table, and of none, holds of each kind's row
+unfoldable pub allOf : (Row → Bool) → List Row → Bool
+allOf f [] = true
+allOf f (r ∷ rs) = f r && allOf f rs
+
+unfoldable pub everyRow : (Row → Bool) → Bool
+everyRow f = allOf f (unknown ∷ rows)
+
+pub every-row : (f : Row → Bool) → everyRow f ≡ true → (k : ℕ) → f (rowOf k) ≡ true
+unfolding everyRow rowOf allOf
+every-row f h k = go (unknown ∷ rows) k h (and-true (f unknown) _ h .0)
+  where
+    go : (rs : List Row) (k : ℕ) → allOf f rs ≡ true → f unknown ≡ true → f (getD rs k unknown) ≡ true
+    go [] k h u = u
+    go (r ∷ rs) zero h u = and-true (f r) _ h .0
+    go (r ∷ rs) (suc k) h u = go rs k (and-true (f r) (allOf f rs) h .1) u
 
 -- what holds of each kind that has a row
 known-each : (P : ℕ → Type 0) → P 1 → P 2 → P 3 → P 4 → P 5 → P 6 → P 7 → P 8 → (k : ℕ) → rowOf k .known ≡ true → P k

@@ -113,13 +113,104 @@ module _ (n s c : ℕ) (w : Row) (m : Message) (v : Vote) (j : ℕ) where
       let (key, edit) = and-true (keyOk (v .command)) _ command in
       let r : (i : ℕ) → i < 7 → entryOk n s (v .deps) i ≡ true = λ i l. allBelow-at 7 (entryOk n s (v .deps)) deps i l in
       let t : (i : ℕ) → i < 7 → implies (w .parts .told) (noneEntry v i) ≡ true = λ i l. only (w .parts .told) (noneVoted v && noneOp v) (allBelow 7 (noneEntry v)) (k .blank) (noneEntry v i)
-          (λ e. allBelow-at 7 (noneEntry v) e i l) in
-      let o = front (w .parts .told) (noneVoted v) (noneOp v) (allBelow 7 (noneEntry v)) (k .blank) in
-      (k .from, (k .to, (k .owner, (k .number, (k .ballot, (k .recovery, (k .here, (k .another, (k .lead, (k .reply,
-      (voted, (k .below, (status, (o .0, (k .fresh, (o .1, (key, (edit,
-      (r 0 (omega arith), (t 0 (omega arith), (r 1 (omega arith), (t 1 (omega arith), (r 2 (omega arith), (t 2 (omega arith), (r 3 (omega arith), (t 3 (omega arith),
-      (r 4 (omega arith), (t 4 (omega arith), (r 5 (omega arith), (t 5 (omega arith), (r 6 (omega arith), (t 6 (omega arith),
-      (k .joined, (k .above, (k .carried, tt)))))))))))))))))))))))))))))))))))
+      (λ e. allBelow-at 7 (noneEntry v) e i l) in
+      let o = front (w .parts .told) (noneVoted v) (noneOp v) (allBelow 7 (noneEntry v)) (k .blank) in (
+        k .from,
+        (
+          k .to,
+          (
+            k .owner,
+            (
+              k .number,
+              (
+                k .ballot,
+                (
+                  k .recovery,
+                  (
+                    k .here,
+                    (
+                      k .another,
+                      (
+                        k .lead,
+                        (
+                          k .reply,
+                          (
+                            voted,
+                            (
+                              k .below,
+                              (
+                                status,
+                                (
+                                  o .0,
+                                  (
+                                    k .fresh,
+                                    (
+                                      o .1,
+                                      (
+                                        key,
+                                        (
+                                          edit,
+                                          (
+                                            r 0 (omega arith),
+                                            (
+                                              t 0 (omega arith),
+                                              (
+                                                r 1 (omega arith),
+                                                (
+                                                  t 1 (omega arith),
+                                                  (
+                                                    r 2 (omega arith),
+                                                    (
+                                                      t 2 (omega arith),
+                                                      (
+                                                        r 3 (omega arith),
+                                                        (
+                                                          t 3 (omega arith),
+                                                          (
+                                                            r 4 (omega arith),
+                                                            (
+                                                              t 4 (omega arith),
+                                                              (
+                                                                r 5 (omega arith),
+                                                                (
+                                                                  t 5 (omega arith),
+                                                                  (
+                                                                    r 6 (omega arith),
+                                                                    (
+                                                                      t 6 (omega arith),
+                                                                      (k .joined, (k .above, (k .carried, tt))),
+                                                                    ),
+                                                                  ),
+                                                                ),
+                                                              ),
+                                                            ),
+                                                          ),
+                                                        ),
+                                                      ),
+                                                    ),
+                                                  ),
+                                                ),
+                                              ),
+                                            ),
+                                          ),
+                                        ),
+                                      ),
+                                    ),
+                                  ),
+                                ),
+                              ),
+                            ),
+                          ),
+                        ),
+                      ),
+                    ),
+                  ),
+                ),
+              ),
+            ),
+          ),
+        ),
+      )
     where
       only : (t a b : Bool) → implies t (a && b) ≡ true → (d : Bool) → (b ≡ true → d ≡ true) → implies t d ≡ true
       only true a b h d g = g (and-true a b h .1)
