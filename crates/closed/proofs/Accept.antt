@@ -6,6 +6,7 @@ use native.Mathlib.Omega.{arith}
 use lib.Dec.{ltb}
 use borrow.Author.Tests.{ltb-true, eqb-true, eqb-false}
 use Rattle.paper.specs.Ballot.{lead}
+use Rattle.paper.specs.Message.{rowOf}
 use Rattle.paper.specs.declared.Command.{Command}
 use Rattle.paper.specs.declared.Record.{Record}
 use Rattle.paper.specs.declared.Body.the-variants.{Accept}
@@ -28,11 +29,11 @@ module _ (n s c o j : ℕ) (p : Spot n s c o j) (r : Record) (h : Held n s c o r
       let f = sound-is n s c o r (h .sound) in
       let z = unmarked n s c o r f (eqb-false (r .vote .status) 4 live) in
       idle-held n s c o (m .ballot) _ (r .mark) (t .ballot) (t .ballotFits) (vote-in n s 4 _ (t .ballot) (omega arith) (t .command) (t .deps))
-      (record { voted = t .ballotFits; status = omega arith; command = t .bodyFits; deps = t .depsFit }) (omega arith) (none-in _ (omega arith)) (f .mark)
+      (record { voted = t .ballotFits; status = omega arith; command = t .bodyFits .command; deps = t .depsFit }) (omega arith) (none-in _ (omega arith)) (f .mark)
       (λ e. absurd (omega arith))
 
   pub accept-closed : Closed n s c o (accept c o j r m k)
-  unfolding accept
+  unfolding accept rowOf
   accept-closed =
       let led = eqb-true (m .from) (lead o (m .ballot)) (t .lead) in
       by-cond (Closed n s c o) (isCommitted r) (λ e. commit-back n s c o j p r h (m .from) (t .from) (t .other))

@@ -4,7 +4,6 @@ use mathlib.Core.Path.{_≡_, refl}
 use mathlib.Core.Bool.{Bool, true, false, _&&_, cond}
 use native.Mathlib.Omega.{arith}
 use native.Mathlib.Nat.{mul-le-mul}
-use native.Mathlib.Decide.{ℕ-discrete}
 use lib.Dec.{eqb}
 use lib.ListN.{length}
 use borrow.Author.Tests.{eqb-true, lt-ltb, le-leb}
@@ -12,7 +11,7 @@ use Rattle.paper.specs.Setup.{setupOk}
 use Rattle.paper.specs.Instance.{instanceOk}
 use Rattle.paper.specs.Command.{isNoop, commandOk}
 use Rattle.paper.specs.Deps.{depsOk}
-use Rattle.paper.specs.Message.{kindOf}
+use Rattle.paper.specs.Message.{kindOf, partsOf, partsIn}
 use Rattle.paper.specs.Valid.{valid}
 use Rattle.paper.specs.Vote.{blank, member}
 use Rattle.paper.specs.declared.Command.{Command}
@@ -137,11 +136,11 @@ module _ (n s c : ℕ) (setup : setupOk n s c ≡ true) where
       let (least, most, numbers, copy) = setup-is n s c setup in
       (few-messages n c (x .to) (x .message) (λ q e. let t = h .each q e in (t .copy, t .other)) copy, omega arith)
 
-  -- whatever the lengths of the kinds are, if they are at most 37, and 42 for a PrepareOK: at most 222 bytes go out
-  pub room : (size : ℕ → ℕ) → ((k : ℕ) → (k ≡ 7 → ⊥) → size k ≤ 37) → size 7 ≤ 42 → (x : Step) → Sent n s c x
+  -- whatever the lengths of the kinds are, if they are at most 37, and 42 where a vote is told: at most 222 bytes go out
+  pub room : (size : ℕ → ℕ) → ((k : ℕ) → partsOf k .told ≡ false → size k ≤ 37) → ((k : ℕ) → size k ≤ 42) → (x : Step) → Sent n s c x
       → length (messages x) * size (kindOf (x .message .body)) ≤ 222
-  room size short long x h = go (ℕ-discrete (kindOf (x .message .body)) 7)
+  room size short long x h = go (partsIn (x .message .body) .told) refl
     where
-      go : Dec (kindOf (x .message .body) ≡ 7) → length (messages x) * size (kindOf (x .message .body)) ≤ 222
-      go (yes e) = rw e (omega (arith, mul-le-mul (h .single e) long))
-      go (no k) = let l : length (messages x) ≤ 6 = let (a, b) = few x h in omega arith in omega (arith, mul-le-mul l (short (kindOf (x .message .body)) k))
+      go : (b : Bool) → partsIn (x .message .body) .told ≡ b → length (messages x) * size (kindOf (x .message .body)) ≤ 222
+      go true e = omega (arith, mul-le-mul (h .single e) (long (kindOf (x .message .body))))
+      go false e = let l : length (messages x) ≤ 6 = let (a, b) = few x h in omega arith in omega (arith, mul-le-mul l (short (kindOf (x .message .body)) e))

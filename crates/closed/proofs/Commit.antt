@@ -18,4 +18,4 @@ pub commit-closed : (n s c o j : ℕ) → Spot n s c o j → (r : Record) → He
 unfolding commit
 commit-closed n s c o j p r h m k t =
     by-cond (Closed n s c o) (isCommitted r) (λ e. silent-closed n s c o r h)
-    (λ e. silent-closed n s c o _ (committed-held n s c o j p r h k (t .command) (t .bodyFits) (m .deps) (t .deps) (t .depsFit)))
+    (λ e. silent-closed n s c o _ (committed-held n s c o j p r h k (t .command) (t .bodyFits .command) (m .deps) (t .deps) (t .depsFit)))

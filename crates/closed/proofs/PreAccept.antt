@@ -8,6 +8,7 @@ use lib.Dec.{leb, ltb}
 use borrow.Author.Tests.{ltb-true, eqb-true, eqb-false}
 use Rattle.paper.specs.Deps.{depsOk, join, sameDeps}
 use Rattle.paper.specs.Ballot.{lead}
+use Rattle.paper.specs.Message.{rowOf}
 use Rattle.paper.specs.declared.Command.{Command}
 use Rattle.paper.specs.declared.Record.{Record}
 use Rattle.paper.specs.declared.Body.the-variants.{PreAccept}
@@ -29,6 +30,7 @@ use Rattle.closed.proofs.Back.{silent-closed, commit-back, nack-back}
 
 module _ (n s c o j : ℕ) (p : Spot n s c o j) (r : Record) (h : Held n s c o r) (m : Message) (k : Command) (t : Heard n s c o m (PreAccept k)) where
   from-lead : m .from ≡ lead o (m .ballot)
+  unfolding rowOf
   from-lead = eqb-true _ _ (t .lead)
 
   -- the status is 1 or 2
@@ -38,7 +40,7 @@ module _ (n s c o j : ℕ) (p : Spot n s c o j) (r : Record) (h : Held n s c o r
       let low = by-cond (λ (x : ℕ). (1 ≤ x) × (x ≤ 2)) (sameDeps d (m .deps)) {x = 2} {y = 1} (λ e. omega arith) (λ e. omega arith) in
       let z = unmarked n s c o r f (eqb-false (r .vote .status) 4 live) in
       idle-held n s c o (m .ballot) _ (r .mark) (t .ballot) (t .ballotFits) (vote-in n s 4 _ (t .ballot) (omega arith) (t .command) hd)
-      (record { voted = t .ballotFits; status = omega arith; command = t .bodyFits; deps = fd }) (omega arith) (none-in _ (omega arith)) (f .mark) (λ e. absurd (omega arith))
+      (record { voted = t .ballotFits; status = omega arith; command = t .bodyFits .command; deps = fd }) (omega arith) (none-in _ (omega arith)) (f .mark) (λ e. absurd (omega arith))
 
   pub preAccept-closed : (seen : List ℕ) → depsOk n s seen ≡ true → Closed n s c o (preAccept c o j r m k seen)
   unfolding preAccept

@@ -7,6 +7,7 @@ use lib.Dec.{ltb, eqb}
 use borrow.Author.Tests.{ltb-true, ltb-false, leb-true, eqb-true, eqb-false, lt-ltb}
 use Rattle.paper.specs.Ballot.{lead}
 use Rattle.paper.specs.Vote.{toldOk}
+use Rattle.paper.specs.Message.{rowOf}
 use Rattle.paper.specs.declared.Record.{Record}
 use Rattle.paper.specs.declared.Body.the-variants.{Prepare, PrepareOk}
 use Rattle.paper.specs.declared.Message.{Message}
@@ -24,13 +25,14 @@ use Rattle.closed.proofs.Back.{silent-closed, commit-back, nack-back}
 
 module _ (n s c o j : ℕ) (p : Spot n s c o j) (r : Record) (h : Held n s c o r) (m : Message) (t : Heard n s c o m Prepare) where
   from-lead : m .from ≡ lead o (m .ballot)
+  unfolding rowOf
   from-lead = eqb-true _ _ (t .lead)
 
   -- not committed, joined at or below b, not voted at b: b is joined, and the vote told
   joined-closed : isCommitted r ≡ false → ltb (m .ballot) (r .joined) ≡ false → eqb (r .vote .voted) (m .ballot) ≡ false
       → Closed n s c o
       (sending (idle (m .ballot) (r .vote) (r .mark)) (only (m .from)) (say c o j (m .ballot) (PrepareOk (r .vote .voted) (r .vote .status) (r .vote .command)) (r .vote .deps)))
-  unfolding toldOk
+  unfolding toldOk rowOf
   joined-closed e l v =
       let f = sound-is n s c o r (h .sound) in
       let w = vote-is n s 4 (r .vote) (f .own) in
@@ -45,9 +47,9 @@ module _ (n s c o j : ℕ) (p : Spot n s c o j) (r : Record) (h : Held n s c o r
             (λ e. absurd (omega arith));
         sent =
             prepareok-sent n s c o j p _ (m .from) (m .ballot) (r .vote) (t .ballot) (t .ballotFits)
-            (back-to n s c o j p (m .from) (m .ballot) (t .from) (t .other) from-lead) (t .from) (leb-true _ _ (t .prepare))
+            (back-to n s c o j p (m .from) (m .ballot) (t .from) (t .other) from-lead) (t .from) (leb-true _ _ (t .recovery))
             (both _ _ (both _ _ (vote-in n s 3 (r .vote) (w .voted) three (w .command) (w .deps)) (lt-ltb _ _ below)) (f .none))
-            (w .command) (w .deps) (h .fits .vote);
+            (h .fits .vote);
       }
 
   pub prepare-closed : Closed n s c o (prepare c o j r m)

@@ -1,20 +1,20 @@
 -- What this copy says of an instance in range: each kind is valid at those it goes to, and fits. Assumes nothing.
 use Prim.Native.Nat.{ℕ, zero, suc, _+_, _-_, _^_, _≤_, _<_}
 use mathlib.Core.Path.{_≡_, refl, sym, _∙_}
-use mathlib.Core.Bool.{Bool, true, false, _||_, not, cond}
+use mathlib.Core.Bool.{Bool, true, false, _&&_, _||_, not, cond}
 use mathlib.Core.List.{List, _∷_}
 use native.Mathlib.Omega.{arith}
 use native.Mathlib.Decide.{ℕ-discrete}
-use lib.Dec.{leb, eqb}
+use lib.Dec.{leb, ltb, eqb}
 use lib.ListN.{length}
 use borrow.Author.Tests.{leb-true, eqb-true, le-leb, lt-ltb, eq-eqb, ne-eqb}
 use Rattle.paper.specs.Logic.{implies, allBelow}
 use Rattle.paper.specs.Command.{isNoop, commandOk}
 use Rattle.paper.specs.Deps.{noDeps, depsOk, sameDeps}
 use Rattle.paper.specs.Ballot.{ballotOk, lead}
-use Rattle.paper.specs.Vote.{member, toldOk}
-use Rattle.paper.specs.Message.{kindOf}
-use Rattle.paper.specs.Valid.{headOk, wayOk, bodyOk, valid}
+use Rattle.paper.specs.Vote.{member, votedBelow, noneIsBlank, voteOk, toldOk}
+use Rattle.paper.specs.Message.{rowOf, rowIn, partsIn, commandCarried, noneCarried, carriedIn, commandIn, votedIn, statusIn, joinedIn, isWord, isReply, isFresh, isRecovery}
+use Rattle.paper.proofs.Valid.{valid-of}
 use Rattle.paper.specs.declared.Command.{Command}
 use Rattle.paper.specs.declared.Vote.{Vote}
 use Rattle.paper.specs.declared.Record.{Record}
@@ -24,9 +24,9 @@ use Rattle.paper.specs.declared.Message.{Message}
 use Rattle.rules.specs.Sets.{only, others, absent}
 use Rattle.rules.specs.Step.{say, silent, sending}
 use Rattle.rules.specs.Events.{addressed, messagesFrom}
-use Rattle.paper.specs.Fits.{CommandFits, DepsFit, VoteFits, BodyFits, MessageFits}
+use Rattle.paper.specs.Fits.{CommandFits, DepsFit, VoteFits, CarriedFits, MessageFits}
 use Rattle.closed.specs.Held.{Taken, Sent}
-use Rattle.closed.proofs.Laws.{eqb-self, two, both, imp-in, not-in, is-false, tf}
+use Rattle.closed.proofs.Laws.{eqb-self, two, three, imp-in, not-in, is-false, tf}
 use Rattle.closed.proofs.Sets.{member-none, member-only-is, member-others, member-absent}
 use Rattle.paper.proofs.Deps.{none-fits}
 use Rattle.closed.proofs.Deps.{no-deps}
@@ -99,25 +99,45 @@ module _ (n s c o j : ℕ) (p : Spot n s c o j) where
   pub back-to : (q b : ℕ) → q < n → (q ≡ c → ⊥) → q ≡ lead o b → Back b (only q)
   back-to q b l k f x e = let z = member-only-is q x (omega (arith, p .small)) e in (omega arith, λ f. k (sym z ∙ f), z ∙ f)
 
-  taken : (q b : ℕ) (x : Body) (d : List ℕ) → q < n → (q ≡ c → ⊥) → ballotOk n b ≡ true
-      → implies (eqb (kindOf x) 6 || eqb (kindOf x) 7) (leb 8 b) ≡ true
-      → implies (eqb (kindOf x) 1 || eqb (kindOf x) 3 || eqb (kindOf x) 6) (eqb c (lead o b)) ≡ true
-      → implies (eqb (kindOf x) 2 || eqb (kindOf x) 4 || eqb (kindOf x) 7 || eqb (kindOf x) 8) (eqb q (lead o b)) ≡ true
-      → bodyOk n s (say c o j b x d) ≡ true → Taken n s c q (say c o j b x d)
-  unfolding valid headOk wayOk bodyOk
-  taken q b x d lq other hb prep from back body =
+  -- a body x at ballot b, with d beside it, as validity asks it of any receiver
+  record Saying (b : ℕ) (x : Body) (d : List ℕ) : Type 0 where
+    vote : voteOk n s 3 (record { voted = votedIn x; status = statusIn x; command = commandIn x; deps = d }) ≡ true
+    below : implies (partsIn x .told) (ltb (votedIn x) b) ≡ true
+    blank : implies (partsIn x .told) (noneIsBlank (record { voted = votedIn x; status = statusIn x; command = commandIn x; deps = d })) ≡ true
+    fresh : implies (isFresh (rowIn x .ballots) && eqb b 0) (not (isNoop (commandIn x))) ≡ true
+    joined : ballotOk n (joinedIn x) ≡ true
+    above : implies (partsIn x .joined) (ltb b (joinedIn x)) ≡ true
+    carried : (partsIn x .deps || sameDeps d noDeps) ≡ true
+
+  taken : (q b : ℕ) (x : Body) (d : List ℕ) → q < n → (q ≡ c → ⊥) → ballotOk n b ≡ true → implies (isRecovery (rowIn x .ballots)) (leb 8 b) ≡ true
+      → implies (isWord (rowIn x .role)) (eqb c (lead o b)) ≡ true → implies (isReply (rowIn x .role)) (eqb q (lead o b)) ≡ true
+      → Saying b x d → Taken n s c q (say c o j b x d)
+  taken q b x d lq other hb recovery word reply says =
       record {
         copy = lq;
         other = other;
-        valid =
-            both _ _
-            (both _ _
-            (both _ _ (both _ _ (both _ _ (both _ _ (both _ _ (lt-ltb c n (p .copy)) (lt-ltb q n lq)) (lt-ltb o n (p .owner))) (p .number)) hb) prep)
-            (both _ _ (both _ _ (both _ _ (eqb-self q) (not-in _ (ne-eqb c q (λ e. other (sym e))))) from) back))
-            body;
+        valid = valid-of n s q (addressed (say c o j b x d) q) (record {
+          from = lt-ltb c n (p .copy);
+          to = lt-ltb q n lq;
+          owner = lt-ltb o n (p .owner);
+          number = p .number;
+          ballot = hb;
+          recovery = recovery;
+          here = eqb-self q;
+          another = not-in _ (ne-eqb c q (λ e. other (sym e)));
+          lead = word;
+          reply = reply;
+          vote = says .vote;
+          below = says .below;
+          blank = says .blank;
+          fresh = says .fresh;
+          joined = says .joined;
+          above = says .above;
+          carried = says .carried;
+        });
       }
 
-  fits : (b : ℕ) (x : Body) (d : List ℕ) → b < 256 ^ 4 → BodyFits x → DepsFit d → MessageFits (say c o j b x d)
+  fits : (b : ℕ) (x : Body) (d : List ℕ) → b < 256 ^ 4 → CarriedFits (carriedIn x) → DepsFit d → MessageFits (say c o j b x d)
   fits b x d lb fx fd =
       let (a, z) = two (leb 1 j) (leb j s) (p .number) in
       record {
@@ -130,93 +150,124 @@ module _ (n s c o j : ℕ) (p : Spot n s c o j) where
         deps = fd;
       }
 
+  -- a command, or none, in what a body carries
+  command-fits : {k : Command} → CommandFits k → CarriedFits (commandCarried k)
+  command-fits f = record { voted = omega arith; status = omega arith; command = f; joined = omega arith }
+
+  none-carried-fits : CarriedFits noneCarried
+  none-carried-fits = command-fits (record { key = omega arith; edit = omega arith })
+
   module _ (r : Record) (to b : ℕ) (hb : ballotOk n b ≡ true) (lb : b < 256 ^ 4) where
-    -- kinds 1, 3, 5 to others
+    -- PreAccept, Accept and Commit to others
     module _ (k : Command) (hk : commandOk k ≡ true) (fk : CommandFits k) (d : List ℕ) (hd : depsOk n s d ≡ true) (fd : DepsFit d) (away : Away to) where
       pub preaccept-sent : lead o b ≡ c → (b ≡ 0 → isNoop k ≡ false) → Sent n s c (sending r to (say c o j b (PreAccept k) d))
-      unfolding bodyOk ballotOk
+      unfolding rowOf voteOk ballotOk
       preaccept-sent leads op =
           record {
             each = λ q e. let (l, f) = away q e in
-                taken q b (PreAccept k) d l f hb refl (eq-eqb c (lead o b) (sym leads)) refl (rw (hk, hd, imp-in (eqb b 0) (not (isNoop k)) (λ e. not-in _ (op (eqb-true b 0 e)))) refl);
-            single = λ e. absurd (omega arith);
-            fits = fits b (PreAccept k) d lb fk fd;
+                taken q b (PreAccept k) d l f hb refl (eq-eqb c (lead o b) (sym leads)) refl
+                (record { vote = rw (hk, hd) refl; below = refl; blank = refl; fresh = imp-in (eqb b 0) (not (isNoop k)) (λ e. not-in _ (op (eqb-true b 0 e))); joined = refl; above = refl; carried = refl });
+            single = λ e. tf _ e refl;
+            fits = fits b (PreAccept k) d lb (command-fits fk) fd;
           }
 
       pub accept-sent : lead o b ≡ c → Sent n s c (sending r to (say c o j b (Accept k) d))
-      unfolding bodyOk ballotOk
+      unfolding rowOf voteOk ballotOk
       accept-sent leads =
           record {
-            each = λ q e. let (l, f) = away q e in taken q b (Accept k) d l f hb refl (eq-eqb c (lead o b) (sym leads)) refl (rw (hk, hd) refl);
-            single = λ e. absurd (omega arith);
-            fits = fits b (Accept k) d lb fk fd;
+            each = λ q e. let (l, f) = away q e in
+                taken q b (Accept k) d l f hb refl (eq-eqb c (lead o b) (sym leads)) refl
+                (record { vote = rw (hk, hd) refl; below = refl; blank = refl; fresh = refl; joined = refl; above = refl; carried = refl });
+            single = λ e. tf _ e refl;
+            fits = fits b (Accept k) d lb (command-fits fk) fd;
           }
 
       pub commit-sent : Sent n s c (sending r to (say c o j b (Commit k) d))
-      unfolding bodyOk ballotOk
+      unfolding rowOf voteOk ballotOk
       commit-sent =
           record {
-            each = λ q e. let (l, f) = away q e in taken q b (Commit k) d l f hb refl refl refl (rw (hk, hd) refl);
-            single = λ e. absurd (omega arith);
-            fits = fits b (Commit k) d lb fk fd;
+            each = λ q e. let (l, f) = away q e in
+                taken q b (Commit k) d l f hb refl refl refl (record { vote = rw (hk, hd) refl; below = refl; blank = refl; fresh = refl; joined = refl; above = refl; carried = refl });
+            single = λ e. tf _ e refl;
+            fits = fits b (Commit k) d lb (command-fits fk) fd;
           }
 
     pub prepare-sent : Away to → lead o b ≡ c → 8 ≤ b → Sent n s c (sending r to (say c o j b Prepare noDeps))
-    unfolding bodyOk ballotOk sameDeps allBelow commandOk
+    unfolding rowOf voteOk ballotOk sameDeps allBelow commandOk
     prepare-sent away leads l8 =
         record {
-          each = λ q e. let (l, f) = away q e in taken q b Prepare noDeps l f hb (le-leb 8 b l8) (eq-eqb c (lead o b) (sym leads)) refl (rw (no-deps n s) refl);
-          single = λ e. absurd (omega arith);
-          fits = fits b Prepare noDeps lb tt none-fits;
+          each = λ q e. let (l, f) = away q e in
+              taken q b Prepare noDeps l f hb (le-leb 8 b l8) (eq-eqb c (lead o b) (sym leads)) refl
+              (record { vote = rw (no-deps n s) refl; below = refl; blank = refl; fresh = refl; joined = refl; above = refl; carried = refl });
+          single = λ e. tf _ e refl;
+          fits = fits b Prepare noDeps lb none-carried-fits none-fits;
         }
 
-    -- kinds 2, 4, 7, 8 back to the lead
+    -- replies, back to the lead
     module _ (back : Back b to) where
       pub preacceptok-sent : (d : List ℕ) → depsOk n s d ≡ true → DepsFit d → Sent n s c (sending r to (say c o j b PreAcceptOk d))
-      unfolding bodyOk ballotOk commandOk
+      unfolding rowOf voteOk ballotOk commandOk
       preacceptok-sent d hd fd =
           record {
-            each = λ q e. let (l, f, g) = back q e in taken q b PreAcceptOk d l f hb refl refl (eq-eqb q (lead o b) g) (rw hd refl);
-            single = λ e. absurd (omega arith);
-            fits = fits b PreAcceptOk d lb tt fd;
+            each = λ q e. let (l, f, g) = back q e in
+                taken q b PreAcceptOk d l f hb refl refl (eq-eqb q (lead o b) g)
+                (record { vote = rw hd refl; below = refl; blank = refl; fresh = refl; joined = refl; above = refl; carried = refl });
+            single = λ e. tf _ e refl;
+            fits = fits b PreAcceptOk d lb none-carried-fits fd;
           }
 
       pub acceptok-sent : Sent n s c (sending r to (say c o j b AcceptOk noDeps))
-      unfolding bodyOk ballotOk sameDeps allBelow commandOk
+      unfolding rowOf voteOk ballotOk sameDeps allBelow commandOk
       acceptok-sent =
           record {
-            each = λ q e. let (l, f, g) = back q e in taken q b AcceptOk noDeps l f hb refl refl (eq-eqb q (lead o b) g) (rw (no-deps n s) refl);
-            single = λ e. absurd (omega arith);
-            fits = fits b AcceptOk noDeps lb tt none-fits;
+            each = λ q e. let (l, f, g) = back q e in
+                taken q b AcceptOk noDeps l f hb refl refl (eq-eqb q (lead o b) g)
+                (record { vote = rw (no-deps n s) refl; below = refl; blank = refl; fresh = refl; joined = refl; above = refl; carried = refl });
+            single = λ e. tf _ e refl;
+            fits = fits b AcceptOk noDeps lb none-carried-fits none-fits;
           }
 
       pub nack-sent : (x : ℕ) → ballotOk n x ≡ true → x < 256 ^ 4 → b < x → Sent n s c (sending r to (say c o j b (Nack x) noDeps))
-      unfolding bodyOk sameDeps allBelow commandOk
+      unfolding rowOf voteOk ballotOk sameDeps allBelow commandOk
       nack-sent x hx lx above =
           record {
-            each = λ q e. let (l, f, g) = back q e in taken q b (Nack x) noDeps l f hb refl refl (eq-eqb q (lead o b) g) (rw (no-deps n s, hx, lt-ltb b x above) refl);
-            single = λ e. absurd (omega arith);
-            fits = fits b (Nack x) noDeps lb lx none-fits;
+            each = λ q e. let (l, f, g) = back q e in
+                taken q b (Nack x) noDeps l f hb refl refl (eq-eqb q (lead o b) g)
+                (record { vote = rw (no-deps n s) refl; below = refl; blank = refl; fresh = refl; joined = hx; above = lt-ltb b x above; carried = refl });
+            single = λ e. tf _ e refl;
+            fits = fits b (Nack x) noDeps lb (record { voted = omega arith; status = omega arith; command = record { key = omega arith; edit = omega arith }; joined = lx }) none-fits;
           }
 
   -- a PrepareOK goes to one copy
   pub prepareok-sent : (r : Record) (q b : ℕ) (v : Vote) → ballotOk n b ≡ true → b < 256 ^ 4 → Back b (only q) → q < n → 8 ≤ b → toldOk n s b v ≡ true
-      → commandOk (v .command) ≡ true → depsOk n s (v .deps) ≡ true → VoteFits v
-      → Sent n s c (sending r (only q) (say c o j b (PrepareOk (v .voted) (v .status) (v .command)) (v .deps)))
-  unfolding bodyOk ballotOk
-  prepareok-sent r q b v hb lb back lq l8 told hk hd fv =
+      → VoteFits v → Sent n s c (sending r (only q) (say c o j b (PrepareOk (v .voted) (v .status) (v .command)) (v .deps)))
+  unfolding rowOf ballotOk toldOk
+  prepareok-sent r q b v hb lb back lq l8 told fv =
+      let (vote, below, blank) = three (voteOk n s 3 v) (votedBelow b v) (noneIsBlank v) told in
       record {
         each = λ x e. let (l, f, g) = back x e in
-            taken x b (PrepareOk (v .voted) (v .status) (v .command)) (v .deps) l f hb (le-leb 8 b l8) refl (eq-eqb x (lead o b) g) (rw (hk, hd, told) refl);
+            taken x b (PrepareOk (v .voted) (v .status) (v .command)) (v .deps) l f hb (le-leb 8 b l8) refl (eq-eqb x (lead o b) g)
+            (record { vote = vote; below = below; blank = blank; fresh = refl; joined = refl; above = refl; carried = refl });
         single = λ e. one-from 7 0 (only q) q _ (λ x f. member-only-is q x (omega (arith, p .small)) f);
-        fits = fits b (PrepareOk (v .voted) (v .status) (v .command)) (v .deps) lb (fv .voted, fv .status, fv .command) (fv .deps);
+        fits =
+            fits b (PrepareOk (v .voted) (v .status) (v .command)) (v .deps) lb
+            (record { voted = fv .voted; status = fv .status; command = fv .command; joined = omega arith }) (fv .deps);
       }
 
 -- nothing is sent
 pub silent-sent : (n s c : ℕ) (r : Record) → Sent n s c (silent r)
+unfolding rowOf
 silent-sent n s c r =
     record {
       each = λ q e. absurd (tf _ e (member-none q));
-      single = λ e. absurd (omega arith);
-      fits = record { from = omega arith; to = omega arith; owner = omega arith; number = omega arith; ballot = omega arith; body = tt; deps = none-fits };
+      single = λ e. tf _ e refl;
+      fits = record {
+        from = omega arith;
+        to = omega arith;
+        owner = omega arith;
+        number = omega arith;
+        ballot = omega arith;
+        body = record { voted = omega arith; status = omega arith; command = record { key = omega arith; edit = omega arith }; joined = omega arith };
+        deps = none-fits;
+      };
     }

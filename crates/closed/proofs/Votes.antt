@@ -7,7 +7,7 @@ use native.Mathlib.Omega.{arith}
 use native.Mathlib.Decide.{decLt}
 use lib.Dec.{ltb, eqb}
 use lib.ListN.{length, getD, set, List·getD-eq-default}
-use borrow.Author.Tests.{leb-true, eqb-true, le-leb}
+use borrow.Author.Tests.{leb-true, eqb-true, le-leb, ne-eqb}
 use Rattle.paper.specs.Logic.{allBelow}
 use Rattle.paper.specs.Command.{noop, opNumber, sameCommand, commandOk}
 use Rattle.paper.specs.Deps.{depsOk, sameDeps}
@@ -53,8 +53,8 @@ same-vote-refl v = both _ _ (both _ _ (both _ _ (eqb-self (v .voted)) (eqb-self 
 
 -- a vote that is not none
 pub none-in : (v : Vote) → 1 ≤ v .status → noneIsBlank v ≡ true
-unfolding noneIsBlank
-none-in v l = imp-in _ _ (λ e. absurd (let z = eqb-true (v .status) 0 e in omega arith))
+unfolding noneIsBlank allBelow
+none-in v l = rw (ne-eqb (v .status) 0 (λ e. omega arith))
 
 pub no-vote-none : noneIsBlank noVote ≡ true
 unfolding noneIsBlank sameDeps allBelow

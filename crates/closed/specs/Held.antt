@@ -6,7 +6,7 @@ use mathlib.Core.Bool.{true}
 use lib.ListN.{length}
 use Rattle.paper.specs.Instance.{instanceOk}
 use Rattle.paper.specs.Vote.{member}
-use Rattle.paper.specs.Message.{kindOf}
+use Rattle.paper.specs.Message.{partsIn}
 use Rattle.paper.specs.Sound.{soundRecord}
 use Rattle.paper.specs.Valid.{valid}
 use Rattle.paper.specs.declared.Record.{Record}
@@ -27,10 +27,10 @@ pub record Taken (n s c q : ℕ) (m : Message) : Type 0 where
   pub other : q ≡ c → ⊥
   pub valid : valid n s q (addressed m q) ≡ true
 
--- each member of the set takes what goes out; the one kind that is longer than a proposal goes to one copy
+-- each member of the set takes what goes out; what tells of a whole vote, longer than a proposal, goes to one copy
 pub record Sent (n s c : ℕ) (x : Step) : Type 0 where
   pub each : (q : ℕ) → member q (x .to) ≡ true → Taken n s c q (x .message)
-  pub single : kindOf (x .message .body) ≡ 7 → length (messages x) ≤ 1
+  pub single : partsIn (x .message .body) .told ≡ true → length (messages x) ≤ 1
   pub fits : MessageFits (x .message)
 
 -- what each event leaves and sends

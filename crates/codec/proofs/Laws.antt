@@ -14,7 +14,7 @@ use Rattle.paper.specs.declared.Op.{Op}
 use Rattle.paper.specs.declared.Op.the-variants.{Noop, Read, Write}
 use Rattle.paper.specs.declared.Command.{Command}
 use Rattle.paper.specs.declared.Vote.{Vote}
-use Rattle.codec.specs.Parts.{opOf, commandOf, commandNumbers, depsNumbers, voteOf, voteNumbers, voteWidths, depsAt, voteAt, voteBytes}
+use Rattle.codec.specs.Parts.{opOf, commandWidths, commandOf, commandNumbers, depsWidths, depsNumbers, voteOf, voteNumbers, voteWidths, commandAt, depsAt, voteAt, commandBytes, depsBytes, voteBytes}
 
 pub op-other : (b : ℕ) → (b ≡ 0 → ⊥) → (b ≡ 1 → ⊥) → Write ≡ opOf b
 op-other zero p q = absurd (p refl)
@@ -75,6 +75,23 @@ pub voteNumbers-fit : (v : Vote) → VoteFits v → FieldsFit voteWidths (voteNu
 voteNumbers-fit v f =
     let e = f .deps .each in
     (f .voted, (omega (arith, f .status), (omega (arith, op-small (v .command .op)), (f .command .key, (f .command .edit, (e 0, (e 1, (e 2, (e 3, (e 4, (e 5, (e 6, tt))))))))))))
+
+-- dependencies that were written are read back, wherever they stand
+pub depsAt-depsBytes : (d p q : List ℕ) (at : ℕ) → length p ≡ at → DepsFit d → depsAt (p ++ (depsBytes d ++ q)) at ≡ d
+unfolding depsAt depsBytes
+depsAt-depsBytes d p q at e f =
+    let x = f .each in
+    fieldsAt-fieldsBytes depsWidths (depsNumbers d) p q at e (x 0, (x 1, (x 2, (x 3, (x 4, (x 5, (x 6, tt))))))) ∙ deps-are d f
+
+-- and what was read is written back: a command where its op byte is a number of an op
+pub commandBytes-commandAt : (s : List ℕ) (at : ℕ) → ((i : ℕ) → getD s i 0 < 256) → at + 13 ≤ length s → numAt 1 s at ≤ 2
+    → commandBytes (commandAt s at) ≡ take 13 (drop at s)
+unfolding commandAt commandBytes
+commandBytes-commandAt s at b h o = rw (opNumber-opOf (numAt 1 s at) o) (fieldsBytes-fieldsAt commandWidths s at b h)
+
+pub depsBytes-depsAt : (s : List ℕ) (at : ℕ) → ((i : ℕ) → getD s i 0 < 256) → at + 14 ≤ length s → depsBytes (depsAt s at) ≡ take 14 (drop at s)
+unfolding depsAt depsBytes
+depsBytes-depsAt s at b h = fieldsBytes-fieldsAt depsWidths s at b h
 
 -- a vote that was written is read back, wherever it stands
 pub voteAt-voteBytes : (v : Vote) (p q : List ℕ) (at : ℕ) → length p ≡ at → VoteFits v → voteAt (p ++ (voteBytes v ++ q)) at ≡ v

@@ -1,10 +1,137 @@
-use crate::logic::either;
-use crate::logic::equal;
+// The table of bodies, a row for each kind, and beside it all that goes by a body's cases.
+use crate::logic::wide8;
 use crate::vote::no_op;
+use paper::Ballots;
 use paper::Body;
+use paper::Carried;
 use paper::Command;
+use paper::Message;
+use paper::Parts;
+use paper::Role;
+use paper::Row;
+use paper::Vote;
 ghost use mathlib.Core.Path.{_≡_};
-ghost use Rattle.paper.specs.Message.{kindOf, commandIn, votedIn, statusIn, joinedIn, carriesDeps};
+ghost use Rattle.paper.specs.Message.{
+  nothing,
+  dependencies,
+  proposal,
+  wholeVote,
+  higherBallot,
+  saidBy,
+  unknown,
+  rowOf,
+  rowIn,
+  kindOf,
+  commandCarried,
+  joinedCarried,
+  noneCarried,
+  carriedIn,
+  bodyOf,
+  commandIn,
+  votedIn,
+  statusIn,
+  joinedIn,
+  voteIn,
+  isWord,
+  isReply,
+  isFresh,
+  isRecovery,
+};
+
+fn nothing() -> Parts
+    ensures { λ r. ⌜ r ≡ nothing ⌝ }
+{
+    Parts {
+        told: false,
+        command: false,
+        deps: false,
+        joined: false,
+    }
+}
+
+fn dependencies() -> Parts
+    ensures { λ r. ⌜ r ≡ dependencies ⌝ }
+{
+    Parts {
+        told: false,
+        command: false,
+        deps: true,
+        joined: false,
+    }
+}
+
+fn proposal() -> Parts
+    ensures { λ r. ⌜ r ≡ proposal ⌝ }
+{
+    Parts {
+        told: false,
+        command: true,
+        deps: true,
+        joined: false,
+    }
+}
+
+fn whole_vote() -> Parts
+    ensures { λ r. ⌜ r ≡ wholeVote ⌝ }
+{
+    Parts {
+        told: true,
+        command: true,
+        deps: true,
+        joined: false,
+    }
+}
+
+fn higher_ballot() -> Parts
+    ensures { λ r. ⌜ r ≡ higherBallot ⌝ }
+{
+    Parts {
+        told: false,
+        command: false,
+        deps: false,
+        joined: true,
+    }
+}
+
+fn said_by(role: Role, ballots: Ballots, parts: Parts) -> Row
+    ensures { λ r. ⌜ r ≡ saidBy role ballots parts ⌝ }
+{
+    Row {
+        known: true,
+        role,
+        ballots,
+        parts,
+    }
+}
+
+fn unknown() -> Row
+    ensures { λ r. ⌜ r ≡ unknown ⌝ }
+{
+    let parts = nothing();
+    Row {
+        known: false,
+        role: Role::Anyone,
+        ballots: Ballots::Any,
+        parts,
+    }
+}
+
+// The table.
+pub fn row_of(k: usize) -> Row
+    ensures { λ r. ⌜ r ≡ rowOf k ⌝ }
+{
+    match k {
+        1 => said_by(Role::Lead, Ballots::Fresh, proposal()),
+        2 => said_by(Role::Reply, Ballots::Any, dependencies()),
+        3 => said_by(Role::Lead, Ballots::Any, proposal()),
+        4 => said_by(Role::Reply, Ballots::Any, nothing()),
+        5 => said_by(Role::Anyone, Ballots::Any, proposal()),
+        6 => said_by(Role::Lead, Ballots::Recovery, nothing()),
+        7 => said_by(Role::Reply, Ballots::Recovery, whole_vote()),
+        8 => said_by(Role::Reply, Ballots::Any, higher_ballot()),
+        _ => unknown(),
+    }
+}
 
 pub fn kind_of(b: Body) -> u8
     ensures { λ r. ⌜ r ≡ kindOf b ⌝ }
@@ -25,85 +152,167 @@ pub fn kind_of(b: Body) -> u8
     }
 }
 
+pub fn row_in(b: Body) -> Row
+    ensures { λ r. ⌜ r ≡ rowIn b ⌝ }
+{
+    row_of(wide8(kind_of(b)))
+}
+
+fn command_carried(command: Command) -> Carried
+    ensures { λ r. ⌜ r ≡ commandCarried command ⌝ }
+{
+    Carried {
+        voted: 0,
+        status: 0,
+        command,
+        joined: 0,
+    }
+}
+
+fn joined_carried(joined: u32) -> Carried
+    ensures { λ r. ⌜ r ≡ joinedCarried joined ⌝ }
+{
+    let command = no_op();
+    Carried {
+        voted: 0,
+        status: 0,
+        command,
+        joined,
+    }
+}
+
+fn none_carried() -> Carried
+    ensures { λ r. ⌜ r ≡ noneCarried ⌝ }
+{
+    joined_carried(0)
+}
+
+pub fn carried_in(b: Body) -> Carried
+    ensures { λ r. ⌜ r ≡ carriedIn b ⌝ }
+{
+    match b {
+        Body::PreAccept(k) => command_carried(k),
+        Body::PreAcceptOk => none_carried(),
+        Body::Accept(k) => command_carried(k),
+        Body::AcceptOk => none_carried(),
+        Body::Commit(k) => command_carried(k),
+        Body::Prepare => none_carried(),
+        Body::PrepareOk {
+            voted,
+            status,
+            command,
+        } => Carried {
+            voted,
+            status,
+            command,
+            joined: 0,
+        },
+        Body::Nack(joined) => joined_carried(joined),
+    }
+}
+
+// The body of a kind that carries x.
+pub fn body_of(k: usize, x: Carried) -> Body
+    ensures { λ r. ⌜ r ≡ bodyOf k x ⌝ }
+{
+    let command = x.command;
+    match k {
+        1 => Body::PreAccept(command),
+        2 => Body::PreAcceptOk,
+        3 => Body::Accept(command),
+        4 => Body::AcceptOk,
+        5 => Body::Commit(command),
+        6 => Body::Prepare,
+        7 => Body::PrepareOk {
+            voted: x.voted,
+            status: x.status,
+            command,
+        },
+        8 => Body::Nack(x.joined),
+        _ => Body::Prepare,
+    }
+}
+
 pub fn command_in(b: Body) -> Command
     ensures { λ r. ⌜ r ≡ commandIn b ⌝ }
 {
-    match b {
-        Body::PreAccept(k) => k,
-        Body::PreAcceptOk => no_op(),
-        Body::Accept(k) => k,
-        Body::AcceptOk => no_op(),
-        Body::Commit(k) => k,
-        Body::Prepare => no_op(),
-        Body::PrepareOk {
-            voted: _,
-            status: _,
-            command,
-        } => command,
-        Body::Nack(_) => no_op(),
-    }
+    let x = carried_in(b);
+    x.command
 }
 
 pub fn voted_in(b: Body) -> u32
     ensures { λ r. ⌜ r ≡ votedIn b ⌝ }
 {
-    match b {
-        Body::PreAccept(_) => 0,
-        Body::PreAcceptOk => 0,
-        Body::Accept(_) => 0,
-        Body::AcceptOk => 0,
-        Body::Commit(_) => 0,
-        Body::Prepare => 0,
-        Body::PrepareOk {
-            voted,
-            status: _,
-            command: _,
-        } => voted,
-        Body::Nack(_) => 0,
-    }
+    let x = carried_in(b);
+    x.voted
 }
 
 pub fn status_in(b: Body) -> u8
     ensures { λ r. ⌜ r ≡ statusIn b ⌝ }
 {
-    match b {
-        Body::PreAccept(_) => 0,
-        Body::PreAcceptOk => 0,
-        Body::Accept(_) => 0,
-        Body::AcceptOk => 0,
-        Body::Commit(_) => 0,
-        Body::Prepare => 0,
-        Body::PrepareOk {
-            voted: _,
-            status,
-            command: _,
-        } => status,
-        Body::Nack(_) => 0,
-    }
+    let x = carried_in(b);
+    x.status
 }
 
 pub fn joined_in(b: Body) -> u32
     ensures { λ r. ⌜ r ≡ joinedIn b ⌝ }
 {
-    match b {
-        Body::PreAccept(_) => 0,
-        Body::PreAcceptOk => 0,
-        Body::Accept(_) => 0,
-        Body::AcceptOk => 0,
-        Body::Commit(_) => 0,
-        Body::Prepare => 0,
-        Body::PrepareOk {
-            voted: _,
-            status: _,
-            command: _,
-        } => 0,
-        Body::Nack(joined) => joined,
+    let x = carried_in(b);
+    x.joined
+}
+
+// The vote that is told.
+pub fn vote_in(m: Message) -> Vote
+    ensures { λ r. ⌜ r ≡ voteIn m ⌝ }
+{
+    let body = m.body;
+    let x = carried_in(body);
+    let command = x.command;
+    let deps = m.deps;
+    Vote {
+        voted: x.voted,
+        status: x.status,
+        command,
+        deps,
     }
 }
 
-pub fn carries_deps(k: usize) -> bool
-    ensures { λ r. ⌜ r ≡ carriesDeps k ⌝ }
+pub fn is_word(role: Role) -> bool
+    ensures { λ r. ⌜ r ≡ isWord role ⌝ }
 {
-    let first = either(either(equal(k, 1), equal(k, 2)), equal(k, 3));
-    either(either(first, equal(k, 5)), equal(k, 7))
+    match role {
+        Role::Lead => true,
+        Role::Reply => false,
+        Role::Anyone => false,
+    }
+}
+
+pub fn is_reply(role: Role) -> bool
+    ensures { λ r. ⌜ r ≡ isReply role ⌝ }
+{
+    match role {
+        Role::Lead => false,
+        Role::Reply => true,
+        Role::Anyone => false,
+    }
+}
+
+pub fn is_fresh(ballots: Ballots) -> bool
+    ensures { λ r. ⌜ r ≡ isFresh ballots ⌝ }
+{
+    match ballots {
+        Ballots::Any => false,
+        Ballots::Fresh => true,
+        Ballots::Recovery => false,
+    }
+}
+
+pub fn is_recovery(ballots: Ballots) -> bool
+    ensures { λ r. ⌜ r ≡ isRecovery ballots ⌝ }
+{
+    match ballots {
+        Ballots::Any => false,
+        Ballots::Fresh => false,
+        Ballots::Recovery => true,
+    }
 }

@@ -1,4 +1,5 @@
--- "Valid" and "sound", clause by clause: for each clause a case that breaks it alone, and the neighbour that does not.
+-- "Valid" and "sound", clause by clause: for each clause a case that breaks it alone, and the neighbour that does not; of valid
+-- also which clause fails first.
 -- Assumes nothing.
 use Prim.Native.Nat.{ℕ}
 use mathlib.Core.Path.{_≡_, refl}
@@ -12,7 +13,8 @@ use Rattle.paper.specs.Deps.{noDeps, depsOk, sameDeps}
 use Rattle.paper.specs.Ballot.{ballotOk, lead}
 use Rattle.paper.specs.Vote.{noVote, blank, sameVote, noneIsBlank, voteOk, toldOk, addedOk, member}
 use Rattle.paper.specs.Sound.{collectedOk, replyOk, repliesOk, rangesOk, votesOk, preparingOk, proposingOk, busyOk, phasesOk, soundRecord}
-use Rattle.paper.specs.Valid.{headOk, wayOk, bodyOk, valid}
+use Rattle.paper.specs.Message.{rowOf}
+use Rattle.paper.specs.Valid.{Clause, FromRange, ToRange, OwnerRange, NumberRange, BallotRange, RecoveryBallot, ToHere, FromAnother, FromLead, ToLead, VotedRange, ToldBelow, StatusRange, ToldVoted, FreshOp, ToldOp, KeyRange, EditRange, EntryRange, ToldEntry, JoinedRange, JoinedAbove, DepsCarried, Failing, none, first, holdsOf, firstOf, firstFailing}
 use Rattle.paper.specs.declared.Op.{Op}
 use Rattle.paper.specs.declared.Op.the-variants.{Noop, Read, Write}
 use Rattle.paper.specs.declared.Command.{Command}
@@ -23,21 +25,28 @@ use Rattle.paper.specs.declared.Body.the-variants.{PreAccept, PreAcceptO
 use Rattle.paper.specs.declared.Message.{Message}
 
 -- one line of a table: what the definition says, and what the paper says
-record Line : Type 0 where
-  computed : Bool
-  written : Bool
+record Line (A : Type 0) : Type 0 where
+  computed : A
+  written : A
 
-abbrev holds : Bool → Line
+abbrev holds : Bool → Line Bool
 holds b = record { computed = b; written = true }
 
-abbrev fails : Bool → Line
+abbrev fails : Bool → Line Bool
 fails b = record { computed = b; written = false }
 
-computedOf : List Line → List Bool
+abbrev passes : Failing → Line Failing
+passes x = record { computed = x; written = none }
+
+-- the clause that fails first
+abbrev breaks : Clause → Failing → Line Failing
+breaks c x = record { computed = x; written = first c }
+
+computedOf : {A : Type 0} → List (Line A) → List A
 computedOf [] = []
 computedOf (l ∷ ls) = l .computed ∷ computedOf ls
 
-writtenOf : List Line → List Bool
+writtenOf : {A : Type 0} → List (Line A) → List A
 writtenOf [] = []
 writtenOf (l ∷ ls) = l .written ∷ writtenOf ls
 
@@ -64,8 +73,8 @@ abbrev toward : ℕ → Message → Message
 toward q m = record { from = m .from; to = q; owner = m .owner; number = m .number; ballot = m .ballot; body = m .body; deps = m .deps }
 
 -- what copy 2 says of it
-abbrev takes : Message → Bool
-takes m = valid 5 4 2 m
+abbrev takes : Message → Failing
+takes m = firstFailing 5 4 2 m
 
 abbrev commitAt : ℕ → Message
 commitAt b = message 0 b (Commit write) noDeps
@@ -86,116 +95,128 @@ tells v t k d = message 0 18 (PrepareOk v t k) d
 abbrev nackOf : ℕ → Message
 nackOf j = message 0 10 (Nack j) noDeps
 
-validLines : List Line
+validLines : List (Line Failing)
 validLines =
-    -- a valid message of each kind
-    holds (takes (message 1 0 (PreAccept write) (entry 3 4)))
-    ∷ holds (takes (message 0 10 PreAcceptOk (entry 3 4)))
-    ∷ holds (takes (message 1 9 (Accept write) (entry 3 4)))
-    ∷ holds (takes (message 0 10 AcceptOk noDeps))
-    ∷ holds (takes (message 0 0 (Commit write) (entry 3 4)))
-    ∷ holds (takes (message 1 9 Prepare noDeps))
-    ∷ holds (takes (tells 9 3 write (entry 3 4)))
-    ∷ holds (takes (nackOf 11))
+    -- a firstFailing message of each kind
+    passes (takes (message 1 0 (PreAccept write) (entry 3 4)))
+    ∷ passes (takes (message 0 10 PreAcceptOk (entry 3 4)))
+    ∷ passes (takes (message 1 9 (Accept write) (entry 3 4)))
+    ∷ passes (takes (message 0 10 AcceptOk noDeps))
+    ∷ passes (takes (message 0 0 (Commit write) (entry 3 4)))
+    ∷ passes (takes (message 1 9 Prepare noDeps))
+    ∷ passes (takes (tells 9 3 write (entry 3 4)))
+    ∷ passes (takes (nackOf 11))
     -- fromRange: from below N
-    ∷ holds (takes (commitFrom 4))
-    ∷ fails (takes (commitFrom 5))
-    ∷ fails (valid 3 4 2 (commitFrom 3))
-    ∷ holds (valid 7 4 2 (commitFrom 6))
+    ∷ passes (takes (commitFrom 4))
+    ∷ breaks FromRange (takes (commitFrom 5))
+    ∷ breaks FromRange (firstFailing 3 4 2 (commitFrom 3))
+    ∷ passes (firstFailing 7 4 2 (commitFrom 6))
     -- toRange: to below N
-    ∷ holds (valid 5 4 4 (toward 4 (commitFrom 0)))
-    ∷ fails (valid 5 4 5 (toward 5 (commitFrom 0)))
+    ∷ passes (firstFailing 5 4 4 (toward 4 (commitFrom 0)))
+    ∷ breaks ToRange (firstFailing 5 4 5 (toward 5 (commitFrom 0)))
     -- ownerRange: owner below N
-    ∷ holds (takes (about 4 3 (commitFrom 0)))
-    ∷ fails (takes (about 5 3 (commitFrom 0)))
+    ∷ passes (takes (about 4 3 (commitFrom 0)))
+    ∷ breaks OwnerRange (takes (about 5 3 (commitFrom 0)))
     -- numberRange: 1 to S
-    ∷ fails (takes (about 1 0 (commitFrom 0)))
-    ∷ holds (takes (about 1 1 (commitFrom 0)))
-    ∷ holds (takes (about 1 4 (commitFrom 0)))
-    ∷ fails (takes (about 1 5 (commitFrom 0)))
+    ∷ breaks NumberRange (takes (about 1 0 (commitFrom 0)))
+    ∷ passes (takes (about 1 1 (commitFrom 0)))
+    ∷ passes (takes (about 1 4 (commitFrom 0)))
+    ∷ breaks NumberRange (takes (about 1 5 (commitFrom 0)))
     -- ballotRange: 0, or 8r+q with r >= 1 and q < N
-    ∷ holds (takes (commitAt 0))
-    ∷ fails (takes (commitAt 1))
-    ∷ fails (takes (commitAt 4))
-    ∷ holds (takes (commitAt 8))
-    ∷ holds (takes (commitAt 12))
-    ∷ fails (takes (commitAt 13))
-    ∷ fails (takes (commitAt 15))
-    ∷ holds (takes (commitAt 16))
-    ∷ fails (valid 3 4 2 (commitAt 11))
-    ∷ holds (valid 7 4 2 (commitAt 14))
-    -- prepareBallot: kind 6 at ballot 0 (kind 7 at ballot 0 breaks votedBelow too)
-    ∷ fails (takes (message 1 0 Prepare noDeps))
-    ∷ holds (takes (message 0 8 Prepare noDeps))
-    ∷ holds (takes (about 2 3 (message 0 0 PreAcceptOk noDeps)))
+    ∷ passes (takes (commitAt 0))
+    ∷ breaks BallotRange (takes (commitAt 1))
+    ∷ breaks BallotRange (takes (commitAt 4))
+    ∷ passes (takes (commitAt 8))
+    ∷ passes (takes (commitAt 12))
+    ∷ breaks BallotRange (takes (commitAt 13))
+    ∷ breaks BallotRange (takes (commitAt 15))
+    ∷ passes (takes (commitAt 16))
+    ∷ breaks BallotRange (firstFailing 3 4 2 (commitAt 11))
+    ∷ passes (firstFailing 7 4 2 (commitAt 14))
+    -- recoveryBallot: kinds 6 and 7 at ballot 0
+    ∷ breaks RecoveryBallot (takes (message 1 0 Prepare noDeps))
+    ∷ passes (takes (message 0 8 Prepare noDeps))
+    ∷ breaks RecoveryBallot (takes (about 2 3 (message 0 0 (PrepareOk 0 0 noop) noDeps)))
+    ∷ passes (takes (about 2 3 (message 0 0 PreAcceptOk noDeps)))
     -- toHere: another copy's
-    ∷ fails (valid 5 4 3 (commitFrom 0))
+    ∷ breaks ToHere (firstFailing 5 4 3 (commitFrom 0))
     -- fromAnother: its own
-    ∷ fails (takes (commitFrom 2))
+    ∷ breaks FromAnother (takes (commitFrom 2))
     -- fromLead: kinds 1, 3, 6, at ballot 0 from the owner
-    ∷ fails (takes (message 3 0 (PreAccept write) noDeps))
-    ∷ fails (takes (message 3 9 (PreAccept write) noDeps))
-    ∷ holds (takes (message 3 11 (PreAccept write) noDeps))
-    ∷ fails (takes (message 3 9 (Accept write) noDeps))
-    ∷ fails (takes (message 3 9 Prepare noDeps))
+    ∷ breaks FromLead (takes (message 3 0 (PreAccept write) noDeps))
+    ∷ breaks FromLead (takes (message 3 9 (PreAccept write) noDeps))
+    ∷ passes (takes (message 3 11 (PreAccept write) noDeps))
+    ∷ breaks FromLead (takes (message 3 9 (Accept write) noDeps))
+    ∷ breaks FromLead (takes (message 3 9 Prepare noDeps))
     -- toLead: kinds 2, 4, 7, 8, at ballot 0 to the owner
-    ∷ fails (takes (message 0 9 PreAcceptOk noDeps))
-    ∷ fails (takes (message 0 0 PreAcceptOk noDeps))
-    ∷ fails (takes (message 0 9 AcceptOk noDeps))
-    ∷ fails (takes (message 0 17 (PrepareOk 9 3 write) noDeps))
-    ∷ fails (takes (message 0 9 (Nack 11) noDeps))
-    -- commandRange: a no-op has zero key and edit
-    ∷ holds (takes (commitOf noop))
-    ∷ fails (takes (commitOf (command Noop 1 0)))
-    ∷ fails (takes (commitOf (command Noop 0 1)))
-    ∷ holds (takes (commitOf (command Read 1 1)))
-    -- depsRange: entries 0..S, zero from copy N on
-    ∷ holds (takes (commitWith (entry 0 4)))
-    ∷ fails (takes (commitWith (entry 0 5)))
-    ∷ holds (takes (commitWith (entry 4 4)))
-    ∷ fails (takes (commitWith (entry 5 1)))
-    ∷ fails (takes (commitWith (entry 6 1)))
-    ∷ fails (valid 3 4 2 (commitWith (entry 3 1)))
-    ∷ holds (valid 7 4 2 (commitWith (entry 6 4)))
-    ∷ fails (valid 7 4 2 (commitWith (entry 6 5)))
+    ∷ breaks ToLead (takes (message 0 9 PreAcceptOk noDeps))
+    ∷ breaks ToLead (takes (message 0 0 PreAcceptOk noDeps))
+    ∷ breaks ToLead (takes (message 0 9 AcceptOk noDeps))
+    ∷ breaks ToLead (takes (message 0 17 (PrepareOk 9 3 write) noDeps))
+    ∷ breaks ToLead (takes (message 0 9 (Nack 11) noDeps))
+    -- keyRange, editRange: a no-op has zero key and edit
+    ∷ passes (takes (commitOf noop))
+    ∷ breaks KeyRange (takes (commitOf (command Noop 1 0)))
+    ∷ breaks EditRange (takes (commitOf (command Noop 0 1)))
+    ∷ passes (takes (commitOf (command Read 1 1)))
+    -- entryRange: entries 0..S, zero from copy N on
+    ∷ passes (takes (commitWith (entry 0 4)))
+    ∷ breaks (EntryRange 0) (takes (commitWith (entry 0 5)))
+    ∷ passes (takes (commitWith (entry 4 4)))
+    ∷ breaks (EntryRange 5) (takes (commitWith (entry 5 1)))
+    ∷ breaks (EntryRange 6) (takes (commitWith (entry 6 1)))
+    ∷ breaks (EntryRange 3) (firstFailing 3 4 2 (commitWith (entry 3 1)))
+    ∷ passes (firstFailing 7 4 2 (commitWith (entry 6 4)))
+    ∷ breaks (EntryRange 6) (firstFailing 7 4 2 (commitWith (entry 6 5)))
     -- joinedRange: the Nack's ballot
-    ∷ holds (takes (nackOf 12))
-    ∷ fails (takes (nackOf 13))
+    ∷ passes (takes (nackOf 12))
+    ∷ breaks JoinedRange (takes (nackOf 13))
     -- depsCarried: kinds 4, 6 and 8 have zero dependencies
-    ∷ fails (takes (message 0 10 AcceptOk (entry 3 4)))
-    ∷ fails (takes (message 1 9 Prepare (entry 3 4)))
-    ∷ fails (takes (message 0 10 (Nack 11) (entry 3 4)))
+    ∷ breaks DepsCarried (takes (message 0 10 AcceptOk (entry 3 4)))
+    ∷ breaks DepsCarried (takes (message 1 9 Prepare (entry 3 4)))
+    ∷ breaks DepsCarried (takes (message 0 10 (Nack 11) (entry 3 4)))
     -- freshOp: no no-op in a PreAccept at ballot 0
-    ∷ fails (takes (message 1 0 (PreAccept noop) noDeps))
-    ∷ holds (takes (message 1 9 (PreAccept noop) noDeps))
-    ∷ holds (takes (message 1 0 (PreAccept (command Read 7 0)) noDeps))
-    ∷ holds (takes (message 1 0 (Accept noop) noDeps))
-    -- told: votedOk, a ballot
-    ∷ fails (takes (tells 7 1 write noDeps))
-    ∷ holds (takes (tells 8 1 write noDeps))
-    ∷ fails (takes (tells 13 1 write noDeps))
-    -- told: statusOk, 0..3
-    ∷ holds (takes (tells 9 3 write noDeps))
-    ∷ fails (takes (tells 9 4 write noDeps))
-    -- told: votedBelow, voted < ballot
-    ∷ holds (takes (tells 17 2 write noDeps))
-    ∷ fails (takes (tells 18 2 write noDeps))
-    ∷ fails (takes (tells 19 2 write noDeps))
-    -- told: noneIsBlank, with status 0 all else zero
-    ∷ holds (takes (tells 0 0 noop noDeps))
-    ∷ fails (takes (tells 9 0 noop noDeps))
-    ∷ fails (takes (tells 0 0 write noDeps))
-    ∷ fails (takes (tells 0 0 noop (entry 3 4)))
-    ∷ holds (takes (tells 9 1 noop (entry 3 4)))
+    ∷ breaks FreshOp (takes (message 1 0 (PreAccept noop) noDeps))
+    ∷ passes (takes (message 1 9 (PreAccept noop) noDeps))
+    ∷ passes (takes (message 1 0 (PreAccept (command Read 7 0)) noDeps))
+    ∷ passes (takes (message 1 0 (Accept noop) noDeps))
+    -- votedRange: a ballot
+    ∷ breaks VotedRange (takes (tells 7 1 write noDeps))
+    ∷ passes (takes (tells 8 1 write noDeps))
+    ∷ breaks VotedRange (takes (tells 13 1 write noDeps))
+    -- statusRange: 0..3
+    ∷ passes (takes (tells 9 3 write noDeps))
+    ∷ breaks StatusRange (takes (tells 9 4 write noDeps))
+    -- toldBelow: voted < ballot
+    ∷ passes (takes (tells 17 2 write noDeps))
+    ∷ breaks ToldBelow (takes (tells 18 2 write noDeps))
+    ∷ breaks ToldBelow (takes (tells 19 2 write noDeps))
+    -- toldVoted, toldOp, toldEntry: with status 0 all else zero
+    ∷ passes (takes (tells 0 0 noop noDeps))
+    ∷ breaks ToldVoted (takes (tells 9 0 noop noDeps))
+    ∷ breaks ToldOp (takes (tells 0 0 write noDeps))
+    ∷ breaks (ToldEntry 3) (takes (tells 0 0 noop (entry 3 4)))
+    ∷ passes (takes (tells 9 1 noop (entry 3 4)))
     -- joinedAbove: the Nack's joined > ballot
-    ∷ fails (takes (nackOf 9))
-    ∷ fails (takes (nackOf 10))
-    ∷ fails (takes (nackOf 0))
+    ∷ breaks JoinedAbove (takes (nackOf 9))
+    ∷ breaks JoinedAbove (takes (nackOf 10))
+    ∷ breaks JoinedAbove (takes (nackOf 0))
+    -- of several, the first: the head's ranges, the way, the body's fields in the order of the bytes
+    ∷ breaks FromRange (firstFailing 5 4 3 (toward 5 (commitFrom 5)))
+    ∷ breaks BallotRange (firstFailing 5 4 3 (about 1 3 (commitAt 1)))
+    ∷ breaks ToHere (firstFailing 5 4 3 (message 3 0 (PreAccept noop) (entry 5 1)))
+    ∷ breaks FromLead (takes (message 3 0 (PreAccept noop) (entry 5 1)))
+    ∷ breaks FreshOp (takes (message 1 0 (PreAccept (command Noop 1 1)) (entry 5 1)))
+    ∷ breaks VotedRange (takes (tells 21 4 (command Noop 1 1) (entry 5 1)))
+    ∷ breaks StatusRange (takes (tells 9 4 (command Noop 1 1) (entry 5 1)))
+    ∷ breaks KeyRange (takes (tells 9 3 (command Noop 1 1) (entry 5 1)))
+    ∷ breaks (ToldEntry 0) (takes (tells 0 0 noop (1 ∷ 5 ∷ 0 ∷ 0 ∷ 0 ∷ 0 ∷ 0 ∷ [])))
+    ∷ breaks JoinedRange (takes (message 0 10 (Nack 1) (entry 3 4)))
     ∷ []
 
 -- "Valid": each line as the paper has it
 valid-clauses : computedOf validLines ≡ writtenOf validLines
-unfolding computedOf writtenOf validLines valid headOk wayOk bodyOk ballotOk lead commandOk depsOk sameDeps allBelow toldOk voteOk noneIsBlank
+unfolding computedOf writtenOf validLines firstFailing firstOf holdsOf rowOf ballotOk lead sameDeps allBelow
 valid-clauses = refl
 
 -- Records: of 1.3, at copy 2 of five, which leads ballots 10 and 18.
@@ -244,7 +265,7 @@ toldTo v = sound (kept 0 v (preparing 10 5 (vote 9 1)))
 abbrev addedTo : Vote → Bool
 addedTo v = sound (kept 0 v (busy 2 1 preaccepting))
 
-soundLines : List Line
+soundLines : List (Line Bool)
 soundLines =
     -- a sound record in each status and phase
     holds (sound blank)

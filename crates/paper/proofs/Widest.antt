@@ -59,6 +59,6 @@ sent-fits = record {
   owner = omega arith;
   number = omega arith;
   ballot = omega arith;
-  body = (omega arith, omega arith, command-fits);
+  body = record { voted = omega arith; status = omega arith; command = command-fits; joined = omega arith };
   deps = deps-fit;
 }

@@ -24,8 +24,14 @@ unfoldable pub sameCommand : Command → Command → Bool
 sameCommand a b = eqb (opNumber (a .op)) (opNumber (b .op)) && eqb (a .key) (b .key) && eqb (a .edit) (b .edit)
 
 -- a no-op has zero key and edit
+abbrev pub keyOk : Command → Bool
+keyOk c = implies (isNoop c) (eqb (c .key) 0)
+
+abbrev pub editOk : Command → Bool
+editOk c = implies (isNoop c) (eqb (c .edit) 0)
+
 unfoldable pub commandOk : Command → Bool
-commandOk c = implies (isNoop c) (eqb (c .key) 0 && eqb (c .edit) 0)
+commandOk c = keyOk c && editOk c
 
 -- two commands interfere if neither is a no-op and their keys are equal
 unfoldable pub interfere : Command → Command → Bool

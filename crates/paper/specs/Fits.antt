@@ -6,8 +6,8 @@ use lib.ListN.{length, getD}
 use Rattle.paper.specs.declared.Command.{Command}
 use Rattle.paper.specs.declared.Vote.{Vote}
 use Rattle.paper.specs.declared.Record.{Record}
-use Rattle.paper.specs.declared.Body.{Body}
-use Rattle.paper.specs.declared.Body.the-variants.{PreAccept, PreAcceptOk, Accept, AcceptOk, Commit, Prepare, PrepareOk, Nack}
+use Rattle.paper.specs.declared.Carried.{Carried}
+use Rattle.paper.specs.Message.{carriedIn}
 use Rattle.paper.specs.declared.Message.{Message}
 
 pub record CommandFits (k : Command) : Type 0 where
@@ -37,15 +37,11 @@ pub record RecordFits (r : Record) : Type 0 where
   pub seven : length (r .replies) ≡ 7
   pub replies : VotesFit (r .replies)
 
-abbrev pub BodyFits : Body → Type 0
-BodyFits (PreAccept k) = CommandFits k
-BodyFits PreAcceptOk = Unit {0}
-BodyFits (Accept k) = CommandFits k
-BodyFits AcceptOk = Unit {0}
-BodyFits (Commit k) = CommandFits k
-BodyFits Prepare = Unit {0}
-BodyFits (PrepareOk v t k) = (v < 256 ^ 4) × (t < 256) × CommandFits k
-BodyFits (Nack x) = x < 256 ^ 4
+pub record CarriedFits (x : Carried) : Type 0 where
+  pub voted : x .voted < 256 ^ 4
+  pub status : x .status < 256
+  pub command : CommandFits (x .command)
+  pub joined : x .joined < 256 ^ 4
 
 pub record MessageFits (m : Message) : Type 0 where
   pub from : m .from < 256
@@ -53,5 +49,5 @@ pub record MessageFits (m : Message) : Type 0 where
   pub owner : m .owner < 256
   pub number : m .number < 256 ^ 2
   pub ballot : m .ballot < 256 ^ 4
-  pub body : BodyFits (m .body)
+  pub body : CarriedFits (carriedIn (m .body))
   pub deps : DepsFit (m .deps)

@@ -1,14 +1,62 @@
--- "Messages": the kinds and what each body holds. Assumes nothing.
+-- "Messages": the table of bodies, a row for each kind, and beside it all that goes by a body's cases. Lengths, reader, writer,
+-- roles and validity follow from the rows. Assumes nothing.
 use Prim.Native.Nat.{ℕ}
-use mathlib.Core.Bool.{Bool, _||_}
-use lib.Dec.{eqb}
+use mathlib.Core.Bool.{Bool, true, false, cond}
+use mathlib.Core.List.{List, [], _∷_}
+use lib.ListN.{getD}
 use Rattle.paper.specs.Command.{noop}
 use Rattle.paper.specs.Deps.{noDeps}
 use Rattle.paper.specs.declared.Command.{Command}
 use Rattle.paper.specs.declared.Body.{Body}
 use Rattle.paper.specs.declared.Body.the-variants.{PreAccept, PreAcceptOk, Accept, AcceptOk, Commit, Prepare, PrepareOk, Nack}
+use Rattle.paper.specs.declared.Carried.{Carried}
+use Rattle.paper.specs.declared.Role.{Role}
+use Rattle.paper.specs.declared.Role.the-variants.{Lead, Reply, Anyone}
+use Rattle.paper.specs.declared.Ballots.{Ballots}
+use Rattle.paper.specs.declared.Ballots.the-variants.{Any, Fresh, Recovery}
+use Rattle.paper.specs.declared.Parts.{Parts}
+use Rattle.paper.specs.declared.Row.{Row}
 use Rattle.paper.specs.declared.Vote.{Vote}
 use Rattle.paper.specs.declared.Message.{Message}
+
+-- the rest of a kind: what stands after the head
+abbrev pub nothing : Parts
+nothing = record { told = false; command = false; deps = false; joined = false }
+
+abbrev pub dependencies : Parts
+dependencies = record { told = false; command = false; deps = true; joined = false }
+
+abbrev pub proposal : Parts
+proposal = record { told = false; command = true; deps = true; joined = false }
+
+abbrev pub wholeVote : Parts
+wholeVote = record { told = true; command = true; deps = true; joined = false }
+
+abbrev pub higherBallot : Parts
+higherBallot = record { told = false; command = false; deps = false; joined = true }
+
+abbrev pub saidBy : Role → Ballots → Parts → Row
+saidBy r b p = record { known = true; role = r; ballots = b; parts = p }
+
+-- a kind that is none
+abbrev pub unknown : Row
+unknown = record { known = false; role = Anyone; ballots = Any; parts = nothing }
+
+-- the table of bodies, from kind 1 on
+abbrev pub rows : List Row
+rows =
+    saidBy Lead Fresh proposal
+    ∷ saidBy Reply Any dependencies
+    ∷ saidBy Lead Any proposal
+    ∷ saidBy Reply Any nothing
+    ∷ saidBy Anyone Any proposal
+    ∷ saidBy Lead Recovery nothing
+    ∷ saidBy Reply Recovery wholeVote
+    ∷ saidBy Reply Any higherBallot
+    ∷ []
+
+unfoldable pub rowOf : ℕ → Row
+rowOf k = getD (unknown ∷ rows) k unknown
 
 abbrev pub kindOf : Body → ℕ
 kindOf (PreAccept c) = 1
@@ -20,54 +68,98 @@ kindOf Prepare = 6
 kindOf (PrepareOk v t c) = 7
 kindOf (Nack j) = 8
 
--- what a body carries; a no-op or zero where it carries none
+-- a body carries nothing; a command; a joined ballot
+abbrev pub noneCarried : Carried
+noneCarried = record { voted = 0; status = 0; command = noop; joined = 0 }
+
+abbrev pub commandCarried : Command → Carried
+commandCarried c = record { voted = 0; status = 0; command = c; joined = 0 }
+
+abbrev pub joinedCarried : ℕ → Carried
+joinedCarried j = record { voted = 0; status = 0; command = noop; joined = j }
+
+abbrev pub carriedIn : Body → Carried
+carriedIn (PreAccept c) = commandCarried c
+carriedIn PreAcceptOk = noneCarried
+carriedIn (Accept c) = commandCarried c
+carriedIn AcceptOk = noneCarried
+carriedIn (Commit c) = commandCarried c
+carriedIn Prepare = noneCarried
+carriedIn (PrepareOk v t c) = record { voted = v; status = t; command = c; joined = 0 }
+carriedIn (Nack j) = joinedCarried j
+
+-- a body of each kind that carries x, from kind 1 on
+abbrev pub bodies : Carried → List Body
+bodies x =
+    PreAccept (x .command)
+    ∷ PreAcceptOk
+    ∷ Accept (x .command)
+    ∷ AcceptOk
+    ∷ Commit (x .command)
+    ∷ Prepare
+    ∷ PrepareOk (x .voted) (x .status) (x .command)
+    ∷ Nack (x .joined)
+    ∷ []
+
+unfoldable pub bodyOf : ℕ → Carried → Body
+bodyOf k x = getD (Prepare ∷ bodies x) k Prepare
+
+abbrev pub rowIn : Body → Row
+rowIn b = rowOf (kindOf b)
+
+abbrev pub partsOf : ℕ → Parts
+partsOf k = rowOf k .parts
+
+abbrev pub partsIn : Body → Parts
+partsIn b = partsOf (kindOf b)
+
 abbrev pub commandIn : Body → Command
-commandIn (PreAccept c) = c
-commandIn PreAcceptOk = noop
-commandIn (Accept c) = c
-commandIn AcceptOk = noop
-commandIn (Commit c) = c
-commandIn Prepare = noop
-commandIn (PrepareOk v t c) = c
-commandIn (Nack j) = noop
+commandIn b = carriedIn b .command
 
 abbrev pub votedIn : Body → ℕ
-votedIn (PreAccept c) = 0
-votedIn PreAcceptOk = 0
-votedIn (Accept c) = 0
-votedIn AcceptOk = 0
-votedIn (Commit c) = 0
-votedIn Prepare = 0
-votedIn (PrepareOk v t c) = v
-votedIn (Nack j) = 0
+votedIn b = carriedIn b .voted
 
 abbrev pub statusIn : Body → ℕ
-statusIn (PreAccept c) = 0
-statusIn PreAcceptOk = 0
-statusIn (Accept c) = 0
-statusIn AcceptOk = 0
-statusIn (Commit c) = 0
-statusIn Prepare = 0
-statusIn (PrepareOk v t c) = t
-statusIn (Nack j) = 0
+statusIn b = carriedIn b .status
 
 abbrev pub joinedIn : Body → ℕ
-joinedIn (PreAccept c) = 0
-joinedIn PreAcceptOk = 0
-joinedIn (Accept c) = 0
-joinedIn AcceptOk = 0
-joinedIn (Commit c) = 0
-joinedIn Prepare = 0
-joinedIn (PrepareOk v t c) = 0
-joinedIn (Nack j) = j
+joinedIn b = carriedIn b .joined
 
--- the vote that a PrepareOK tells
+-- the vote that is told: what the body carries, with the dependencies beside it
 abbrev pub voteIn : Message → Vote
 voteIn m = record { voted = votedIn (m .body); status = statusIn (m .body); command = commandIn (m .body); deps = m .deps }
 
--- kinds 4, 6 and 8 carry no dependencies
-abbrev pub carriesDeps : ℕ → Bool
-carriesDeps k = eqb k 1 || eqb k 2 || eqb k 3 || eqb k 5 || eqb k 7
+-- what these parts hold of it
+unfoldable pub kept : Parts → Carried → Carried
+kept p x =
+    record {
+      voted = cond (p .told) (x .voted) 0;
+      status = cond (p .told) (x .status) 0;
+      command = cond (p .command) (x .command) noop;
+      joined = cond (p .joined) (x .joined) 0;
+    }
+
+-- the lead's word; a reply to the lead
+abbrev pub isWord : Role → Bool
+isWord Lead = true
+isWord Reply = false
+isWord Anyone = false
+
+abbrev pub isReply : Role → Bool
+isReply Lead = false
+isReply Reply = true
+isReply Anyone = false
+
+-- of no no-op at ballot 0; in recovery alone
+abbrev pub isFresh : Ballots → Bool
+isFresh Any = false
+isFresh Fresh = true
+isFresh Recovery = false
+
+abbrev pub isRecovery : Ballots → Bool
+isRecovery Any = false
+isRecovery Fresh = false
+isRecovery Recovery = true
 
 -- what a refused reader hands back
 abbrev pub noMessage : Message

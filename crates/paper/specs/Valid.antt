@@ -1,21 +1,22 @@
--- "Messages": when a message is valid, a clause at a time, in the order in which a later refusal will name them.
--- Length, kind byte and op byte are the bytes' own: the codec asks them. Assumes nothing.
--- n, s: the setup; c: the copy that receives; m: the message.
+-- "Messages": when a message is valid: the clauses, in the order in which a later refusal will name the first that fails.
+-- Length, kind byte and op byte are the bytes' own: the wire asks them. Assumes nothing.
+-- n, s: the setup; c: the copy that receives; m: the message; w: the row of its kind; v: the vote that it carries; j: the joined
+-- ballot that it carries.
 use Prim.Native.Nat.{ℕ}
-use mathlib.Core.Bool.{Bool, _&&_, _||_, not}
+use mathlib.Core.Bool.{Bool, true, false, _&&_, _||_, not, cond}
+use mathlib.Core.List.{List, [], _∷_, _++_}
 use lib.Dec.{leb, ltb, eqb}
 use Rattle.paper.specs.Logic.{implies}
 use Rattle.paper.specs.Instance.{ownerOk, numberOk}
 use Rattle.paper.specs.Setup.{copyOk}
-use Rattle.paper.specs.Command.{isNoop, commandOk}
-use Rattle.paper.specs.Deps.{depsOk, sameDeps, noDeps}
+use Rattle.paper.specs.Command.{isNoop, keyOk, editOk}
+use Rattle.paper.specs.Deps.{entryOk, sameDeps, noDeps}
 use Rattle.paper.specs.Ballot.{ballotOk, lead}
-use Rattle.paper.specs.Vote.{toldOk}
-use Rattle.paper.specs.Message.{kindOf, commandIn, voteIn, joinedIn, carriesDeps}
+use Rattle.paper.specs.Vote.{votedOk, statusOk, votedBelow, noneVoted, noneOp, noneEntry}
+use Rattle.paper.specs.Message.{rowIn, voteIn, joinedIn, isWord, isReply, isFresh, isRecovery}
+use Rattle.paper.specs.declared.Vote.{Vote}
+use Rattle.paper.specs.declared.Row.{Row}
 use Rattle.paper.specs.declared.Message.{Message}
-
-abbrev pub kind : Message → ℕ
-kind m = kindOf (m .body)
 
 abbrev pub leadOf : Message → ℕ
 leadOf m = lead (m .owner) (m .ballot)
@@ -37,8 +38,8 @@ abbrev pub ballotRange : ℕ → Message → Bool
 ballotRange n m = ballotOk n (m .ballot)
 
 -- kinds 6, 7 have ballot >= 8
-abbrev pub prepareBallot : Message → Bool
-prepareBallot m = implies (eqb (kind m) 6 || eqb (kind m) 7) (leb 8 (m .ballot))
+abbrev pub recoveryBallot : Row → Message → Bool
+recoveryBallot w m = implies (isRecovery (w .ballots)) (leb 8 (m .ballot))
 
 -- to = this copy, from another
 abbrev pub toHere : ℕ → Message → Bool
@@ -48,48 +49,108 @@ abbrev pub fromAnother : ℕ → Message → Bool
 fromAnother c m = not (eqb (m .from) c)
 
 -- kinds 1, 3, 6 come from the ballot's lead
-abbrev pub fromLead : Message → Bool
-fromLead m = implies (eqb (kind m) 1 || eqb (kind m) 3 || eqb (kind m) 6) (eqb (m .from) (leadOf m))
+abbrev pub fromLead : Row → Message → Bool
+fromLead w m = implies (isWord (w .role)) (eqb (m .from) (leadOf m))
 
 -- kinds 2, 4, 7, 8 come to it
-abbrev pub toLead : Message → Bool
-toLead m = implies (eqb (kind m) 2 || eqb (kind m) 4 || eqb (kind m) 7 || eqb (kind m) 8) (eqb (m .to) (leadOf m))
+abbrev pub toLead : Row → Message → Bool
+toLead w m = implies (isReply (w .role)) (eqb (m .to) (leadOf m))
 
--- the ranges of the body
-abbrev pub commandRange : Message → Bool
-commandRange m = commandOk (commandIn (m .body))
+-- kind 7 has voted < ballot, and with status 0 all else zero: each field as far as it has been read
+abbrev pub toldBelow : Row → Message → Vote → Bool
+toldBelow w m v = implies (w .parts .told) (votedBelow (m .ballot) v)
 
-abbrev pub depsRange : ℕ → ℕ → Message → Bool
-depsRange n s m = depsOk n s (m .deps)
+abbrev pub toldVoted : Row → Vote → Bool
+toldVoted w v = implies (w .parts .told) (noneVoted v)
 
-abbrev pub joinedRange : ℕ → Message → Bool
-joinedRange n m = ballotOk n (joinedIn (m .body))
+abbrev pub toldOp : Row → Vote → Bool
+toldOp w v = implies (w .parts .told) (noneOp v)
 
--- a body without dependencies has zero ones beside it
-abbrev pub depsCarried : Message → Bool
-depsCarried m = carriesDeps (kind m) || sameDeps (m .deps) noDeps
+abbrev pub toldEntry : Row → Vote → ℕ → Bool
+toldEntry w v i = implies (w .parts .told) (noneEntry v i)
 
 -- kind 1 at ballot 0 has no no-op
-abbrev pub freshOp : Message → Bool
-freshOp m = implies (eqb (kind m) 1 && eqb (m .ballot) 0) (not (isNoop (commandIn (m .body))))
+abbrev pub freshOp : Row → Message → Vote → Bool
+freshOp w m v = implies (isFresh (w .ballots) && eqb (m .ballot) 0) (not (isNoop (v .command)))
 
--- kind 7 has voted < ballot, and with status 0 all else zero
-abbrev pub told : ℕ → ℕ → Message → Bool
-told n s m = implies (eqb (kind m) 7) (toldOk n s (m .ballot) (voteIn m))
+-- the Nack's ballot
+abbrev pub joinedRange : ℕ → ℕ → Bool
+joinedRange n j = ballotOk n j
 
 -- kind 8 has joined > ballot
-abbrev pub joinedAbove : Message → Bool
-joinedAbove m = implies (eqb (kind m) 8) (ltb (m .ballot) (joinedIn (m .body)))
+abbrev pub joinedAbove : Row → Message → ℕ → Bool
+joinedAbove w m j = implies (w .parts .joined) (ltb (m .ballot) j)
 
-unfoldable pub headOk : ℕ → ℕ → Message → Bool
-headOk n s m = fromRange n m && toRange n m && ownerRange n m && numberRange s m && ballotRange n m && prepareBallot m
+-- a body without dependencies has zero ones beside it; what is read from bytes always does
+abbrev pub depsCarried : Row → Message → Bool
+depsCarried w m = w .parts .deps || sameDeps (m .deps) noDeps
 
-unfoldable pub wayOk : ℕ → Message → Bool
-wayOk c m = toHere c m && fromAnother c m && fromLead m && toLead m
+pub data Clause : Type 0 where
+  FromRange ToRange OwnerRange NumberRange BallotRange RecoveryBallot : Clause
+  ToHere FromAnother FromLead ToLead : Clause
+  VotedRange ToldBelow StatusRange ToldVoted : Clause
+  FreshOp ToldOp KeyRange EditRange : Clause
+  EntryRange ToldEntry : ℕ → Clause
+  JoinedRange JoinedAbove DepsCarried : Clause
 
-unfoldable pub bodyOk : ℕ → ℕ → Message → Bool
-bodyOk n s m =
-    commandRange m && depsRange n s m && joinedRange n m && depsCarried m && freshOp m && told n s m && joinedAbove m
+unfoldable pub holdsOf : ℕ → ℕ → ℕ → Row → Message → Vote → ℕ → Clause → Bool
+holdsOf n s c w m v j FromRange = fromRange n m
+holdsOf n s c w m v j ToRange = toRange n m
+holdsOf n s c w m v j OwnerRange = ownerRange n m
+holdsOf n s c w m v j NumberRange = numberRange s m
+holdsOf n s c w m v j BallotRange = ballotRange n m
+holdsOf n s c w m v j RecoveryBallot = recoveryBallot w m
+holdsOf n s c w m v j ToHere = toHere c m
+holdsOf n s c w m v j FromAnother = fromAnother c m
+holdsOf n s c w m v j FromLead = fromLead w m
+holdsOf n s c w m v j ToLead = toLead w m
+holdsOf n s c w m v j VotedRange = votedOk n v
+holdsOf n s c w m v j ToldBelow = toldBelow w m v
+holdsOf n s c w m v j StatusRange = statusOk 3 v
+holdsOf n s c w m v j ToldVoted = toldVoted w v
+holdsOf n s c w m v j FreshOp = freshOp w m v
+holdsOf n s c w m v j ToldOp = toldOp w v
+holdsOf n s c w m v j KeyRange = keyOk (v .command)
+holdsOf n s c w m v j EditRange = editOk (v .command)
+holdsOf n s c w m v j (EntryRange i) = entryOk n s (v .deps) i
+holdsOf n s c w m v j (ToldEntry i) = toldEntry w v i
+holdsOf n s c w m v j JoinedRange = joinedRange n j
+holdsOf n s c w m v j JoinedAbove = joinedAbove w m j
+holdsOf n s c w m v j DepsCarried = depsCarried w m
 
+-- a clause, of a message as received by copy c
+abbrev pub holds : ℕ → ℕ → ℕ → Message → Clause → Bool
+holds n s c m x = holdsOf n s c (rowIn (m .body)) m (voteIn m) (joinedIn (m .body)) x
+
+-- in the order in which they are tried: the head's ranges, the way, the body's fields as they stand in the bytes
+abbrev pub entryClauses : ℕ → List Clause
+entryClauses i = EntryRange i ∷ ToldEntry i ∷ []
+
+abbrev pub clauses : List Clause
+clauses =
+    (FromRange ∷ ToRange ∷ OwnerRange ∷ NumberRange ∷ BallotRange ∷ RecoveryBallot ∷ [])
+    ++ (ToHere ∷ FromAnother ∷ FromLead ∷ ToLead ∷ [])
+    ++ (VotedRange ∷ ToldBelow ∷ StatusRange ∷ ToldVoted ∷ [])
+    ++ (FreshOp ∷ ToldOp ∷ KeyRange ∷ EditRange ∷ [])
+    ++ entryClauses 0 ++ entryClauses 1 ++ entryClauses 2 ++ entryClauses 3 ++ entryClauses 4 ++ entryClauses 5 ++ entryClauses 6
+    ++ (JoinedRange ∷ JoinedAbove ∷ DepsCarried ∷ [])
+
+-- the first of these clauses that fails
+pub data Failing : Type 0 where
+  none : Failing
+  first : Clause → Failing
+
+unfoldable pub firstOf : (Clause → Bool) → List Clause → Failing
+firstOf f [] = none
+firstOf f (x ∷ xs) = cond (f x) (firstOf f xs) (first x)
+
+unfoldable pub firstFailing : ℕ → ℕ → ℕ → Message → Failing
+firstFailing n s c m = firstOf (holds n s c m) clauses
+
+abbrev pub isNone : Failing → Bool
+isNone none = true
+isNone (first x) = false
+
+-- none fails
 unfoldable pub valid : ℕ → ℕ → ℕ → Message → Bool
-valid n s c m = headOk n s m && wayOk c m && bodyOk n s m
+valid n s c m = isNone (firstFailing n s c m)

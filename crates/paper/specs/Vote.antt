@@ -3,8 +3,8 @@ use Prim.Native.Nat.{ℕ, _/_, _%_, _^_}
 use mathlib.Core.Bool.{Bool, _&&_}
 use lib.Count.{ones}
 use lib.Dec.{leb, ltb, eqb}
-use lib.ListN.{replicate}
-use Rattle.paper.specs.Logic.{implies}
+use lib.ListN.{getD, replicate}
+use Rattle.paper.specs.Logic.{implies, allBelow}
 use Rattle.paper.specs.Command.{isNoop, noop, sameCommand, commandOk}
 use Rattle.paper.specs.Deps.{noDeps, sameDeps, depsOk}
 use Rattle.paper.specs.Ballot.{ballotOk}
@@ -24,8 +24,17 @@ sameVote v w =
     eqb (v .voted) (w .voted) && eqb (v .status) (w .status) && sameCommand (v .command) (w .command) && sameDeps (v .deps) (w .deps)
 
 -- status 0 has voted 0, no-op and zero dependencies
+abbrev pub noneVoted : Vote → Bool
+noneVoted v = implies (eqb (v .status) 0) (eqb (v .voted) 0)
+
+abbrev pub noneOp : Vote → Bool
+noneOp v = implies (eqb (v .status) 0) (isNoop (v .command))
+
+abbrev pub noneEntry : Vote → ℕ → Bool
+noneEntry v i = implies (eqb (v .status) 0) (eqb (getD (v .deps) i 0) 0)
+
 unfoldable pub noneIsBlank : Vote → Bool
-noneIsBlank v = implies (eqb (v .status) 0) (eqb (v .voted) 0 && isNoop (v .command) && sameDeps (v .deps) noDeps)
+noneIsBlank v = noneVoted v && noneOp v && allBelow 7 (noneEntry v)
 
 abbrev pub votedOk : ℕ → Vote → Bool
 votedOk n v = ballotOk n (v .voted)

@@ -59,6 +59,44 @@ pub struct Message {
     pub deps: [u16; 7],
 }
 
+// What a body carries; zero, and a no-op, where it carries none.
+pub struct Carried {
+    pub voted: u32,
+    pub status: u8,
+    pub command: Command,
+    pub joined: u32,
+}
+
+// Who says it: the ballot's lead, one who answers the lead, or any copy.
+pub enum Role {
+    Lead,
+    Reply,
+    Anyone,
+}
+
+// At which ballots it is said: at any; at any, but of no no-op at ballot 0; in recovery alone, from ballot 8 on.
+pub enum Ballots {
+    Any,
+    Fresh,
+    Recovery,
+}
+
+// What stands in the bytes after the head, in this order: voted ballot and status, command, dependencies, joined ballot.
+pub struct Parts {
+    pub told: bool,
+    pub command: bool,
+    pub deps: bool,
+    pub joined: bool,
+}
+
+// A row of the table of bodies.
+pub struct Row {
+    pub known: bool,
+    pub role: Role,
+    pub ballots: Ballots,
+    pub parts: Parts,
+}
+
 // Why a call is refused, in the order in which the reasons are tried.
 pub enum Refusal {
     Setup,

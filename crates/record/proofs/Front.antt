@@ -36,7 +36,7 @@ module _ (b : List ℕ) {x : ℕ} (ex : x ≡ numAt 1 b 9) where
   command-edit h ek g ee = rw (sym ex ∙ h, eq-eqb (numAt 4 b 10) 0 (sym ek ∙ g), ee)
 
 pub none-some : (b : List ℕ) {x : ℕ} → x ≡ numAt 1 b 8 → (x ≡ 0 → ⊥) → true ≡ noneIsBlank (voteAt b 4)
-unfolding noneIsBlank voteAt
+unfolding noneIsBlank voteAt allBelow
 none-some b ex h = rw (ne-eqb (numAt 1 b 8) 0 (λ z. h (ex ∙ z)))
 
 -- seven copies or more: no entry is past them

@@ -1,63 +1,50 @@
-// Whether a message is valid, by value: a function for each clause of the paper, under the clause's name.
+// Whether a message is valid, by value: a function for each clause of the paper, under the clause's name; those of the vote
+// that it carries are asked at once, as of a record.
 use nouns::ballot::ballot_ok;
 use nouns::ballot::lead_of;
-use nouns::command::command_ok;
 use nouns::command::is_noop;
-use nouns::deps::deps_ok;
 use nouns::deps::no_deps;
 use nouns::deps::same_deps;
 use nouns::logic::at_most;
 use nouns::logic::below;
 use nouns::logic::both;
-use nouns::logic::either;
 use nouns::logic::equal;
 use nouns::logic::implied;
 use nouns::logic::wide8;
 use nouns::logic::wide16;
 use nouns::logic::wide32;
-use nouns::message::carries_deps;
-use nouns::message::command_in;
+use nouns::message::is_fresh;
+use nouns::message::is_recovery;
+use nouns::message::is_reply;
+use nouns::message::is_word;
 use nouns::message::joined_in;
-use nouns::message::kind_of;
-use nouns::message::status_in;
-use nouns::message::voted_in;
-use nouns::vote::told_ok;
+use nouns::message::row_in;
+use nouns::message::vote_in;
+use nouns::vote::none_is_blank;
+use nouns::vote::vote_ok;
 use paper::Message;
+use paper::Row;
 use paper::Vote;
 ghost use mathlib.Core.Path.{_≡_};
-ghost use Rattle.paper.specs.Message.{voteIn};
 ghost use Rattle.paper.specs.Valid.{
-  kind,
   leadOf,
   fromRange,
   toRange,
   ownerRange,
   numberRange,
   ballotRange,
-  prepareBallot,
+  recoveryBallot,
   toHere,
   fromAnother,
   fromLead,
   toLead,
-  commandRange,
-  depsRange,
-  joinedRange,
-  depsCarried,
   freshOp,
-  told,
+  joinedRange,
   joinedAbove,
-  headOk,
-  wayOk,
-  bodyOk,
+  depsCarried,
   valid,
 };
-
-fn kind_in(m: Message) -> usize
-    ensures { λ r. ⌜ r ≡ kind m ⌝ }
-{
-    let body = m.body;
-    wide8(kind_of(body))
-}
+ghost use Rattle.valid.specs.Groups.{headOk, wayOk, told, bodyOk};
 
 fn lead_in(m: Message) -> usize
     ensures { λ r. ⌜ r ≡ leadOf m ⌝ }
@@ -95,14 +82,11 @@ fn ballot_range(n: usize, m: Message) -> bool
     ballot_ok(n, m.ballot)
 }
 
-fn prepare_ballot(m: Message) -> bool
-    ensures { λ r. ⌜ r ≡ prepareBallot m ⌝ }
+fn recovery_ballot(w: Row, m: Message) -> bool
+    ensures { λ r. ⌜ r ≡ recoveryBallot w m ⌝ }
 {
-    let k = kind_in(m);
-    implied(
-        either(equal(k, 6), equal(k, 7)),
-        at_most(8, wide32(m.ballot)),
-    )
+    let ballots = w.ballots;
+    implied(is_recovery(ballots), at_most(8, wide32(m.ballot)))
 }
 
 fn to_here(c: usize, m: Message) -> bool
@@ -117,137 +101,93 @@ fn from_another(c: usize, m: Message) -> bool
     !equal(wide8(m.from), c)
 }
 
-fn from_lead(m: Message) -> bool
-    ensures { λ r. ⌜ r ≡ fromLead m ⌝ }
+fn from_lead(w: Row, m: Message) -> bool
+    ensures { λ r. ⌜ r ≡ fromLead w m ⌝ }
 {
-    let k = kind_in(m);
-    let asked = either(either(equal(k, 1), equal(k, 3)), equal(k, 6));
-    implied(asked, equal(wide8(m.from), lead_in(m)))
+    let role = w.role;
+    implied(is_word(role), equal(wide8(m.from), lead_in(m)))
 }
 
-fn to_lead(m: Message) -> bool
-    ensures { λ r. ⌜ r ≡ toLead m ⌝ }
+fn to_lead(w: Row, m: Message) -> bool
+    ensures { λ r. ⌜ r ≡ toLead w m ⌝ }
 {
-    let k = kind_in(m);
-    let asked = either(
-        either(either(equal(k, 2), equal(k, 4)), equal(k, 7)),
-        equal(k, 8),
-    );
-    implied(asked, equal(wide8(m.to), lead_in(m)))
+    let role = w.role;
+    implied(is_reply(role), equal(wide8(m.to), lead_in(m)))
 }
 
-fn command_range(m: Message) -> bool
-    ensures { λ r. ⌜ r ≡ commandRange m ⌝ }
+fn told_right(w: Row, m: Message, v: Vote) -> bool
+    ensures { λ r. ⌜ r ≡ told w m v ⌝ }
 {
-    let body = m.body;
-    command_ok(command_in(body))
+    let parts = w.parts;
+    if !parts.told {
+        return true;
+    }
+    both(below(wide32(v.voted), wide32(m.ballot)), none_is_blank(v))
 }
 
-fn deps_range(n: usize, s: usize, m: Message) -> bool
-    ensures { λ r. ⌜ r ≡ depsRange n s m ⌝ }
+fn fresh_op(w: Row, m: Message, v: Vote) -> bool
+    ensures { λ r. ⌜ r ≡ freshOp w m v ⌝ }
 {
-    let deps = m.deps;
-    deps_ok(n, s, deps)
+    let ballots = w.ballots;
+    let fresh = both(is_fresh(ballots), equal(wide32(m.ballot), 0));
+    implied(fresh, !is_noop(v.command))
 }
 
-fn joined_range(n: usize, m: Message) -> bool
-    ensures { λ r. ⌜ r ≡ joinedRange n m ⌝ }
+fn joined_range(n: usize, j: u32) -> bool
+    ensures { λ r. ⌜ r ≡ joinedRange n j ⌝ }
 {
-    let body = m.body;
-    ballot_ok(n, joined_in(body))
+    ballot_ok(n, j)
 }
 
-fn deps_carried(m: Message) -> bool
-    ensures { λ r. ⌜ r ≡ depsCarried m ⌝ }
+fn joined_above(w: Row, m: Message, j: u32) -> bool
+    ensures { λ r. ⌜ r ≡ joinedAbove w m j ⌝ }
 {
-    if carries_deps(kind_in(m)) {
+    let parts = w.parts;
+    implied(parts.joined, below(wide32(m.ballot), wide32(j)))
+}
+
+fn deps_carried(w: Row, m: Message) -> bool
+    ensures { λ r. ⌜ r ≡ depsCarried w m ⌝ }
+{
+    let parts = w.parts;
+    if parts.deps {
         return true;
     }
     let deps = m.deps;
     same_deps(deps, no_deps())
 }
 
-fn fresh_op(m: Message) -> bool
-    ensures { λ r. ⌜ r ≡ freshOp m ⌝ }
-{
-    let body = m.body;
-    let fresh = both(equal(kind_in(m), 1), equal(wide32(m.ballot), 0));
-    implied(fresh, !is_noop(command_in(body)))
-}
-
-fn vote_in(m: Message) -> Vote
-    ensures { λ r. ⌜ r ≡ voteIn m ⌝ }
-{
-    let body = m.body;
-    let deps = m.deps;
-    let voted = voted_in(body);
-    let status = status_in(body);
-    let command = command_in(body);
-    Vote {
-        voted,
-        status,
-        command,
-        deps,
-    }
-}
-
-fn told_right(n: usize, s: usize, m: Message) -> bool
-    ensures { λ r. ⌜ r ≡ told n s m ⌝ }
-{
-    let k = kind_in(m);
-    if k != 7 {
-        return true;
-    }
-    told_ok(n, s, m.ballot, vote_in(m))
-}
-
-fn joined_above(m: Message) -> bool
-    ensures { λ r. ⌜ r ≡ joinedAbove m ⌝ }
-{
-    let body = m.body;
-    implied(
-        equal(kind_in(m), 8),
-        below(wide32(m.ballot), wide32(joined_in(body))),
-    )
-}
-
-fn head_ok(n: usize, s: usize, m: Message) -> bool
-    ensures { λ r. ⌜ r ≡ headOk n s m ⌝ }
+fn head_ok(n: usize, s: usize, w: Row, m: Message) -> bool
+    ensures { λ r. ⌜ r ≡ headOk n s w m ⌝ }
 {
     let ends = both(from_range(n, m), to_range(n, m));
     let instance = both(both(ends, owner_range(n, m)), number_range(s, m));
-    both(both(instance, ballot_range(n, m)), prepare_ballot(m))
+    both(both(instance, ballot_range(n, m)), recovery_ballot(w, m))
 }
 
-fn way_ok(c: usize, m: Message) -> bool
-    ensures { λ r. ⌜ r ≡ wayOk c m ⌝ }
+fn way_ok(c: usize, w: Row, m: Message) -> bool
+    ensures { λ r. ⌜ r ≡ wayOk c w m ⌝ }
 {
-    both(
-        both(both(to_here(c, m), from_another(c, m)), from_lead(m)),
-        to_lead(m),
-    )
+    let here = both(to_here(c, m), from_another(c, m));
+    both(both(here, from_lead(w, m)), to_lead(w, m))
 }
 
-fn body_ok(n: usize, s: usize, m: Message) -> bool
-    ensures { λ r. ⌜ r ≡ bodyOk n s m ⌝ }
+fn body_ok(n: usize, s: usize, w: Row, m: Message, v: Vote, j: u32) -> bool
+    ensures { λ r. ⌜ r ≡ bodyOk n s w m v j ⌝ }
 {
-    let ranges = both(
-        both(command_range(m), deps_range(n, s, m)),
-        joined_range(n, m),
-    );
-    let right = both(
-        both(both(ranges, deps_carried(m)), fresh_op(m)),
-        told_right(n, s, m),
-    );
-    both(right, joined_above(m))
+    let vote = both(vote_ok(n, s, 3, v), told_right(w, m, v));
+    let joined = both(both(vote, fresh_op(w, m, v)), joined_range(n, j));
+    both(both(joined, joined_above(w, m, j)), deps_carried(w, m))
 }
 
 // The message m is valid as received by copy c.
 pub fn valid_message(n: usize, s: usize, c: usize, m: Message) -> bool
     ensures { λ r. ⌜ r ≡ valid n s c m ⌝ }
 {
-    if !both(head_ok(n, s, m), way_ok(c, m)) {
+    let body = m.body;
+    let w = row_in(body);
+    if !both(head_ok(n, s, w, m), way_ok(c, w, m)) {
         return false;
     }
-    body_ok(n, s, m)
+    body_ok(n, s, w, m, vote_in(m), joined_in(body))
 }

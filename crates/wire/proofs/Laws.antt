@@ -1,73 +1,182 @@
--- Lengths of messages, and the outcomes of the two calls, one law each. Assumes nothing.
+-- The places of the parts, lengths of messages, and the outcomes of the two calls, one law each. Assumes nothing.
 use mathlib.Core.Path.{_≡_, refl}
-use mathlib.Core.Bool.{true, false, _&&_, and-eq-true-iff}
-use mathlib.Core.List.{List, [], _∷_}
+use mathlib.Core.Bool.{Bool, true, false, _&&_, _||_, cond, and-eq-true-iff}
+use mathlib.Core.List.{List, [], _∷_, _++_}
 use Prim.Native.Nat.{ℕ, _+_, _≤_, _<_}
 use native.Mathlib.Omega.{arith}
 use lib.Dec.{leb}
-use lib.ListN.{length}
+use lib.ListN.{length, length-append}
 use borrow.Author.Tests.{leb-true, eqb-true, lt-ltb, le-ltb}
 use Rattle.num.specs.Num.{splice}
+use Rattle.num.specs.Fields.{sizeOf}
+use Rattle.codec.specs.Parts.{commandWidths, depsWidths, commandBytes, depsBytes}
 use Rattle.paper.specs.Setup.{setupOk}
-use Rattle.paper.specs.Message.{kindOf}
+use Rattle.paper.specs.Message.{rowOf, partsOf, partsIn, kindOf, carriedIn}
 use Rattle.paper.specs.Valid.{valid}
 use Rattle.paper.specs.declared.Refusal.the-variants.{Setup, Room}
 use Rattle.paper.specs.declared.Refusal.the-variants as why
-use Rattle.paper.specs.declared.Body.{Body}
-use Rattle.paper.specs.declared.Body.the-variants.{PreAccept, PreAcceptOk, Accept, AcceptOk, Commit, Prepare, PrepareOk, Nack}
+use Rattle.paper.specs.declared.Carried.{Carried}
+use Rattle.paper.specs.declared.Parts.{Parts}
 use Rattle.paper.specs.declared.Message.{Message}
 use Rattle.wire.specs.declared.Reading.the-variants as reading
 use Rattle.wire.specs.declared.Writing.the-variants as writing
-use Rattle.wire.specs.Wire.{kindAt, lengthOf, restWidths, restNumbers, restBytes, headBytes, messageAt, messageBytes, framed, opFits, validBytes}
+use Rattle.paper.proofs.Bodies.{allOf, everyRow, every-row}
+use Rattle.wire.specs.Wire.{toldWidths, joinedWidths, headLength, past, commandPlace, depsPlace, joinedPlace, endPlace, kindAt, lengthOf, part, toldBytes, joinedBytes, restBytes, headBytes, messageAt, messageBytes, framed, opFits, validBytes}
 use Rattle.wire.specs.Calls.{unread, received, unwritten, Wrote, wrote}
+
+-- a part moves what stands after it by its bytes or not at all
+module _ (b : Bool) (ws : List ℕ) (at : ℕ) where
+  pub past-over : at ≤ past b ws at
+  unfolding past
+  past-over = go b
+    where
+      go : (x : Bool) → at ≤ cond x (at + sizeOf ws) at
+      go true = omega arith
+      go false = omega arith
+
+  pub past-most : past b ws at ≤ at + sizeOf ws
+  unfolding past
+  past-most = go b
+    where
+      go : (x : Bool) → cond x (at + sizeOf ws) at ≤ at + sizeOf ws
+      go true = omega arith
+      go false = omega arith
+
+  pub past-there : b ≡ true → past b ws at ≡ at + sizeOf ws
+  unfolding past
+  past-there e = rw e
+
+  pub past-none : b ≡ false → past b ws at ≡ at
+  unfolding past
+  past-none e = rw e
+
+  pub past-further : (k : ℕ) → past b ws (k + at) ≡ k + past b ws at
+  unfolding past
+  past-further k = go b
+    where
+      go : (x : Bool) → cond x (k + at + sizeOf ws) (k + at) ≡ k + cond x (at + sizeOf ws) at
+      go true = omega arith
+      go false = refl
+
+  pub past-part : (l : List ℕ) → length l ≡ sizeOf ws → at + length (part b l) ≡ past b ws at
+  unfolding past
+  past-part l e = go b
+    where
+      go : (x : Bool) → at + length (cond x l []) ≡ cond x (at + sizeOf ws) at
+      go true = omega arith
+      go false = omega arith
+
+-- each part that is there stands before the end, and the end is near
+module _ (p : Parts) (at : ℕ) where
+  pub at-told : at ≤ commandPlace p at
+  at-told = past-over (p .told) toldWidths at
+
+  pub at-command : commandPlace p at ≤ depsPlace p at
+  at-command = past-over (p .command) commandWidths (commandPlace p at)
+
+  pub at-deps : depsPlace p at ≤ joinedPlace p at
+  at-deps = past-over (p .deps) depsWidths (depsPlace p at)
+
+  pub at-joined : joinedPlace p at ≤ endPlace p at
+  at-joined = past-over (p .joined) joinedWidths (joinedPlace p at)
+
+  pub begins : at ≤ endPlace p at
+  begins = omega (arith, at-told, at-command, at-deps, at-joined)
+
+  pub told-room : p .told ≡ true → at + 5 ≤ endPlace p at
+  told-room e = omega (arith, past-there (p .told) toldWidths at e, at-command, at-deps, at-joined)
+
+  pub command-room : p .command ≡ true → commandPlace p at + 13 ≤ endPlace p at
+  command-room e = omega (arith, past-there (p .command) commandWidths (commandPlace p at) e, at-deps, at-joined)
+
+  pub deps-room : p .deps ≡ true → depsPlace p at + 14 ≤ endPlace p at
+  deps-room e = omega (arith, past-there (p .deps) depsWidths (depsPlace p at) e, at-joined)
+
+  pub joined-room : p .joined ≡ true → joinedPlace p at + 4 ≤ endPlace p at
+  joined-room e = omega (arith, past-there (p .joined) joinedWidths (joinedPlace p at) e)
+
+  pub command-near : commandPlace p at ≤ at + 5
+  command-near = past-most (p .told) toldWidths at
+
+  pub deps-near : depsPlace p at ≤ at + 18
+  deps-near = omega (arith, past-most (p .command) commandWidths (commandPlace p at), command-near)
+
+  pub joined-near : joinedPlace p at ≤ at + 32
+  joined-near = omega (arith, past-most (p .deps) depsWidths (depsPlace p at), deps-near)
+
+  pub end-further : (k : ℕ) → endPlace p (k + at) ≡ k + endPlace p at
+  end-further k =
+      rw (past-further (p .told) toldWidths at k, past-further (p .command) commandWidths (commandPlace p at) k, past-further (p .deps) depsWidths (depsPlace p at) k)
+      (past-further (p .joined) joinedWidths (joinedPlace p at) k)
 
 pub ten : (k : ℕ) → 10 ≤ lengthOf k
 unfolding lengthOf
-ten k = omega arith
+ten k = begins (partsOf k) 10
+
+-- no kind is longer than 42 bytes; one that tells of no ballot and status is at most 37
+pub long-enough : (k : ℕ) → lengthOf k ≤ 42
+unfolding lengthOf past everyRow allOf
+long-enough k = leb-true _ _ (every-row (λ r. leb (endPlace (r .parts) headLength) 42) refl k)
+
+pub untold-short : (k : ℕ) → partsOf k .told ≡ false → lengthOf k ≤ 37
+unfolding lengthOf past everyRow allOf
+untold-short k e = leb-true (lengthOf k) 37 (or-right (partsOf k .told) _ e (every-row (λ r. r .parts .told || leb (endPlace (r .parts) headLength) 37) refl k))
+  where
+    or-right : (a b : Bool) → a ≡ false → (a || b) ≡ true → b ≡ true
+    or-right a b e h = rw e at h
 
 -- what framed bytes are
 pub record Framed (b : List ℕ) : Type 0 where
-  pub known : 1 ≤ kindAt b
-  pub small : kindAt b ≤ 8
+  pub known : rowOf (kindAt b) .known ≡ true
   pub exact : length b ≡ lengthOf (kindAt b)
 
 pub framed-is : (b : List ℕ) → framed b ≡ true → Framed b
 unfolding framed
 framed-is b h =
-    let p = and-eq-true-iff (leb 1 (kindAt b) && leb (kindAt b) 8) _ .0 h in
-    let q = and-eq-true-iff (leb 1 (kindAt b)) _ .0 (p .0) in
-    record { known = leb-true 1 _ (q .0); small = leb-true _ 8 (q .1); exact = eqb-true _ _ (p .1) }
+    let p = and-eq-true-iff (rowOf (kindAt b) .known) _ .0 h in
+    record { known = p .0; exact = eqb-true _ _ (p .1) }
 
 pub length-headBytes : (m : Message) → length (headBytes m) ≡ 10
 unfolding headBytes
 length-headBytes m = refl
 
--- the bytes of a body are as many as its kind says
-pub length-restBytes : (b : Body) (d : List ℕ) → 10 + length (restBytes b d) ≡ lengthOf (kindOf b)
-unfolding restBytes restNumbers restWidths lengthOf
-length-restBytes (PreAccept k) d = refl
-length-restBytes PreAcceptOk d = refl
-length-restBytes (Accept k) d = refl
-length-restBytes AcceptOk d = refl
-length-restBytes (Commit k) d = refl
-length-restBytes Prepare d = refl
-length-restBytes (PrepareOk v t k) d = refl
-length-restBytes (Nack x) d = refl
+-- how far the parts of a rest reach
+module _ (p : Parts) (x : Carried) (d : List ℕ) (at : ℕ) where
+  pub told-size : at + length (part (p .told) (toldBytes x)) ≡ commandPlace p at
+  told-size = past-part (p .told) toldWidths at (toldBytes x) refl
 
-pub rest-short : (b : Body) (d : List ℕ) → length (restBytes b d) ≤ 32
-unfolding restBytes restNumbers restWidths
-rest-short (PreAccept k) d = omega arith
-rest-short PreAcceptOk d = omega arith
-rest-short (Accept k) d = omega arith
-rest-short AcceptOk d = omega arith
-rest-short (Commit k) d = omega arith
-rest-short Prepare d = omega arith
-rest-short (PrepareOk v t k) d = omega arith
-rest-short (Nack x) d = omega arith
+  pub command-size : commandPlace p at + length (part (p .command) (commandBytes (x .command))) ≡ depsPlace p at
+  unfolding commandBytes
+  command-size = past-part (p .command) commandWidths (commandPlace p at) (commandBytes (x .command)) refl
+
+  pub deps-size : depsPlace p at + length (part (p .deps) (depsBytes d)) ≡ joinedPlace p at
+  unfolding depsBytes
+  deps-size = past-part (p .deps) depsWidths (depsPlace p at) (depsBytes d) refl
+
+  pub joined-size : joinedPlace p at + length (part (p .joined) (joinedBytes x)) ≡ endPlace p at
+  joined-size = past-part (p .joined) joinedWidths (joinedPlace p at) (joinedBytes x) refl
+
+  pub rest-size : at + length (restBytes p x d) ≡ endPlace p at
+  unfolding restBytes
+  rest-size = simp length-append (omega (arith, told-size, command-size, deps-size, joined-size))
+
+-- where the parts of a rest stand behind a list that ends where the rest begins
+module _ (p : Parts) (x : Carried) (d h : List ℕ) (at : ℕ) (e : length h ≡ at) where
+  pub told-ends : length (h ++ part (p .told) (toldBytes x)) ≡ commandPlace p at
+  told-ends = simp length-append (omega (arith, e, told-size p x d at))
+
+  pub command-ends : length (h ++ part (p .told) (toldBytes x) ++ part (p .command) (commandBytes (x .command))) ≡ depsPlace p at
+  command-ends = simp length-append (omega (arith, e, told-size p x d at, command-size p x d at))
+
+  pub deps-ends : length (h ++ part (p .told) (toldBytes x) ++ part (p .command) (commandBytes (x .command)) ++ part (p .deps) (depsBytes d)) ≡ joinedPlace p at
+  deps-ends = simp length-append (omega (arith, e, told-size p x d at, command-size p x d at, deps-size p x d at))
+
+  pub rest-ends : length (h ++ restBytes p x d) ≡ endPlace p at
+  rest-ends = simp length-append (omega (arith, e, rest-size p x d at))
 
 pub length-messageBytes : (m : Message) → length (messageBytes m) ≡ lengthOf (kindOf (m .body))
-unfolding messageBytes
-length-messageBytes m = simp (lib.ListN.length-append, length-headBytes) (length-restBytes (m .body) (m .deps))
+unfolding messageBytes lengthOf
+length-messageBytes m = rest-ends (partsIn (m .body)) (carriedIn (m .body)) (m .deps) (headBytes m) 10 (length-headBytes m)
 
 -- the reader's outcomes
 module _ (n s c : ℕ) (b : List ℕ) where
@@ -111,13 +220,3 @@ module _ (n s c : ℕ) (out : List ℕ) (m : Message) where
 pub empty : (b : List ℕ) → length b ≡ 0 → 0 ≡ kindAt b
 empty [] h = refl
 empty (x ∷ xs) h = absurd (omega arith)
-
--- a known kind that is none of the first seven is the eighth
-past-four : (k : ℕ) → 1 ≤ k → (k ≡ 1 → ⊥) → (k ≡ 2 → ⊥) → (k ≡ 3 → ⊥) → (k ≡ 4 → ⊥) → 5 ≤ k
-past-four k h a b c d = omega arith
-
-past-seven : (k : ℕ) → 5 ≤ k → k ≤ 8 → (k ≡ 5 → ⊥) → (k ≡ 6 → ⊥) → (k ≡ 7 → ⊥) → k ≡ 8
-past-seven k h l a b c = omega arith
-
-pub eighth : (k : ℕ) → 1 ≤ k → k ≤ 8 → (k ≡ 1 → ⊥) → (k ≡ 2 → ⊥) → (k ≡ 3 → ⊥) → (k ≡ 4 → ⊥) → (k ≡ 5 → ⊥) → (k ≡ 6 → ⊥) → (k ≡ 7 → ⊥) → k ≡ 8
-eighth k h l a b c d e f g = past-seven k (past-four k h a b c d) l e f g

@@ -1,154 +1,124 @@
 -- Both round trips: written messages read back equal, accepted bytes write back equal. Assumes nothing.
 use mathlib.Core.Path.{_≡_, refl, sym, ap, ap₂, _∙_}
 use mathlib.Core.Bool.{Bool, true, false, _&&_, _||_, cond}
-use mathlib.Core.List.{List, [], _∷_, _++_, append-nil}
-use Prim.Native.Nat.{ℕ, zero, suc, _+_, _≤_, _<_}
+use mathlib.Core.List.{List, [], _∷_, _++_, append-assoc, append-nil}
+use Prim.Native.Nat.{ℕ, _+_, _-_, _≤_, _<_}
 use native.Mathlib.Omega.{arith}
-use lib.Dec.{eqb}
-use lib.ListN.{length, getD, take, drop}
-use lib.Seq.{take-all, take-add}
+use lib.Dec.{leb}
+use lib.ListN.{length, getD, take, drop, take-append-drop, length-drop}
+use lib.Seq.{take-all, take-add, drop-drop}
 use borrow.Author.Tests.{leb-true, le-leb, eq-eqb, eqb-true}
 use Rattle.num.specs.Num.{numAt, splice}
-use Rattle.num.specs.Fields.{sizeOf, fieldsAt, fieldsBytes, FieldsFit}
+use Rattle.num.specs.Fields.{sizeOf, fieldsAt, FieldsFit}
 use Rattle.num.proofs.Laws.{splice-same}
 use Rattle.num.proofs.Fields.{fieldsAt-fieldsBytes, fieldsBytes-fieldsAt}
-use Rattle.codec.specs.Parts.{commandNumbers, depsNumbers}
-use Rattle.codec.proofs.Laws.{op-small, opNumber-opOf, command-is, deps-are}
+use Rattle.codec.specs.Parts.{commandWidths, depsWidths, commandNumbers, commandOf, commandAt, commandBytes, depsAt, depsBytes}
+use Rattle.codec.proofs.Laws.{op-small, command-is, depsAt-depsBytes, commandBytes-commandAt, depsBytes-depsAt}
+use Rattle.paper.specs.Command.{noop}
 use Rattle.paper.specs.Deps.{noDeps, sameDeps}
 use Rattle.paper.specs.Setup.{setupOk}
-use Rattle.paper.specs.Fits.{CommandFits, DepsFit, BodyFits, MessageFits}
-use Rattle.paper.specs.Message.{kindOf, carriesDeps}
-use Rattle.paper.specs.Valid.{valid, headOk, wayOk, bodyOk, depsCarried, toHere, fromAnother, fromLead, toLead, commandRange, depsRange, joinedRange, freshOp, told}
+use Rattle.paper.specs.Fits.{DepsFit, CarriedFits, MessageFits}
+use Rattle.paper.specs.Message.{rowOf, rowIn, partsOf, partsIn, kindOf, carriedIn, bodyOf, kept}
+use Rattle.paper.specs.Valid.{valid, depsCarried}
 use Rattle.paper.proofs.Laws.{and-true, sameDeps-eq}
-use Rattle.paper.specs.declared.Command.{Command}
-use Rattle.paper.specs.declared.Body.{Body}
-use Rattle.paper.specs.declared.Body.the-variants.{PreAccept, PreAcceptOk, Accept, AcceptOk, Commit, Prepare, PrepareOk, Nack}
+use Rattle.paper.proofs.Bodies.{kind-small, kind-known, body-is, kind-is, carried-is, carried-kept, kept-kept}
+use Rattle.paper.proofs.Valid.{clauses-of}
+use Rattle.paper.specs.declared.Carried.{Carried}
+use Rattle.paper.specs.declared.Parts.{Parts}
 use Rattle.paper.specs.declared.Message.{Message}
 use Rattle.wire.specs.declared.Reading.the-variants as reading
 use Rattle.wire.specs.declared.Writing.the-variants as writing
-use Rattle.wire.specs.Wire.{isProposal, headWidths, headNumbers, restWidths, restNumbers, lengthOf, headBytes, restBytes, messageBytes, bodyOf, depsOf, kindAt, bodyAt, besideAt, messageAt, framed, opAt, opFits, validBytes}
+use Rattle.wire.specs.Wire.{headWidths, toldWidths, joinedWidths, headNumbers, past, commandPlace, depsPlace, joinedPlace, endPlace, lengthOf, part, toldBytes, joinedBytes, headBytes, restBytes, messageBytes, kindAt, carriedAt, besideAt, bodyAt, messageAt, framed, opAt, opFits, validBytes}
 use Rattle.wire.specs.Calls.{received, Wrote, wrote}
-use Rattle.wire.proofs.Laws.{ten, Framed, framed-is, length-headBytes, length-messageBytes, rest-short, received-ok, wrote-ok}
-
-kind-small : (b : Body) → kindOf b < 256
-kind-small (PreAccept k) = omega arith
-kind-small PreAcceptOk = omega arith
-kind-small (Accept k) = omega arith
-kind-small AcceptOk = omega arith
-kind-small (Commit k) = omega arith
-kind-small Prepare = omega arith
-kind-small (PrepareOk v t k) = omega arith
-kind-small (Nack x) = omega arith
+use Rattle.wire.proofs.Laws.{past-over, told-room, command-room, deps-room, joined-room, begins, ten, long-enough, Framed, framed-is, length-headBytes, told-ends, command-ends, deps-ends, length-messageBytes, received-ok, wrote-ok}
 
 -- each number fits its field
 headNumbers-fit : (m : Message) → MessageFits m → FieldsFit headWidths (headNumbers m)
 headNumbers-fit m f =
     (omega (arith, kind-small (m .body)), (omega (arith, f .from), (omega (arith, f .to), (omega (arith, f .owner), (f .number, (f .ballot, tt))))))
 
-Deps-fit : List ℕ → Type 0
-Deps-fit d = FieldsFit (2 ∷ 2 ∷ 2 ∷ 2 ∷ 2 ∷ 2 ∷ 2 ∷ []) (depsNumbers d)
+-- what is equal where a part is there is equal as that part
+same-where : {A : Type 0} (b : Bool) (u v z : A) → (b ≡ true → u ≡ v) → cond b u z ≡ cond b v z
+same-where true u v z h = h refl
+same-where false u v z h = refl
 
-deps-fit : (d : List ℕ) → DepsFit d → Deps-fit d
-unfolding Deps-fit
-deps-fit d f =
-    let e = f .each in
-    (e 0, (e 1, (e 2, (e 3, (e 4, (e 5, (e 6, tt)))))))
+-- what the parts of a written rest read as
+module _ (p : Parts) (x : Carried) (d h : List ℕ) (e : length h ≡ 10) (fx : CarriedFits x) (fd : DepsFit d) where
+  abbrev told : List ℕ
+  told = part (p .told) (toldBytes x)
 
-proposal-fit : (k : Command) (d : List ℕ) → CommandFits k → DepsFit d → FieldsFit (restWidths 1) (commandNumbers k ++ depsNumbers d)
-unfolding restWidths Deps-fit
-proposal-fit k d f g = (omega (arith, op-small (k .op)), (f .key, (f .edit, deps-fit d g)))
+  abbrev command : List ℕ
+  command = part (p .command) (commandBytes (x .command))
 
-restNumbers-fit : (b : Body) (d : List ℕ) → BodyFits b → DepsFit d → FieldsFit (restWidths (kindOf b)) (restNumbers b d)
-unfolding restWidths restNumbers Deps-fit
-restNumbers-fit (PreAccept k) d f g = proposal-fit k d f g
-restNumbers-fit PreAcceptOk d f g = deps-fit d g
-restNumbers-fit (Accept k) d f g = proposal-fit k d f g
-restNumbers-fit AcceptOk d f g = tt
-restNumbers-fit (Commit k) d f g = proposal-fit k d f g
-restNumbers-fit Prepare d f g = tt
-restNumbers-fit (PrepareOk v t k) d f g = (f .0, (omega (arith, f .1), proposal-fit k d (f .2) g))
-restNumbers-fit (Nack x) d f g = (f, tt)
+  abbrev deps : List ℕ
+  deps = part (p .deps) (depsBytes d)
 
--- a body is made of its numbers, and so are the dependencies beside it
-bodyOf-restNumbers : (b : Body) (d : List ℕ) → bodyOf (kindOf b) (restNumbers b d) ≡ b
-unfolding bodyOf restNumbers
-bodyOf-restNumbers (PreAccept k) d = ap PreAccept (command-is k)
-bodyOf-restNumbers PreAcceptOk d = refl
-bodyOf-restNumbers (Accept k) d = ap Accept (command-is k)
-bodyOf-restNumbers AcceptOk d = refl
-bodyOf-restNumbers (Commit k) d = ap Commit (command-is k)
-bodyOf-restNumbers Prepare d = refl
-bodyOf-restNumbers (PrepareOk v t k) d = ap (λ (x : Command). PrepareOk v t x) (command-is k)
-bodyOf-restNumbers (Nack x) d = refl
+  abbrev joined : List ℕ
+  joined = part (p .joined) (joinedBytes x)
 
-none-beside : (d : List ℕ) → DepsFit d → sameDeps d noDeps ≡ true → noDeps ≡ d
-none-beside d f h = sym (sameDeps-eq d noDeps (f .seven) refl h)
+  abbrev all : List ℕ
+  all = h ++ restBytes p x d
 
-depsOf-restNumbers : (b : Body) (d : List ℕ) → DepsFit d → (carriesDeps (kindOf b) || sameDeps d noDeps) ≡ true
-    → depsOf (kindOf b) (restNumbers b d) ≡ d
-unfolding depsOf restNumbers
-depsOf-restNumbers (PreAccept k) d f h = deps-are d f
-depsOf-restNumbers PreAcceptOk d f h = deps-are d f
-depsOf-restNumbers (Accept k) d f h = deps-are d f
-depsOf-restNumbers AcceptOk d f h = none-beside d f h
-depsOf-restNumbers (Commit k) d f h = deps-are d f
-depsOf-restNumbers Prepare d f h = none-beside d f h
-depsOf-restNumbers (PrepareOk v t k) d f h = deps-are d f
-depsOf-restNumbers (Nack x) d f h = none-beside d f h
+  told-reads : p .told ≡ true → fieldsAt toldWidths all 10 ≡ x .voted ∷ x .status ∷ []
+  unfolding restBytes
+  told-reads t =
+      let s : all ≡ h ++ (told ++ (command ++ (deps ++ joined))) = simp append-assoc in
+      let u : all ≡ h ++ (toldBytes x ++ (command ++ (deps ++ joined))) = s ∙ ap (λ (b : Bool). h ++ (part b (toldBytes x) ++ (command ++ (deps ++ joined)))) t in
+      ap (λ (l : List ℕ). fieldsAt toldWidths l 10) u
+      ∙ fieldsAt-fieldsBytes toldWidths (x .voted ∷ x .status ∷ []) h (command ++ (deps ++ joined)) 10 e (fx .voted, (omega (arith, fx .status), tt))
 
-known-kind : (b : Body) → (1 ≤ kindOf b) × (kindOf b ≤ 8)
-known-kind (PreAccept k) = omega arith
-known-kind PreAcceptOk = omega arith
-known-kind (Accept k) = omega arith
-known-kind AcceptOk = omega arith
-known-kind (Commit k) = omega arith
-known-kind Prepare = omega arith
-known-kind (PrepareOk v t k) = omega arith
-known-kind (Nack x) = omega arith
+  command-reads : p .command ≡ true → fieldsAt commandWidths all (commandPlace p 10) ≡ commandNumbers (x .command)
+  unfolding restBytes commandBytes
+  command-reads t =
+      let s : all ≡ h ++ told ++ (command ++ (deps ++ joined)) = simp append-assoc in
+      let u : all ≡ h ++ told ++ (commandBytes (x .command) ++ (deps ++ joined)) =
+      s ∙ ap (λ (b : Bool). h ++ told ++ (part b (commandBytes (x .command)) ++ (deps ++ joined))) t in
+      ap (λ (l : List ℕ). fieldsAt commandWidths l (commandPlace p 10)) u
+      ∙ fieldsAt-fieldsBytes commandWidths (commandNumbers (x .command)) (h ++ told) (deps ++ joined) (commandPlace p 10) (told-ends p x d h 10 e)
+      (omega (arith, op-small (x .command .op)), (fx .command .key, (fx .command .edit, tt)))
 
-two-seven : {A : Type 0} (k : ℕ) → eqb k 7 ≡ true → eqb k 2 ≡ true → A
-two-seven k f g =
-    let p = eqb-true k 7 f in
-    let q = eqb-true k 2 g in
-    absurd (omega arith)
+  deps-reads : p .deps ≡ true → depsAt all (depsPlace p 10) ≡ d
+  unfolding restBytes
+  deps-reads t =
+      let s : all ≡ h ++ told ++ command ++ (deps ++ joined) = simp append-assoc in
+      let u : all ≡ h ++ told ++ command ++ (depsBytes d ++ joined) = s ∙ ap (λ (b : Bool). h ++ told ++ command ++ (part b (depsBytes d) ++ joined)) t in
+      ap (λ (l : List ℕ). depsAt l (depsPlace p 10)) u ∙ depsAt-depsBytes d (h ++ told ++ command) joined (depsPlace p 10) (command-ends p x d h 10 e) fd
 
--- the op byte among the numbers of the rest
-opIn : ℕ → List ℕ → ℕ
-opIn k ns = cond (isProposal k) (getD ns 0 0) (cond (eqb k 7) (getD ns 2 0) 0)
+  joined-reads : p .joined ≡ true → fieldsAt joinedWidths all (joinedPlace p 10) ≡ x .joined ∷ []
+  unfolding restBytes
+  joined-reads t =
+      let s : all ≡ h ++ told ++ command ++ deps ++ (joined ++ []) = simp (append-assoc, append-nil) in
+      let u : all ≡ h ++ told ++ command ++ deps ++ (joinedBytes x ++ []) = s ∙ ap (λ (b : Bool). h ++ told ++ command ++ deps ++ (part b (joinedBytes x) ++ [])) t in
+      ap (λ (l : List ℕ). fieldsAt joinedWidths l (joinedPlace p 10)) u
+      ∙ fieldsAt-fieldsBytes joinedWidths (x .joined ∷ []) (h ++ told ++ command ++ deps) [] (joinedPlace p 10) (deps-ends p x d h 10 e) (fx .joined, tt)
 
-opAt-rest : (k : ℕ) (b : List ℕ) → opAt k b ≡ opIn k (fieldsAt (restWidths k) b 10)
-unfolding opAt opIn restWidths
-opAt-rest k b = go (isProposal k) (eqb k 7) (eqb k 2) refl refl refl
-  where
-    go : (p q r : Bool) → isProposal k ≡ p → eqb k 7 ≡ q → eqb k 2 ≡ r → opAt k b ≡ opIn k (fieldsAt (restWidths k) b 10)
-    go true q r e f g = rw e
-    go false true true e f g = two-seven k f g
-    go false true false e f g = rw (e, f, g)
-    go false false r e f g = rw (e, f)
+  rest-carried : carriedAt p all ≡ kept p x
+  unfolding carriedAt kept commandAt
+  rest-carried = λ i. record {
+    voted = same-where (p .told) (numAt 4 all 10) (x .voted) 0 (λ t. ap (λ (l : List ℕ). getD l 0 0) (told-reads t)) i;
+    status = same-where (p .told) (numAt 1 all 14) (x .status) 0 (λ t. ap (λ (l : List ℕ). getD l 1 0) (told-reads t)) i;
+    command = same-where (p .command) (commandAt all (commandPlace p 10)) (x .command) noop (λ t. ap commandOf (command-reads t) ∙ command-is (x .command)) i;
+    joined = same-where (p .joined) (numAt 4 all (joinedPlace p 10)) (x .joined) 0 (λ t. ap (λ (l : List ℕ). getD l 0 0) (joined-reads t)) i;
+  }
 
-op-numbers : (b : Body) (d : List ℕ) → opIn (kindOf b) (restNumbers b d) ≤ 2
-unfolding opIn restNumbers
-op-numbers (PreAccept k) d = op-small (k .op)
-op-numbers PreAcceptOk d = omega arith
-op-numbers (Accept k) d = op-small (k .op)
-op-numbers AcceptOk d = omega arith
-op-numbers (Commit k) d = op-small (k .op)
-op-numbers Prepare d = omega arith
-op-numbers (PrepareOk v t k) d = op-small (k .op)
-op-numbers (Nack x) d = omega arith
+  rest-beside : besideAt p all ≡ cond (p .deps) d noDeps
+  unfolding besideAt
+  rest-beside = same-where (p .deps) (depsAt all (depsPlace p 10)) d noDeps deps-reads
 
--- what the numbers of a written message read as
+  rest-op : opAt p all ≤ 2
+  unfolding opAt
+  rest-op = go (p .command) refl
+    where
+      go : (b : Bool) → p .command ≡ b → cond b (numAt 1 all (commandPlace p 10)) 0 ≤ 2
+      go true t = rw (ap (λ (l : List ℕ). getD l 0 0) (command-reads t)) (op-small (x .command .op))
+      go false t = omega arith
+
+-- what a written message reads as
 module _ (m : Message) (f : MessageFits m) where
   head-reads : fieldsAt headWidths (messageBytes m) 0 ≡ headNumbers m
   unfolding messageBytes headBytes
-  head-reads = fieldsAt-fieldsBytes headWidths (headNumbers m) [] (restBytes (m .body) (m .deps)) 0 refl (headNumbers-fit m f)
-
-  rest-reads : fieldsAt (restWidths (kindOf (m .body))) (messageBytes m) 10 ≡ restNumbers (m .body) (m .deps)
-  unfolding messageBytes restBytes
-  rest-reads =
-      rw (← append-nil (fieldsBytes (restWidths (kindOf (m .body))) (restNumbers (m .body) (m .deps))))
-      (fieldsAt-fieldsBytes (restWidths (kindOf (m .body))) (restNumbers (m .body) (m .deps)) (headBytes m) [] 10 (length-headBytes m)
-      (restNumbers-fit (m .body) (m .deps) (f .body) (f .deps)))
+  head-reads =
+      fieldsAt-fieldsBytes headWidths (headNumbers m) [] (restBytes (partsIn (m .body)) (carriedIn (m .body)) (m .deps)) 0 refl (headNumbers-fit m f)
 
   kind-reads : kindAt (messageBytes m) ≡ kindOf (m .body)
   kind-reads = ap (λ (l : List ℕ). getD l 0 0) head-reads
@@ -157,16 +127,26 @@ module _ (m : Message) (f : MessageFits m) where
   at-reads i = ap (λ (l : List ℕ). getD l i 0) head-reads
 
   body-reads : bodyAt (kindAt (messageBytes m)) (messageBytes m) ≡ m .body
+  unfolding messageBytes
   body-reads =
-      ap (λ (k : ℕ). bodyAt k (messageBytes m)) kind-reads ∙ ap (bodyOf (kindOf (m .body))) rest-reads ∙ bodyOf-restNumbers (m .body) (m .deps)
+      ap (λ (k : ℕ). bodyAt k (messageBytes m)) kind-reads
+      ∙ ap (bodyOf (kindOf (m .body)))
+      (rest-carried (partsIn (m .body)) (carriedIn (m .body)) (m .deps) (headBytes m) (length-headBytes m) (f .body) (f .deps) ∙ carried-kept (m .body))
+      ∙ body-is (m .body)
 
-  deps-reads : (carriesDeps (kindOf (m .body)) || sameDeps (m .deps) noDeps) ≡ true → besideAt (kindAt (messageBytes m)) (messageBytes m) ≡ m .deps
-  deps-reads h =
-      ap (λ (k : ℕ). besideAt k (messageBytes m)) kind-reads ∙ ap (depsOf (kindOf (m .body))) rest-reads
-      ∙ depsOf-restNumbers (m .body) (m .deps) (f .deps) h
+  beside-reads : depsCarried (rowIn (m .body)) m ≡ true → besideAt (partsOf (kindAt (messageBytes m))) (messageBytes m) ≡ m .deps
+  unfolding messageBytes
+  beside-reads h =
+      ap (λ (k : ℕ). besideAt (partsOf k) (messageBytes m)) kind-reads
+      ∙ rest-beside (partsIn (m .body)) (carriedIn (m .body)) (m .deps) (headBytes m) (length-headBytes m) (f .body) (f .deps)
+      ∙ go (partsIn (m .body) .deps) h
+    where
+      go : (b : Bool) → (b || sameDeps (m .deps) noDeps) ≡ true → cond b (m .deps) noDeps ≡ m .deps
+      go true h = refl
+      go false h = sym (sameDeps-eq (m .deps) noDeps (f .deps .seven) refl h)
 
   -- a written message reads as itself
-  pub messageAt-messageBytes : depsCarried m ≡ true → messageAt (messageBytes m) ≡ m
+  pub messageAt-messageBytes : depsCarried (rowIn (m .body)) m ≡ true → messageAt (messageBytes m) ≡ m
   unfolding messageAt
   messageAt-messageBytes h = λ i. record {
     from = at-reads 1 i;
@@ -175,7 +155,7 @@ module _ (m : Message) (f : MessageFits m) where
     number = at-reads 4 i;
     ballot = at-reads 5 i;
     body = body-reads i;
-    deps = deps-reads h i;
+    deps = beside-reads h i;
   }
 
   framed-written : framed (messageBytes m) ≡ true
@@ -183,80 +163,98 @@ module _ (m : Message) (f : MessageFits m) where
   framed-written =
       let k = kind-reads in
       let l = length-messageBytes m in
-      let b = known-kind (m .body) in
-      rw (k, l, le-leb 1 (kindOf (m .body)) (b .0), le-leb (kindOf (m .body)) 8 (b .1)) (eq-eqb (lengthOf (kindOf (m .body))) (lengthOf (kindOf (m .body))) refl)
+      rw (k, l, kind-known (m .body)) (eq-eqb (lengthOf (kindOf (m .body))) (lengthOf (kindOf (m .body))) refl)
 
   op-written : opFits (messageBytes m) ≡ true
+  unfolding messageBytes
   op-written =
-      rw (kind-reads, opAt-rest (kindOf (m .body)) (messageBytes m), rest-reads) (le-leb _ 2 (op-numbers (m .body) (m .deps)))
+      ap (λ (k : ℕ). leb (opAt (partsOf k) (messageBytes m)) 2) kind-reads
+      ∙ le-leb _ 2 (rest-op (partsIn (m .body)) (carriedIn (m .body)) (m .deps) (headBytes m) (length-headBytes m) (f .body) (f .deps))
 
--- numbers of a known kind read from bytes are the numbers of the message that they make
-kind-back : (k : ℕ) (b : List ℕ) → 1 ≤ k → k ≤ 8 → kindOf (bodyAt k b) ≡ k
-unfolding bodyOf
-kind-back zero b h l = absurd (omega arith)
-kind-back (suc zero) b h l = refl
-kind-back (suc (suc zero)) b h l = refl
-kind-back (suc (suc (suc zero))) b h l = refl
-kind-back (suc (suc (suc (suc zero)))) b h l = refl
-kind-back (suc (suc (suc (suc (suc zero))))) b h l = refl
-kind-back (suc (suc (suc (suc (suc (suc zero)))))) b h l = refl
-kind-back (suc (suc (suc (suc (suc (suc (suc zero))))))) b h l = refl
-kind-back (suc (suc (suc (suc (suc (suc (suc (suc zero)))))))) b h l = refl
-kind-back (suc (suc (suc (suc (suc (suc (suc (suc (suc k))))))))) b h l = absurd (omega arith)
+-- the bytes from one place to another
+abbrev span : List ℕ → ℕ → ℕ → List ℕ
+span s a e = take (e - a) (drop a s)
 
-rest-back : (k : ℕ) (b : List ℕ) → 1 ≤ k → k ≤ 8 → opAt k b ≤ 2 → restNumbers (bodyAt k b) (besideAt k b) ≡ fieldsAt (restWidths k) b 10
-unfolding bodyOf depsOf restNumbers restWidths opAt
-rest-back zero b h l o = absurd (omega arith)
-rest-back (suc zero) b h l o = rw (opNumber-opOf (numAt 1 b 10) o)
-rest-back (suc (suc zero)) b h l o = refl
-rest-back (suc (suc (suc zero))) b h l o = rw (opNumber-opOf (numAt 1 b 10) o)
-rest-back (suc (suc (suc (suc zero)))) b h l o = refl
-rest-back (suc (suc (suc (suc (suc zero))))) b h l o = rw (opNumber-opOf (numAt 1 b 10) o)
-rest-back (suc (suc (suc (suc (suc (suc zero)))))) b h l o = refl
-rest-back (suc (suc (suc (suc (suc (suc (suc zero))))))) b h l o = rw (opNumber-opOf (numAt 1 b 15) o)
-rest-back (suc (suc (suc (suc (suc (suc (suc (suc zero)))))))) b h l o = refl
-rest-back (suc (suc (suc (suc (suc (suc (suc (suc (suc k))))))))) b h l o = absurd (omega arith)
+span-join : (s : List ℕ) (a e g : ℕ) → a ≤ e → e ≤ g → span s a e ++ span s e g ≡ span s a g
+span-join s a e g h k =
+    let n : g - a ≡ (e - a) + (g - e) = omega arith in
+    let m : a + (e - a) ≡ e = omega arith in
+    sym (rw (n, take-add (e - a) (g - e) (drop a s), drop-drop (e - a) a s, m) refl)
+
+span-part : (s : List ℕ) (b : Bool) (ws l : List ℕ) (at : ℕ) → (b ≡ true → l ≡ take (sizeOf ws) (drop at s)) → part b l ≡ span s at (past b ws at)
+unfolding past
+span-part s true ws l at h = let n : at + sizeOf ws - at ≡ sizeOf ws = omega arith in rw n (h refl)
+span-part s false ws l at h = let n : at - at ≡ 0 = omega arith in rw n
+
+-- the parts of bytes of their length write back as these bytes
+module _ (p : Parts) (b : List ℕ) (byte : (i : ℕ) → getD b i 0 < 256) (l : length b ≡ endPlace p 10) (o : opAt p b ≤ 2) where
+  told-back : part (p .told) (toldBytes (carriedAt p b)) ≡ span b 10 (commandPlace p 10)
+  unfolding carriedAt kept
+  told-back = span-part b (p .told) toldWidths (toldBytes (carriedAt p b)) 10 go
+    where
+      go : p .told ≡ true → toldBytes (carriedAt p b) ≡ take 5 (drop 10 b)
+      go t = rw t (fieldsBytes-fieldsAt toldWidths b 10 byte (omega (arith, l, told-room p 10 t)))
+
+  command-back : part (p .command) (commandBytes (carriedAt p b .command)) ≡ span b (commandPlace p 10) (depsPlace p 10)
+  unfolding carriedAt kept opAt
+  command-back = span-part b (p .command) commandWidths (commandBytes (carriedAt p b .command)) (commandPlace p 10) go
+    where
+      go : p .command ≡ true → commandBytes (carriedAt p b .command) ≡ take 13 (drop (commandPlace p 10) b)
+      go t = rw t (commandBytes-commandAt b (commandPlace p 10) byte (omega (arith, l, command-room p 10 t)) (rw t at o))
+
+  deps-back : part (p .deps) (depsBytes (besideAt p b)) ≡ span b (depsPlace p 10) (joinedPlace p 10)
+  unfolding besideAt
+  deps-back = span-part b (p .deps) depsWidths (depsBytes (besideAt p b)) (depsPlace p 10) go
+    where
+      go : p .deps ≡ true → depsBytes (besideAt p b) ≡ take 14 (drop (depsPlace p 10) b)
+      go t = rw t (depsBytes-depsAt b (depsPlace p 10) byte (omega (arith, l, deps-room p 10 t)))
+
+  joined-back : part (p .joined) (joinedBytes (carriedAt p b)) ≡ span b (joinedPlace p 10) (endPlace p 10)
+  unfolding carriedAt kept
+  joined-back = span-part b (p .joined) joinedWidths (joinedBytes (carriedAt p b)) (joinedPlace p 10) go
+    where
+      go : p .joined ≡ true → joinedBytes (carriedAt p b) ≡ take 4 (drop (joinedPlace p 10) b)
+      go t = rw t (fieldsBytes-fieldsAt joinedWidths b (joinedPlace p 10) byte (omega (arith, l, joined-room p 10 t)))
+
+  rest-back : restBytes p (carriedAt p b) (besideAt p b) ≡ drop 10 b
+  unfolding restBytes
+  rest-back =
+      let c1 : 10 ≤ commandPlace p 10 = past-over (p .told) toldWidths 10 in
+      let c2 : commandPlace p 10 ≤ depsPlace p 10 = past-over _ _ _ in
+      let c3 : depsPlace p 10 ≤ joinedPlace p 10 = past-over _ _ _ in
+      let c4 : joinedPlace p 10 ≤ endPlace p 10 = past-over _ _ _ in
+      let j1 = span-join b 10 (commandPlace p 10) (depsPlace p 10) c1 c2 in
+      let j2 = span-join b 10 (depsPlace p 10) (joinedPlace p 10) (omega arith) c3 in
+      let j3 = span-join b 10 (joinedPlace p 10) (endPlace p 10) (omega arith) c4 in
+      rw (told-back, command-back, deps-back, joined-back, j1, j2, j3) (take-all (endPlace p 10 - 10) (drop 10 b) (simp length-drop (omega arith)))
 
 -- accepted bytes write back as themselves
-module _ (b : List ℕ) (byte : (i : ℕ) → getD b i 0 < 256) (f : Framed b) (o : opAt (kindAt b) b ≤ 2) where
+module _ (b : List ℕ) (byte : (i : ℕ) → getD b i 0 < 256) (f : Framed b) (o : opAt (partsOf (kindAt b)) b ≤ 2) where
+  kind-back : kindOf (bodyAt (kindAt b) b) ≡ kindAt b
+  kind-back = kind-is (kindAt b) (carriedAt (partsOf (kindAt b)) b) (f .known)
+
+  carried-back : carriedIn (bodyAt (kindAt b) b) ≡ carriedAt (partsOf (kindAt b)) b
+  unfolding carriedAt
+  carried-back = carried-is (kindAt b) (carriedAt (partsOf (kindAt b)) b) (f .known) ∙ kept-kept (partsOf (kindAt b)) _
+
   head-back : headBytes (messageAt b) ≡ take 10 b
   unfolding headBytes messageAt
-  head-back =
-      rw (kind-back (kindAt b) b (f .known) (f .small))
-      (fieldsBytes-fieldsAt headWidths b 0 byte (omega (arith, f .exact, ten (kindAt b))))
+  head-back = rw kind-back (fieldsBytes-fieldsAt headWidths b 0 byte (omega (arith, f .exact, ten (kindAt b))))
 
-  tail-back : restBytes (messageAt b .body) (messageAt b .deps) ≡ take (sizeOf (restWidths (kindAt b))) (drop 10 b)
-  unfolding restBytes messageAt lengthOf
-  tail-back =
-      rw (kind-back (kindAt b) b (f .known) (f .small), rest-back (kindAt b) b (f .known) (f .small) o)
-      (fieldsBytes-fieldsAt (restWidths (kindAt b)) b 10 byte (omega (arith, f .exact)))
+  tail-back : restBytes (partsIn (messageAt b .body)) (carriedIn (messageAt b .body)) (messageAt b .deps) ≡ drop 10 b
+  unfolding messageAt lengthOf
+  tail-back = rw (kind-back, carried-back) (rest-back (partsOf (kindAt b)) b byte (f .exact) o)
 
   pub messageBytes-messageAt : messageBytes (messageAt b) ≡ b
-  unfolding messageBytes lengthOf
-  messageBytes-messageAt =
-      rw (head-back, tail-back, ← take-add 10 (sizeOf (restWidths (kindAt b))) b) (take-all (10 + sizeOf (restWidths (kindAt b))) b (omega (arith, f .exact)))
+  unfolding messageBytes
+  messageBytes-messageAt = rw (head-back, tail-back) (take-append-drop 10 b)
 
 -- the parts of valid that the round trips rest on
-valid-carried : (n s c : ℕ) (m : Message) → valid n s c m ≡ true → depsCarried m ≡ true
-unfolding valid bodyOk
-valid-carried n s c m h =
-    let b = and-true (headOk n s m && wayOk c m) (bodyOk n s m) h .1 in
-    let x = and-true (commandRange m && depsRange n s m && joinedRange n m && depsCarried m && freshOp m && told n s m) _ b .0 in
-    let y = and-true (commandRange m && depsRange n s m && joinedRange n m && depsCarried m && freshOp m) _ x .0 in
-    let z = and-true (commandRange m && depsRange n s m && joinedRange n m && depsCarried m) _ y .0 in
-    and-true (commandRange m && depsRange n s m && joinedRange n m) _ z .1
+valid-carried : (n s c : ℕ) (m : Message) → valid n s c m ≡ true → depsCarried (rowIn (m .body)) m ≡ true
+valid-carried n s c m h = clauses-of n s c m h .carried
 
 valid-here : (n s c : ℕ) (m : Message) → valid n s c m ≡ true → m .to ≡ c
-unfolding valid wayOk
-valid-here n s c m h =
-    let w = and-true (headOk n s m) (wayOk c m) (and-true (headOk n s m && wayOk c m) (bodyOk n s m) h .0) .1 in
-    let x = and-true (toHere c m && fromAnother c m && fromLead m) (toLead m) w .0 in
-    let y = and-true (toHere c m && fromAnother c m) (fromLead m) x .0 in
-    eqb-true (m .to) c (and-true (toHere c m) (fromAnother c m) y .0)
-
-long-enough : (m : Message) → length (messageBytes m) ≤ 42
-unfolding messageBytes
-long-enough m = simp (lib.ListN.length-append, length-headBytes) (omega (arith, rest-short (m .body) (m .deps)))
+valid-here n s c m h = eqb-true (m .to) c (clauses-of n s c m h .here)
 
 -- Written messages read back equal: what a message that the writer takes is written as, its receiver reads as that message.
 pub written-reads-back : (n s c : ℕ) (m : Message) → MessageFits m → setupOk n s c ≡ true → valid n s c m ≡ true
@@ -272,7 +270,7 @@ pub write-then-read : (n s c : ℕ) (out : List ℕ) (m : Message) → MessageFi
 write-then-read n s c out m f p q r v =
     let w = ap (λ (x : Wrote). x .out) (wrote-ok n s c out m p r v) in
     let l = length-messageBytes m in
-    let short : length (messageBytes m) ≤ 42 = long-enough m in
+    let short : lengthOf (kindOf (m .body)) ≤ 42 = long-enough (kindOf (m .body)) in
     let t : take (lengthOf (kindOf (m .body))) (splice out 0 (messageBytes m)) ≡ messageBytes m =
     splice-same out 0 (messageBytes m) (lengthOf (kindOf (m .body))) l (omega arith) in
     rw (← w, t) (written-reads-back n s (m .to) m f q v)

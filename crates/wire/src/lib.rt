@@ -2,27 +2,65 @@
 use nouns::deps::no_deps;
 use nouns::logic::at_most;
 use nouns::logic::both;
-use nouns::logic::either;
 use nouns::logic::equal;
 use nouns::logic::wide8;
+use nouns::message::body_of;
+use nouns::message::carried_in;
 use nouns::message::kind_of;
+use nouns::message::row_in;
+use nouns::message::row_of;
 use nouns::setup::setup_ok;
+use nouns::vote::no_op;
 use paper::Body;
+use paper::Carried;
 use paper::Command;
 use paper::Message;
+use paper::Parts;
 use paper::Refusal;
-use paper::Vote;
 use valid::valid_message;
 ghost use mathlib.Core.Path.{_≡_};
 ghost use Prim.Native.Nat.{_+_, _≤_, _<_};
-ghost use mathlib.Core.Bool.{true};
-ghost use mathlib.Core.List.{_++_};
+ghost use mathlib.Core.Bool.{true, cond};
 ghost use lib.ListN.{length};
-ghost use Rattle.num.specs.Num.{splice};
-ghost use Rattle.codec.specs.Parts.{commandBytes, depsBytes};
-ghost use Rattle.paper.specs.Message.{noMessage};
-ghost use Rattle.wire.specs.Wire.{isProposal, lengthOf, kindAt, bodyAt, besideAt, messageAt, framed, opAt, headBytes, restBytes, messageBytes};
+ghost use Rattle.num.specs.Num.{numAt, splice};
+ghost use Rattle.codec.specs.Parts.{commandAt, commandBytes, depsBytes};
+ghost use Rattle.paper.specs.Command.{noop};
+ghost use Rattle.paper.specs.Message.{bodyOf, noMessage};
+ghost use Rattle.wire.specs.Wire.{
+  headLength,
+  toldWidths,
+  joinedWidths,
+  commandPlace,
+  depsPlace,
+  joinedPlace,
+  endPlace,
+  lengthOf,
+  kindAt,
+  carriedAt,
+  besideAt,
+  messageAt,
+  framed,
+  opAt,
+  opFits,
+  toldBytes,
+  joinedBytes,
+  part,
+  headBytes,
+  restBytes,
+  messageBytes,
+};
 ghost use Rattle.wire.specs.Calls.{unread, received, wrote};
+
+// How many bytes the head takes, and each part of the rest.
+const HEAD: usize = 10;
+
+const TOLD: usize = 5;
+
+const COMMAND: usize = 13;
+
+const DEPS: usize = 14;
+
+const JOINED: usize = 4;
 
 pub enum Reading {
     Valid,
@@ -40,19 +78,44 @@ pub enum Writing {
     Refused(Refusal),
 }
 
+// The places of the parts of a rest that begins at `at`, and its end.
+fn command_place(p: Parts, at: usize) -> usize
+    requires { ⌜ at + 32 < 18446744073709551616 ⌝ }
+    ensures { λ r. ⌜ r ≡ commandPlace p at ⌝ }
+{
+    if p.told { at + TOLD } else { at }
+}
+
+fn deps_place(p: Parts, at: usize) -> usize
+    requires { ⌜ at + 32 < 18446744073709551616 ⌝ }
+    ensures { λ r. ⌜ r ≡ depsPlace p at ⌝ }
+{
+    let start = command_place(p, at);
+    if p.command { start + COMMAND } else { start }
+}
+
+fn joined_place(p: Parts, at: usize) -> usize
+    requires { ⌜ at + 32 < 18446744073709551616 ⌝ }
+    ensures { λ r. ⌜ r ≡ joinedPlace p at ⌝ }
+{
+    let start = deps_place(p, at);
+    if p.deps { start + DEPS } else { start }
+}
+
+fn end_place(p: Parts, at: usize) -> usize
+    requires { ⌜ at + 36 < 18446744073709551616 ⌝ }
+    ensures { λ r. ⌜ r ≡ endPlace p at ⌝ }
+{
+    let start = joined_place(p, at);
+    if p.joined { start + JOINED } else { start }
+}
+
 // The kind byte alone gives the length.
 pub fn length_of(k: usize) -> usize
     ensures { λ r. ⌜ r ≡ lengthOf k ⌝ }
 {
-    match k {
-        1 => 37,
-        2 => 24,
-        3 => 37,
-        5 => 37,
-        7 => 42,
-        8 => 14,
-        _ => 10,
-    }
+    let row = row_of(k);
+    end_place(row.parts, HEAD)
 }
 
 // The kind byte, 0 of no bytes.
@@ -69,69 +132,104 @@ fn is_framed(b: &[u8]) -> bool
     ensures { λ r. ⌜ r ≡ framed (now (b .entry)) ⌝ }
 {
     let k = kind_at(b);
-    both(
-        both(at_most(1, k), at_most(k, 8)),
-        equal(b.len(), length_of(k)),
-    )
+    let row = row_of(k);
+    both(row.known, equal(b.len(), length_of(k)))
 }
 
-fn is_proposal(k: usize) -> bool
-    ensures { λ r. ⌜ r ≡ isProposal k ⌝ }
+// The op byte, or 0 where there is none.
+fn op_at(p: Parts, b: &[u8]) -> usize
+    requires { ⌜ length (now b) ≡ endPlace p headLength ⌝ }
+    ensures { λ r. ⌜ r ≡ opAt p (now (b .entry)) ⌝ }
 {
-    either(either(equal(k, 1), equal(k, 3)), equal(k, 5))
+    if !p.command {
+        return 0;
+    }
+    let at = command_place(p, HEAD);
+    wide8(num::get_u8(b, at))
 }
 
-// The op byte, or 0 where the kind has none.
-fn op_at(k: usize, b: &[u8]) -> usize
-    requires { ⌜ length (now b) ≡ lengthOf k ⌝ }
-    ensures { λ r. ⌜ r ≡ opAt k (now (b .entry)) ⌝ }
+fn op_fits(b: &[u8]) -> bool
+    requires { ⌜ framed (now b) ≡ true ⌝ }
+    ensures { λ r. ⌜ r ≡ opFits (now (b .entry)) ⌝ }
 {
-    match k {
-        1 => wide8(num::get_u8(b, 10)),
-        3 => wide8(num::get_u8(b, 10)),
-        5 => wide8(num::get_u8(b, 10)),
-        7 => wide8(num::get_u8(b, 15)),
-        _ => 0,
+    let row = row_of(kind_at(b));
+    at_most(op_at(row.parts, b), 2)
+}
+
+fn read_voted(p: Parts, b: &[u8]) -> u32
+    requires { ⌜ length (now b) ≡ endPlace p headLength ⌝ }
+    ensures { λ r. ⌜ r ≡ cond (p .told) (numAt 4 (now (b .entry)) headLength) 0 ⌝ }
+{
+    if !p.told {
+        return 0;
+    }
+    num::get_u32(b, HEAD)
+}
+
+fn read_status(p: Parts, b: &[u8]) -> u8
+    requires { ⌜ length (now b) ≡ endPlace p headLength ⌝ }
+    ensures { λ r. ⌜ r ≡ cond (p .told) (numAt 1 (now (b .entry)) (headLength + 4)) 0 ⌝ }
+{
+    if !p.told {
+        return 0;
+    }
+    num::get_u8(b, HEAD + 4)
+}
+
+fn read_command(p: Parts, b: &[u8]) -> Command
+    requires { ⌜ length (now b) ≡ endPlace p headLength ⌝ }
+    ensures { λ r. ⌜ r ≡ cond (p .command) (commandAt (now (b .entry)) (commandPlace p headLength)) noop ⌝ }
+{
+    if !p.command {
+        return no_op();
+    }
+    let at = command_place(p, HEAD);
+    codec::read_command(b, at)
+}
+
+fn read_joined(p: Parts, b: &[u8]) -> u32
+    requires { ⌜ length (now b) ≡ endPlace p headLength ⌝ }
+    ensures { λ r. ⌜ r ≡ cond (p .joined) (numAt 4 (now (b .entry)) (joinedPlace p headLength)) 0 ⌝ }
+{
+    if !p.joined {
+        return 0;
+    }
+    let at = joined_place(p, HEAD);
+    num::get_u32(b, at)
+}
+
+fn read_carried(p: Parts, b: &[u8]) -> Carried
+    requires { ⌜ length (now b) ≡ endPlace p headLength ⌝ }
+    ensures { λ r. ⌜ r ≡ carriedAt p (now (b .entry)) ⌝ }
+{
+    let voted = read_voted(p, b);
+    let status = read_status(p, b);
+    let command = read_command(p, b);
+    let joined = read_joined(p, b);
+    Carried {
+        voted,
+        status,
+        command,
+        joined,
     }
 }
 
-fn read_body(k: usize, b: &[u8]) -> Body
-    requires { ⌜ (length (now b) ≡ lengthOf k) × (1 ≤ k) × (k ≤ 8) ⌝ }
-    ensures { λ r. ⌜ r ≡ bodyAt k (now (b .entry)) ⌝ }
+fn read_beside(p: Parts, b: &[u8]) -> [u16; 7]
+    requires { ⌜ length (now b) ≡ endPlace p headLength ⌝ }
+    ensures { λ r. ⌜ r ≡ besideAt p (now (b .entry)) ⌝ }
 {
-    match k {
-        1 => Body::PreAccept(codec::read_command(b, 10)),
-        2 => Body::PreAcceptOk,
-        3 => Body::Accept(codec::read_command(b, 10)),
-        4 => Body::AcceptOk,
-        5 => Body::Commit(codec::read_command(b, 10)),
-        6 => Body::Prepare,
-        7 => {
-            let voted = num::get_u32(b, 10);
-            let status = num::get_u8(b, 14);
-            let command = codec::read_command(b, 15);
-            Body::PrepareOk {
-                voted,
-                status,
-                command,
-            }
-        }
-        _ => Body::Nack(num::get_u32(b, 10)),
+    if !p.deps {
+        return no_deps();
     }
+    let at = deps_place(p, HEAD);
+    codec::read_deps(b, at)
 }
 
-fn read_beside(k: usize, b: &[u8]) -> [u16; 7]
-    requires { ⌜ length (now b) ≡ lengthOf k ⌝ }
-    ensures { λ r. ⌜ r ≡ besideAt k (now (b .entry)) ⌝ }
+fn read_body(k: usize, p: Parts, b: &[u8]) -> Body
+    requires { ⌜ length (now b) ≡ endPlace p headLength ⌝ }
+    ensures { λ r. ⌜ r ≡ bodyOf k (carriedAt p (now (b .entry))) ⌝ }
 {
-    match k {
-        1 => codec::read_deps(b, 23),
-        2 => codec::read_deps(b, 10),
-        3 => codec::read_deps(b, 23),
-        5 => codec::read_deps(b, 23),
-        7 => codec::read_deps(b, 28),
-        _ => no_deps(),
-    }
+    body_of(k, read_carried(p, b))
 }
 
 // The message that framed bytes hold.
@@ -140,13 +238,14 @@ pub fn decode(b: &[u8]) -> Message
     ensures { λ r. ⌜ r ≡ messageAt (now (b .entry)) ⌝ }
 {
     let k = kind_at(b);
+    let row = row_of(k);
     let from = num::get_u8(b, 1);
     let to = num::get_u8(b, 2);
     let owner = num::get_u8(b, 3);
     let number = num::get_u16(b, 4);
     let ballot = num::get_u32(b, 6);
-    let body = read_body(k, b);
-    let deps = read_beside(k, b);
+    let body = read_body(k, row.parts, b);
+    let deps = read_beside(row.parts, b);
     Message {
         from,
         to,
@@ -194,8 +293,7 @@ pub fn read_message(n: usize, s: usize, c: usize, b: &[u8]) -> Received
         return unread_of(Refusal::Message);
     }
     let m = decode(b);
-    let fits = at_most(op_at(kind_at(b), b), 2);
-    if !both(fits, valid_message(n, s, c, m)) {
+    if !both(op_fits(b), valid_message(n, s, c, m)) {
         return unread_of(Refusal::Message);
     }
     Received {
@@ -218,40 +316,54 @@ fn write_head(out: &mut [u8], at: usize, m: Message)
     num::put_u32(&mut *out, at + 6, m.ballot);
 }
 
-fn write_proposal(out: &mut [u8], at: usize, k: Command, d: [u16; 7])
-    requires { ⌜ at + 27 ≤ length (now out) ⌝ }
-    ensures { λ _. ⌜ now (out .exit) ≡ splice (now (out .entry)) at (commandBytes k ++ depsBytes d) ⌝ }
+fn write_told(out: &mut [u8], at: usize, has: bool, x: Carried)
+    requires { ⌜ at + length (part has (toldBytes x)) ≤ length (now out) ⌝ }
+    ensures { λ _. ⌜ now (out .exit) ≡ splice (now (out .entry)) at (part has (toldBytes x)) ⌝ }
 {
-    codec::write_command(&mut *out, at, k);
-    codec::write_deps(&mut *out, at + 13, d);
+    if has {
+        num::put_u32(&mut *out, at, x.voted);
+        num::put_u8(&mut *out, at + 4, x.status);
+    }
 }
 
-fn write_rest(out: &mut [u8], at: usize, body: Body, d: [u16; 7])
-    requires { ⌜ at + 32 ≤ length (now out) ⌝ }
-    ensures { λ _. ⌜ now (out .exit) ≡ splice (now (out .entry)) at (restBytes body d) ⌝ }
+fn write_command(out: &mut [u8], at: usize, has: bool, k: Command)
+    requires { ⌜ at + length (part has (commandBytes k)) ≤ length (now out) ⌝ }
+    ensures { λ _. ⌜ now (out .exit) ≡ splice (now (out .entry)) at (part has (commandBytes k)) ⌝ }
 {
-    match body {
-        Body::PreAccept(k) => write_proposal(out, at, k, d),
-        Body::PreAcceptOk => codec::write_deps(out, at, d),
-        Body::Accept(k) => write_proposal(out, at, k, d),
-        Body::AcceptOk => {}
-        Body::Commit(k) => write_proposal(out, at, k, d),
-        Body::Prepare => {}
-        Body::PrepareOk {
-            voted,
-            status,
-            command,
-        } => {
-            let v = Vote {
-                voted,
-                status,
-                command,
-                deps: d,
-            };
-            codec::write_vote(out, at, v);
-        }
-        Body::Nack(joined) => num::put_u32(out, at, joined),
+    if has {
+        codec::write_command(out, at, k);
     }
+}
+
+fn write_beside(out: &mut [u8], at: usize, has: bool, d: [u16; 7])
+    requires { ⌜ at + length (part has (depsBytes d)) ≤ length (now out) ⌝ }
+    ensures { λ _. ⌜ now (out .exit) ≡ splice (now (out .entry)) at (part has (depsBytes d)) ⌝ }
+{
+    if has {
+        codec::write_deps(out, at, d);
+    }
+}
+
+fn write_joined(out: &mut [u8], at: usize, has: bool, x: Carried)
+    requires { ⌜ at + length (part has (joinedBytes x)) ≤ length (now out) ⌝ }
+    ensures { λ _. ⌜ now (out .exit) ≡ splice (now (out .entry)) at (part has (joinedBytes x)) ⌝ }
+{
+    if has {
+        num::put_u32(out, at, x.joined);
+    }
+}
+
+fn write_rest(out: &mut [u8], at: usize, p: Parts, x: Carried, d: [u16; 7])
+    requires { ⌜ endPlace p at ≤ length (now out) × (at + 32 < 18446744073709551616) ⌝ }
+    ensures { λ _. ⌜ now (out .exit) ≡ splice (now (out .entry)) at (restBytes p x d) ⌝ }
+{
+    let a1 = command_place(p, at);
+    let a2 = deps_place(p, at);
+    let a3 = joined_place(p, at);
+    write_told(&mut *out, at, p.told, x);
+    write_command(&mut *out, a1, p.command, x.command);
+    write_beside(&mut *out, a2, p.deps, d);
+    write_joined(&mut *out, a3, p.joined, x);
 }
 
 // Writes a message at an offset, and nothing beyond its length.
@@ -261,8 +373,9 @@ pub fn encode(out: &mut [u8], at: usize, m: Message)
 {
     let body = m.body;
     let deps = m.deps;
+    let row = row_in(body);
     write_head(&mut *out, at, m);
-    write_rest(&mut *out, at + 10, body, deps);
+    write_rest(&mut *out, at + HEAD, row.parts, carried_in(body), deps);
 }
 
 // Writes a message into lent room of 256 bytes or more.

@@ -1,4 +1,4 @@
-use Rattle.paper.specs.Valid.{headOk}
+use Rattle.valid.specs.Groups.{headOk}
 use borrow.Author.Needs.{needs}
 use Rattle.valid.proofs.head_ok.Statement.{statement}
 use Rattle.valid.proofs.head_ok.Tie as tie
@@ -30,8 +30,8 @@ ballot-range-requires c κs = search needs
 both-requires-4 : tie.Need-both-requires-4
 both-requires-4 c κs = search needs
 
-prepare-ballot-requires : tie.Need-prepare-ballot-requires
-prepare-ballot-requires c κs = search needs
+recovery-ballot-requires : tie.Need-recovery-ballot-requires
+recovery-ballot-requires c κs = search needs
 
 both-requires-5 : tie.Need-both-requires-5
 both-requires-5 c κs = search needs
@@ -53,6 +53,6 @@ head-ok-spec =
     both-requires-3
     ballot-range-requires
     both-requires-4
-    prepare-ballot-requires
+    recovery-ballot-requires
     both-requires-5
     returns)

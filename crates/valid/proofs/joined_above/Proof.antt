@@ -2,17 +2,8 @@ use borrow.Author.Needs.{needs}
 use Rattle.valid.proofs.joined_above.Statement.{statement}
 use Rattle.valid.proofs.joined_above.Tie as tie
 
-kind-in-requires : tie.Need-kind-in-requires
-kind-in-requires c κs = search needs
-
-equal-requires : tie.Need-equal-requires
-equal-requires c κs = search needs
-
 wide32-requires : tie.Need-wide32-requires
 wide32-requires c κs = search needs
-
-joined-in-requires : tie.Need-joined-in-requires
-joined-in-requires c κs = search needs
 
 wide32-requires-2 : tie.Need-wide32-requires-2
 wide32-requires-2 c κs = search needs
@@ -28,13 +19,4 @@ returns c = cc
 
 pub joined-above-spec : {M : Type 1} → statement M
 joined-above-spec =
-    tie.close
-    (tie.spec
-    kind-in-requires
-    equal-requires
-    wide32-requires
-    joined-in-requires
-    wide32-requires-2
-    below-requires
-    implied-requires
-    returns)
+    tie.close (tie.spec wide32-requires wide32-requires-2 below-requires implied-requires returns)

@@ -2,29 +2,8 @@ use borrow.Author.Needs.{needs}
 use Rattle.valid.proofs.to_lead.Statement.{statement}
 use Rattle.valid.proofs.to_lead.Tie as tie
 
-kind-in-requires : tie.Need-kind-in-requires
-kind-in-requires c κs = search needs
-
-equal-requires : tie.Need-equal-requires
-equal-requires c κs = search needs
-
-equal-requires-2 : tie.Need-equal-requires-2
-equal-requires-2 c κs = search needs
-
-either-requires : tie.Need-either-requires
-either-requires c κs = search needs
-
-equal-requires-3 : tie.Need-equal-requires-3
-equal-requires-3 c κs = search needs
-
-either-requires-2 : tie.Need-either-requires-2
-either-requires-2 c κs = search needs
-
-equal-requires-4 : tie.Need-equal-requires-4
-equal-requires-4 c κs = search needs
-
-either-requires-3 : tie.Need-either-requires-3
-either-requires-3 c κs = search needs
+is-reply-requires : tie.Need-is-reply-requires
+is-reply-requires c κs = search needs
 
 wide8-requires : tie.Need-wide8-requires
 wide8-requires c κs = search needs
@@ -32,8 +11,8 @@ wide8-requires c κs = search needs
 lead-in-requires : tie.Need-lead-in-requires
 lead-in-requires c κs = search needs
 
-equal-requires-5 : tie.Need-equal-requires-5
-equal-requires-5 c κs = search needs
+equal-requires : tie.Need-equal-requires
+equal-requires c κs = search needs
 
 implied-requires : tie.Need-implied-requires
 implied-requires c κs = search needs
@@ -45,16 +24,9 @@ pub to-lead-spec : {M : Type 1} → statement M
 to-lead-spec =
     tie.close
     (tie.spec
-    kind-in-requires
-    equal-requires
-    equal-requires-2
-    either-requires
-    equal-requires-3
-    either-requires-2
-    equal-requires-4
-    either-requires-3
+    is-reply-requires
     wide8-requires
     lead-in-requires
-    equal-requires-5
+    equal-requires
     implied-requires
     returns)

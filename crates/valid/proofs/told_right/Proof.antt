@@ -1,25 +1,38 @@
-use mathlib.Core.Path.{ap, _∙_}
-use Rattle.paper.specs.Vote.{toldOk}
-use Rattle.valid.proofs.Laws.{untold, told-7}
+use borrow.Author.Tests.{not-true, not-false}
+use Rattle.valid.proofs.Laws.{untold, told-all}
 use borrow.Author.Needs.{needs}
 use Rattle.valid.proofs.told_right.Statement.{statement}
 use Rattle.valid.proofs.told_right.Tie as tie
 
-kind-in-requires : tie.Need-kind-in-requires
-kind-in-requires c κs = search needs
-
 returns : tie.Need-returns
-returns c = untold _ _ (c .before .before .args .m) (c .before .kind-in .ensures) (c .if1 .taken)
+returns c = let a = c .before .before .before .args in untold (a .w) (a .m) (a .v) (not-true _ (c .if1 .taken))
 
-vote-in-requires : tie.Need-vote-in-requires
-vote-in-requires c κs = search needs
+wide32-requires : tie.Need-wide32-requires
+wide32-requires c κs = search needs
 
-told-ok-requires : tie.Need-told-ok-requires
-told-ok-requires c κs = search needs
+wide32-requires-2 : tie.Need-wide32-requires-2
+wide32-requires-2 c κs = search needs
+
+below-requires : tie.Need-below-requires
+below-requires c κs = search needs
+
+none-is-blank-requires : tie.Need-none-is-blank-requires
+none-is-blank-requires c κs = search needs
+
+both-requires : tie.Need-both-requires
+both-requires c κs = search needs
 
 returns-2 : tie.Need-returns-2
-returns-2 c = told-7 _ _ (c .before .before .before .before .args .m) (c .before .before .before .kind-in .ensures) (c .before .before .if1 .left) (c .told-ok .ensures ∙ ap (toldOk (c .before .before .before .before .args .n) (c .before .before .before .before .args .s) (c .before .before .before .before .args .m .ballot)) (c .before .vote-in .ensures))
+returns-2 c = let a = c .before .before .before .before .before .before .before .before .args in told-all (a .w) (a .m) (a .v) (not-false _ (c .before .before .before .before .before .if1 .left)) (cc)
 
 pub told-right-spec : {M : Type 1} → statement M
 told-right-spec =
-    tie.close (tie.spec kind-in-requires returns vote-in-requires told-ok-requires returns-2)
+    tie.close
+    (tie.spec
+    returns
+    wide32-requires
+    wide32-requires-2
+    below-requires
+    none-is-blank-requires
+    both-requires
+    returns-2)

@@ -6,6 +6,9 @@ use borrow.Author.Needs.{needs}
 use Rattle.valid.proofs.valid_message.Statement.{statement}
 use Rattle.valid.proofs.valid_message.Tie as tie
 
+row-in-requires : tie.Need-row-in-requires
+row-in-requires c κs = search needs
+
 head-ok-requires : tie.Need-head-ok-requires
 head-ok-requires c κs = search needs
 
@@ -16,15 +19,32 @@ both-requires : tie.Need-both-requires
 both-requires c κs = search needs
 
 returns : tie.Need-returns
-returns c = invalid _ _ _ _ (sym (c .before .both .ensures ∙ ap₂ _&&_ (c .before .before .before .head-ok .ensures) (c .before .before .way-ok .ensures)) ∙ not-true _ (c .if1 .taken))
+returns c = invalid _ _ _ _ (c .before .before .before .before .row-in .ensures) (sym (c .before .both .ensures ∙ ap₂ _&&_ (c .before .before .before .head-ok .ensures) (c .before .before .way-ok .ensures)) ∙ not-true _ (c .if1 .taken))
+
+vote-in-requires : tie.Need-vote-in-requires
+vote-in-requires c κs = search needs
+
+joined-in-requires : tie.Need-joined-in-requires
+joined-in-requires c κs = search needs
 
 body-ok-requires : tie.Need-body-ok-requires
 body-ok-requires c κs = search needs
 
 returns-2 : tie.Need-returns-2
-returns-2 c = valid-body _ _ _ _ (sym (c .before .before .both .ensures ∙ ap₂ _&&_ (c .before .before .before .before .head-ok .ensures) (c .before .before .before .way-ok .ensures)) ∙ not-false _ (c .before .if1 .left)) (c .body-ok .ensures)
+returns-2 c =
+    valid-body _ _ _ _ (c .before .before .before .before .before .before .before .row-in .ensures) (sym (c .before .before .before .before .both .ensures ∙ ap₂ _&&_ (c .before .before .before .before .before .before .head-ok .ensures) (c .before .before .before .before .before .way-ok .ensures)) ∙ not-false _ (c .before .before .before .if1 .left)) (c .before .before .vote-in .ensures) (c .before .joined-in .ensures)
+    (c .body-ok .ensures)
 
 pub valid-message-spec : {M : Type 1} → statement M
 valid-message-spec =
     tie.close
-    (tie.spec head-ok-requires way-ok-requires both-requires returns body-ok-requires returns-2)
+    (tie.spec
+    row-in-requires
+    head-ok-requires
+    way-ok-requires
+    both-requires
+    returns
+    vote-in-requires
+    joined-in-requires
+    body-ok-requires
+    returns-2)

@@ -1,4 +1,4 @@
-use Rattle.paper.specs.Valid.{wayOk}
+use Rattle.valid.specs.Groups.{wayOk}
 use borrow.Author.Needs.{needs}
 use Rattle.valid.proofs.way_ok.Statement.{statement}
 use Rattle.valid.proofs.way_ok.Tie as tie

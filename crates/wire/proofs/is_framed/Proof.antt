@@ -6,14 +6,8 @@ use Rattle.wire.proofs.is_framed.Tie as tie
 kind-at-requires : tie.Need-kind-at-requires
 kind-at-requires c κs = search needs
 
-at-most-requires : tie.Need-at-most-requires
-at-most-requires c κs = search needs
-
-at-most-requires-2 : tie.Need-at-most-requires-2
-at-most-requires-2 c κs = search needs
-
-both-requires : tie.Need-both-requires
-both-requires c κs = search needs
+row-of-requires : tie.Need-row-of-requires
+row-of-requires c κs = search needs
 
 length-of-requires : tie.Need-length-of-requires
 length-of-requires c κs = search needs
@@ -21,8 +15,8 @@ length-of-requires c κs = search needs
 equal-requires : tie.Need-equal-requires
 equal-requires c κs = search needs
 
-both-requires-2 : tie.Need-both-requires-2
-both-requires-2 c κs = search needs
+both-requires : tie.Need-both-requires
+both-requires c κs = search needs
 
 returns : tie.Need-returns
 unfolding framed
@@ -33,10 +27,8 @@ is-framed-spec =
     tie.close
     (tie.spec
     kind-at-requires
-    at-most-requires
-    at-most-requires-2
-    both-requires
+    row-of-requires
     length-of-requires
     equal-requires
-    both-requires-2
+    both-requires
     returns)

@@ -1,13 +1,10 @@
 use mathlib.Core.Path.{sym, ap, ap₂, _∙_}
 use mathlib.Core.Bool.{_&&_}
-use Prim.Native.Nat.{ℕ}
-use lib.Dec.{leb}
 use borrow.Author.Tests.{not-true, not-false}
 use Rattle.paper.specs.Valid.{valid}
 use Rattle.paper.specs.declared.Message.{Message}
 use Rattle.wire.specs.declared.Reading.the-variants as reading
-use Rattle.wire.specs.Wire.{opAt}
-use Rattle.wire.proofs.Laws.{framed-is, received-1, received-3-frame, received-3, received-ok}
+use Rattle.wire.proofs.Laws.{received-1, received-3-frame, received-3, received-ok}
 use borrow.Author.Needs.{needs}
 use Rattle.wire.proofs.read_message.Statement.{statement}
 use Rattle.wire.proofs.read_message.Tie as tie
@@ -28,22 +25,13 @@ unread-of-requires-2 : tie.Need-unread-of-requires-2
 unread-of-requires-2 c κs = search needs
 
 returns-2 : tie.Need-returns-2
-returns-2 c = c .unread-of2 .ensures
-    ∙ received-3-frame _ _ _ _ (sym (c .before .before .before .before .setup-ok .ensures) ∙ not-false _ (c .before .before .before .if1 .left)) (sym (c .before .before .is-framed .ensures) ∙ not-true _ (c .before .if2 .taken))
+returns-2 c = c .unread-of2 .ensures ∙ received-3-frame _ _ _ _ (sym (c .before .before .before .before .setup-ok .ensures) ∙ not-false _ (c .before .before .before .if1 .left)) (sym (c .before .before .is-framed .ensures) ∙ not-true _ (c .before .if2 .taken))
 
 decode-requires : tie.Need-decode-requires
 decode-requires c κs = sym (c .before .is-framed .ensures) ∙ not-false _ (c .if2 .left)
 
-kind-at-requires : tie.Need-kind-at-requires
-kind-at-requires c κs = search needs
-
-op-at-requires : tie.Need-op-at-requires
-op-at-requires c κs =
-    let f = framed-is _ (sym (c .before .before .before .is-framed .ensures) ∙ not-false _ (c .before .before .if2 .left)) in
-    rw (c .kind-at .ensures) (f .exact)
-
-at-most-requires : tie.Need-at-most-requires
-at-most-requires c κs = search needs
+op-fits-requires : tie.Need-op-fits-requires
+op-fits-requires c κs = sym (c .before .before .is-framed .ensures) ∙ not-false _ (c .before .if2 .left)
 
 valid-message-requires : tie.Need-valid-message-requires
 valid-message-requires c κs = search needs
@@ -56,23 +44,17 @@ unread-of-requires-3 c κs = search needs
 
 returns-3 : tie.Need-returns-3
 returns-3 c =
-    let a = c .before .before .before .before .before .before .before .before .before .before .before .before .before .args in
-    let p = sym (c .before .before .before .before .before .before .before .before .before .before .before .setup-ok .ensures) ∙ not-false _ (c .before .before .before .before .before .before .before .before .before .before .if1 .left) in
-    let q = sym (c .before .before .before .before .before .before .before .before .before .is-framed .ensures) ∙ not-false _ (c .before .before .before .before .before .before .before .before .if2 .left) in
-    let o = c .before .before .before .before .at-most .ensures ∙ ap (λ (x : ℕ). leb x 2) (c .before .before .before .before .before .op-at .ensures ∙ ap (λ (x : ℕ). opAt x (a .b .now)) (c .before .before .before .before .before .before .kind-at .ensures)) in
-    let v = c .before .before .before .valid-message .ensures ∙ ap (valid (a .n) (a .s) (a .c)) (c .before .before .before .before .before .before .before .decode .ensures) in
-    let e = c .before .before .both .ensures ∙ ap₂ _&&_ o v in
-    c .unread-of3 .ensures ∙ received-3 _ _ _ _ p q (sym e ∙ not-true _ (c .before .if3 .taken))
+    let a = c .before .before .before .before .before .before .before .before .before .before .before .args in
+    let v = c .before .before .before .valid-message .ensures ∙ ap (valid (a .n) (a .s) (a .c)) (c .before .before .before .before .before .decode .ensures) in
+    let e = c .before .before .both .ensures ∙ ap₂ _&&_ (c .before .before .before .before .op-fits .ensures) v in
+    c .unread-of3 .ensures ∙ received-3 _ _ _ _ (sym (c .before .before .before .before .before .before .before .before .before .setup-ok .ensures) ∙ not-false _ (c .before .before .before .before .before .before .before .before .if1 .left)) (sym (c .before .before .before .before .before .before .before .is-framed .ensures) ∙ not-false _ (c .before .before .before .before .before .before .if2 .left)) (sym e ∙ not-true _ (c .before .if3 .taken))
 
 returns-4 : tie.Need-returns-4
 returns-4 c =
-    let a = c .before .before .before .before .before .before .before .before .before .before .before .before .args in
-    let p = sym (c .before .before .before .before .before .before .before .before .before .before .setup-ok .ensures) ∙ not-false _ (c .before .before .before .before .before .before .before .before .before .if1 .left) in
-    let q = sym (c .before .before .before .before .before .before .before .before .is-framed .ensures) ∙ not-false _ (c .before .before .before .before .before .before .before .if2 .left) in
-    let o = c .before .before .before .at-most .ensures ∙ ap (λ (x : ℕ). leb x 2) (c .before .before .before .before .op-at .ensures ∙ ap (λ (x : ℕ). opAt x (a .b .now)) (c .before .before .before .before .before .kind-at .ensures)) in
-    let v = c .before .before .valid-message .ensures ∙ ap (valid (a .n) (a .s) (a .c)) (c .before .before .before .before .before .before .decode .ensures) in
-    let e = c .before .both .ensures ∙ ap₂ _&&_ o v in
-    ap (λ (m : Message). record { answer = reading.Valid; message = m }) (c .before .before .before .before .before .before .decode .ensures) ∙ received-ok _ _ _ _ p q (sym e ∙ not-false _ (c .if3 .left))
+    let a = c .before .before .before .before .before .before .before .before .before .before .args in
+    let v = c .before .before .valid-message .ensures ∙ ap (valid (a .n) (a .s) (a .c)) (c .before .before .before .before .decode .ensures) in
+    let e = c .before .both .ensures ∙ ap₂ _&&_ (c .before .before .before .op-fits .ensures) v in
+    ap (λ (m : Message). record { answer = reading.Valid; message = m }) (c .before .before .before .before .decode .ensures) ∙ received-ok _ _ _ _ (sym (c .before .before .before .before .before .before .before .before .setup-ok .ensures) ∙ not-false _ (c .before .before .before .before .before .before .before .if1 .left)) (sym (c .before .before .before .before .before .before .is-framed .ensures) ∙ not-false _ (c .before .before .before .before .before .if2 .left)) (sym e ∙ not-false _ (c .if3 .left))
 
 pub read-message-spec : {M : Type 1} → statement M
 read-message-spec =
@@ -85,9 +67,7 @@ read-message-spec =
     unread-of-requires-2
     returns-2
     decode-requires
-    kind-at-requires
-    op-at-requires
-    at-most-requires
+    op-fits-requires
     valid-message-requires
     both-requires
     unread-of-requires-3

@@ -1,4 +1,4 @@
-use Rattle.paper.specs.Command.{commandOk}
+use Rattle.nouns.proofs.Laws.{command-zero}
 use borrow.Author.Needs.{needs}
 use Rattle.nouns.proofs.command.command_ok.Statement.{statement}
 use Rattle.nouns.proofs.command.command_ok.Tie as tie
@@ -22,8 +22,7 @@ implied-requires : tie.Need-implied-requires
 implied-requires c κs = search needs
 
 returns : tie.Need-returns
-unfolding commandOk
-returns c = cc
+returns c = command-zero _ (cc)
 
 pub command-ok-spec : {M : Type 1} → statement M
 command-ok-spec =
