@@ -21,6 +21,7 @@ use Rattle.safety.specs.Run.{Instance, Happening, requested, answered, replaced
 
 -- a copy, as its host has it
 pub record Copy : Type 0 where
+  -- what its host has saved
   pub disk : List ℕ
   -- the table in its memory, which it lends to the calls
   pub lent : List ℕ
@@ -31,7 +32,7 @@ pub record Copy : Type 0 where
   -- the order of saved marks
   pub marks : List Instance
 
--- what is saved: the disk is the table
+-- its saved table: the disk is the table
 abbrev pub savedTable : Copy → List ℕ
 savedTable k = k .disk
 

@@ -34,7 +34,7 @@ pub data Happening (A : Type 0) : Type 0 where
   requested : (o j : ℕ) (k : Command) → Happening A
   answered : (c o j : ℕ) (a : A) → Happening A
 
--- the command, the uncommitted instance that comes first, or that there is no such instance
+-- whether an instance is settled: its command, or the uncommitted instance that it waits for first, or there is none such
 pub data Settling : Type 0 where
   settled : (k : Command) → Settling
   waits : (o j : ℕ) → Settling
@@ -85,10 +85,14 @@ saveOf o j step = entry o j (step .entry)
 -- copy c saves, then sends what is in out
 abbrev pub saved : State → ℕ → Save → List Message → State
 saved x c save out =
-    record
-    { tables = replaced (x .tables) c (stored (x .tables c) save); sent = x .sent ++ out; history = x .history; marks = x .marks }
+    record {
+      tables = replaced (x .tables) c (stored (x .tables c) save);
+      sent = x .sent ++ out;
+      history = x .history;
+      marks = x .marks;
+    }
 
--- and this happened
+-- something is remembered
 abbrev pub happened : State → Happening Settling → State
 happened x h = record { tables = x .tables; sent = x .sent; history = x .history ++ h ∷ []; marks = x .marks }
 
@@ -99,8 +103,12 @@ markOf t o j = entry o j (order.marked (t o j))
 -- copy c saves it
 abbrev pub marked : State → ℕ → ℕ → ℕ → State
 marked x c o j =
-    record
-    { tables = replaced (x .tables) c (stored (x .tables c) (markOf (x .tables c) o j)); sent = x .sent; history = x .history; marks = replaced (x .marks) c (x .marks c ++ (o, j) ∷ []) }
+    record {
+      tables = replaced (x .tables) c (stored (x .tables c) (markOf (x .tables c) o j));
+      sent = x .sent;
+      history = x .history;
+      marks = replaced (x .marks) c (x .marks c ++ (o, j) ∷ []);
+    }
 
 -- any part of a step's messages, in any order: a cut may come between the save and the sends
 abbrev pub Among : List Message → List Message → Type 0
