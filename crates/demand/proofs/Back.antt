@@ -44,6 +44,7 @@ use Rattle.safety.specs.Run as rules
 use Rattle.safety.proofs.Runs.{requested-more}
 use Rattle.demand.specs.Run.{Copy, State, start, Call, request, receive, recover, nudge, outcome, Possible, written, acted, handing, marking, restarted, changed, asked, Move, event, leave, cut, Run, stay, further}
 use Rattle.demand.specs.Run.{mark as mv-mark, handOut as mv-handOut}
+use Rattle.log.proofs.Calls.{receive-open}
 use Rattle.demand.proofs.Saved.{Kept, setup-of}
 use Rattle.demand.proofs.Range.{number-alike, next-alike}
 use Rattle.demand.proofs.Records.{records, at-range, alike, setup-at}
@@ -247,7 +248,7 @@ module _ (n s : ℕ) (setup : Setup n s) where
 
     receive-back : (m : Message) → List·Memᴰ m (y .sent) → valid n s c m ≡ true → refused10 (y .tables c (m .owner) (m .number)) m ≡ false → (l : List Message)
         → rules.Among l (messages (onMessage n s c (y .tables c) m)) → Back x (rules.saved y c (m .owner) (m .number) (onMessage n s c (y .tables c) m) l)
-    unfolding receiveOpen log.acted
+    unfolding log.acted
     receive-back m i v r l am =
         let t : List ℕ = k .saved in
         let b : List ℕ = messageBytes m in
@@ -257,7 +258,7 @@ module _ (n s : ℕ) (setup : Setup n s) where
         let taken = reads n s c m fits (setup-at n s setup c copy) v .taken in
         let test : refused10 (recordIn s t (m .owner) (m .number)) m ≡ false = rw (← there (m .owner) (m .number) (valid-instance n s c m v)) r in
         let ans : answerNumber (outcome n s c t room (receive b) .answer) ≡ 0 =
-        rw (gate-is n s c t room (receiveOpen n s c t room b) kept, taken, read, test) in
+        rw (gate-is n s c t room (receiveOpen n s c t room b) kept, receive-open n s c t room b (setup-at n s setup c copy), taken, read, test) in
         subst (λ (z : Message). rules.Among l (messages (onMessage n s c (y .tables c) z)) → Back x (rules.saved y c (z .owner) (z .number) (onMessage n s c (y .tables c) z) l))
         read (λ a. event-back (receive b) (f .bytes m i) br ans l a) am
 

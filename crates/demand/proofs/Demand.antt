@@ -40,7 +40,8 @@ use Rattle.safety.specs.Demand as rules-demand
 use Rattle.safety.proofs.Demand as rules-proved
 use Rattle.demand.specs.Run.{State, start, Call, request, receive, recover, nudge, outcome, Run, stay}
 use Rattle.demand.specs.Demand.{Committed, Unrefused, Lasting, Demand}
-use Rattle.demand.proofs.Saved.{Kept}
+use Rattle.log.proofs.Calls.{receive-open}
+use Rattle.demand.proofs.Saved.{Kept, setup-of}
 use Rattle.demand.proofs.Records.{at-range}
 use Rattle.demand.proofs.Handing.{sound-judged, left}
 use Rattle.demand.proofs.Steps.{gate-is}
@@ -89,14 +90,14 @@ module _ (n s : ℕ) (setup : Setup n s) where
   done t out o j x = record { is = other 0 refl }
 
   open-fine : (c : ℕ) (t out : List ℕ) → Kept n s c t → (call : Call) → Fine (outcome n s c t out call)
-  unfolding requestOpen receiveOpen recoverOpen nudgeOpen
+  unfolding requestOpen recoverOpen nudgeOpen
   open-fine c t out k (request op key edit) =
       rw (gate-is n s c t out (requestOpen n s c t out op key edit) k)
       (or-else (ltb (length out) 256) why.Room t out _ refl
       (or-else (not (eqb op 1 || eqb op 2)) why.Op t out _ refl (or-else (ltb s (requestNumber s c (recordsIn s t))) why.Full t out _ refl (done t out _ _ _))))
   open-fine c t out k (receive b) =
       let r : Record = recordIn s t (messageAt b .owner) (messageAt b .number) in
-      rw (gate-is n s c t out (receiveOpen n s c t out b) k)
+      rw (gate-is n s c t out (receiveOpen n s c t out b) k, receive-open n s c t out b (setup-of n s c t (k .setup)))
       (or-else (ltb (length out) 256) why.Room t out _ refl
       (or-else (not (validBytes n s c b)) why.Message t out _ refl (or-else (refused10 r (messageAt b)) why.Differs t out _ refl (done t out _ _ _))))
   open-fine c t out k (recover o j) =
@@ -141,7 +142,7 @@ module _ (n s : ℕ) (setup : Setup n s) where
 
   sent-agrees : (x : State) (y : rules.State) → Tie n s setup x y → rules.Run n s rules.start y → (c : ℕ) → c < n → (out b : List ℕ) → List·Memᴰ b (x .sent)
       → Agrees (outcome n s c (x .copies c .saved) out (receive b))
-  unfolding receiveOpen validBytes acted
+  unfolding validBytes acted
   sent-agrees x y t r c l out b i =
       let v : List ℕ = x .copies c .saved in
       let m : Message = messageAt b in
@@ -149,7 +150,7 @@ module _ (n s : ℕ) (setup : Setup n s) where
       λ h.
       let g : valid n s c m ≡ true = and-true (framed b && opFits b) _ h .1 in
       rw (← record-is x y t c (m .owner) (m .number) (valid-instance n s c m g)) (rules-proved.lasting n s setup .unrefused y r c m (t .sent b i .among) g) in
-      rw (gate-is n s c v out (receiveOpen n s c v out b) (t .copies c .kept l))
+      rw (gate-is n s c v out (receiveOpen n s c v out b) (t .copies c .kept l), receive-open n s c v out b (setup-of n s c v (t .copies c .kept l .setup)))
       (by-cond Agrees (ltb (length out) 256) (λ e. ten 2 refl)
       (λ e. by-cond Agrees (not (validBytes n s c b)) (λ f. ten 3 refl)
       (λ f. by-cond Agrees (refused10 (recordIn s v (m .owner) (m .number)) m) (λ g. tf _ g (same (not-false _ f))) (λ g. ten 0 refl))))
