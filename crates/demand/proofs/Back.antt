@@ -32,7 +32,7 @@ use Rattle.closed.proofs.Mark.{Found, nextOut-found}
 use Rattle.log.specs.Out.{outBytes}
 use Rattle.log.specs.Events.{Outcome, asked, receiveOpen, recoverOpen, nudgeOpen, answerNumber}
 use Rattle.log.specs.Events as log
-use Rattle.log.proofs.Calls.{setup-of}
+use Rattle.log.proofs.Calls.{setup-of, receive-open}
 use Rattle.log.proofs.Held.{out-short}
 use Rattle.order.specs.declared.Handing.the-variants.{Codes}
 use Rattle.order.specs.Calls.{settled, handedCodes, handed}
@@ -230,7 +230,7 @@ module _ (n s : ℕ) (setup : Setup n s) where
 
     receive-back : (m : Message) → List·Memᴰ m (y .sent) → valid n s c m ≡ true → refused10 (y .tables c (m .owner) (m .number)) m ≡ false → (l : List Message)
         → rules.Among l (messages (onMessage n s c (y .tables c) m)) → Back x (rules.saved y c (rules.saveOf (m .owner) (m .number) (onMessage n s c (y .tables c) m)) l)
-    unfolding receiveOpen log.acted
+    unfolding log.acted
     receive-back m i v r l among =
         let t : List ℕ = savedTable k in
         let b : List ℕ = messageBytes m in
@@ -240,7 +240,7 @@ module _ (n s : ℕ) (setup : Setup n s) where
         let taken = reads n s c m fits (setup-at n s setup c copy) v .taken in
         let test : refused10 (recordIn s t (m .owner) (m .number)) m ≡ false = rw (← there (m .owner) (m .number) (valid-instance n s c m v)) r in
         let answer-is : answerNumber (outcome n s c t room (receive b) .answer) ≡ 0 =
-        rw (gate-is n s c t room (receiveOpen n s c t room b) kept, taken, read, test) in
+        rw (gate-is n s c t room (receiveOpen n s c t room b) kept, receive-open n s c t room b (setup-at n s setup c copy), taken, read, test) in
         subst (λ (z : Message). rules.Among l (messages (onMessage n s c (y .tables c) z)) → Back x (rules.saved y c (rules.saveOf (z .owner) (z .number) (onMessage n s c (y .tables c) z)) l))
         read (λ a. event-back (receive b) (f .bytes m i) brought answer-is l a) among
 

@@ -43,6 +43,7 @@ use Rattle.safety.specs.Demand as rules-demand
 use Rattle.safety.proofs.Demand as rules-proved
 use Rattle.demand.specs.Run.{savedTable, State, Start, Call, request, receive, recover, nudge, outcome, Run, stay}
 use Rattle.demand.specs.Demand.{Committed, Unrefused, Lasting, Demand}
+use Rattle.log.proofs.Calls.{setup-of, receive-open}
 use Rattle.demand.proofs.Records.{at-range}
 use Rattle.demand.proofs.Handing.{sound-judged}
 use Rattle.demand.proofs.History.{requested-heard}
@@ -102,12 +103,12 @@ module _ (n s : ℕ) (setup : Setup n s) where
       (or-else (ltb (length out) 256) why.Room t out _ refl (or-else (not (opTaken op)) why.Op t out _ refl (asked-fine c t out (commandOf op key edit))))
 
   open-fine : (c : ℕ) (t out : List ℕ) → Kept n s c t → (call : Call) → Fine (outcome n s c t out call)
-  unfolding receiveOpen recoverOpen nudgeOpen
+  unfolding recoverOpen nudgeOpen
   open-fine c t out k (request v) =
       rw (gate-is n s c t out (asked n s c t out v) k) (or-else (ltb (length out) 256) why.Room t out _ refl (asked-fine c t out v))
   open-fine c t out k (receive b) =
       let r : Record = recordIn s t (messageAt b .owner) (messageAt b .number) in
-      rw (gate-is n s c t out (receiveOpen n s c t out b) k)
+      rw (gate-is n s c t out (receiveOpen n s c t out b) k, receive-open n s c t out b (setup-of n s c t (k .setup)))
       (or-else (ltb (length out) 256) why.Room t out _ refl
       (or-else (not (validBytes n s c b)) why.Message t out _ refl (or-else (refused10 r (messageAt b)) why.Differs t out _ refl (done t out _ _ _))))
   open-fine c t out k (recover o j) =
@@ -153,7 +154,7 @@ module _ (n s : ℕ) (setup : Setup n s) where
 
   sent-agrees : (x : State) (y₀ y : rules.State) → Tie n s setup x y → rules.Start n s y₀ → rules.Run n s y₀ y → (c : ℕ) → c < n → (out b : List ℕ) → List·Memᴰ b (x .sent)
       → Agrees (outcome n s c (savedTable (x .copies c)) out (receive b))
-  unfolding receiveOpen validBytes acted
+  unfolding validBytes acted
   sent-agrees x y₀ y t st r c l out b i =
       let v : List ℕ = savedTable (x .copies c) in
       let m : Message = messageAt b in
@@ -161,7 +162,7 @@ module _ (n s : ℕ) (setup : Setup n s) where
       λ h.
       let g : valid n s c m ≡ true = and-true (framed b && opFits b) _ h .1 in
       rw (← record-is x y t c (m .owner) (m .number) (valid-instance n s c m g)) (rules-proved.lasting n s setup .unrefused y₀ y st r c m (t .sent b i .among) g) in
-      rw (gate-is n s c v out (receiveOpen n s c v out b) (t .copies c .kept l))
+      rw (gate-is n s c v out (receiveOpen n s c v out b) (t .copies c .kept l), receive-open n s c v out b (setup-of n s c v (t .copies c .kept l .setup)))
       (by-cond Agrees (ltb (length out) 256) (λ e. ten 2 refl)
       (λ e. by-cond Agrees (not (validBytes n s c b)) (λ f. ten 3 refl)
       (λ f. by-cond Agrees (refused10 (recordIn s v (m .owner) (m .number)) m) (λ g. tf _ g (same (not-false _ f))) (λ g. ten 0 refl))))

@@ -39,7 +39,7 @@ use Rattle.log.specs.declared.Gate.{Gate}
 use Rattle.log.specs.declared.Gate.the-variants.{Open, Shut}
 use Rattle.log.specs.declared.Answer.the-variants.{Event}
 use Rattle.log.specs.Events.{Outcome, refuse, acted, gateOf, gated, through, commandOf, opTaken, asked, requestOpen, receiveOpen, recoverOpen, nudgeOpen, answerNumber}
-use Rattle.log.proofs.Calls.{setup-of}
+use Rattle.log.proofs.Calls.{setup-of, receive-open}
 use Rattle.safety.specs.Run.{replaced}
 use Rattle.safety.specs.Run as rules
 use Rattle.demand.specs.Run.{Call, request, receive, recover, nudge, outcome, PublicRequest, recorded}
@@ -159,12 +159,12 @@ module _ (n s c : ℕ) (t out : List ℕ) (k : Kept n s c t) (copy : c < n) (y :
       }
 
   receive-step : (b : List ℕ) → Brought n s (y .sent) (receive b) → answerNumber (outcome n s c t out (receive b) .answer) ≡ 0 → Stepped n s c t out (receive b) y
-  unfolding receiveOpen validBytes
+  unfolding validBytes
   receive-step b f h =
       let m : Message = messageAt b in
       let x : Step = onMessage n s c (recordsIn s t) m in
       let a = past _ why.Room t out _ _ (gate-is n s c t out (receiveOpen n s c t out b) k) h in
-      let d = past (not (validBytes n s c b)) why.Message t out (receiveOpen n s c t out b) _ refl (a .answered) in
+      let d = past (not (validBytes n s c b)) why.Message t out (receiveOpen n s c t out b) _ (receive-open n s c t out b setup) (a .answered) in
       let e = past (refused10 (recordIn s t (m .owner) (m .number)) m) why.Differs t out _ (acted s t out (m .owner) (m .number) x) refl (d .answered) in
       let v : valid n s c m ≡ true = and-true (framed b && opFits b) _ (not-false _ (d .test)) .1 in
       let i : instanceOk n s (m .owner) (m .number) ≡ true = valid-instance n s c m v in

@@ -12,9 +12,8 @@ use Rattle.num.proofs.Laws.{splice-same}
 use Rattle.paper.specs.Setup.{setupOk}
 use Rattle.paper.specs.Message.{kindOf}
 use Rattle.paper.specs.Valid.{valid}
+use Rattle.paper.proofs.Bodies.{kind-small}
 use Rattle.paper.specs.Vote.{member}
-use Rattle.paper.specs.declared.Body.{Body}
-use Rattle.paper.specs.declared.Body.the-variants.{PreAccept, PreAcceptOk, Accept, AcceptOk, Commit, Prepare, PrepareOk, Nack}
 use Rattle.paper.specs.declared.Message.{Message}
 use Rattle.rules.specs.declared.Step.{Step}
 use Rattle.rules.specs.Events.{addressed, messagesFrom, messages}
@@ -31,16 +30,6 @@ use Rattle.closed.proofs.Laws.{clash}
 use Rattle.closed.proofs.Closed.{addressed-fits}
 use Rattle.log.specs.Out.{allBytes, outBytes}
 use Rattle.demand.specs.Run.{messagesIn, written}
-
-kind-small : (b : Body) → kindOf b ≤ 8
-kind-small (PreAccept k) = omega arith
-kind-small PreAcceptOk = omega arith
-kind-small (Accept k) = omega arith
-kind-small AcceptOk = omega arith
-kind-small (Commit k) = omega arith
-kind-small Prepare = omega arith
-kind-small (PrepareOk v t k) = omega arith
-kind-small (Nack x) = omega arith
 
 -- the kind byte comes first
 kind-first : (m : Message) (q : List ℕ) → kindAt (messageBytes m ++ q) ≡ kindOf (m .body)

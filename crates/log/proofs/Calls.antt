@@ -1,6 +1,6 @@
 -- The outcomes of each call, one law each, and what its step needs. Assumes nothing.
 use mathlib.Core.Path.{_≡_, refl, sym, ap, _∙_}
-use mathlib.Core.Bool.{Bool, true, false, _&&_, _||_}
+use mathlib.Core.Bool.{Bool, true, false, _&&_, _||_, not, cond}
 use mathlib.Core.List.{List}
 use Prim.Native.Nat.{ℕ, _≤_, _<_}
 use native.Mathlib.Omega.{arith}
@@ -11,14 +11,19 @@ use Rattle.paper.specs.Setup.{setupOk, copiesOk, numbersOk, copyOk}
 use Rattle.paper.proofs.Laws.{and-true}
 use Rattle.paper.specs.declared.Refusal.{Refusal}
 use Rattle.paper.specs.declared.Refusal.the-variants as why
+use Rattle.rules.specs.Received.{refused10}
+use Rattle.rules.specs.Events.{onMessage}
+use Rattle.wire.specs.Wire.{messageAt, validBytes}
+use Rattle.wire.specs.Calls as wire
+use Rattle.seen.specs.Records.{recordsIn}
 use Rattle.num.specs.Num.{splice}
 use Rattle.rules.specs.declared.Step.{Step}
-use Rattle.table.specs.Table.{fits, soundTable, putRecord}
+use Rattle.table.specs.Table.{fits, soundTable, recordIn, putRecord}
 use Rattle.log.specs.declared.Answer.{Answer}
 use Rattle.log.specs.declared.Answer.the-variants.{Event, Refused}
 use Rattle.log.specs.declared.Gate.the-variants.{Open, Shut}
 use Rattle.log.specs.Out.{outBytes}
-use Rattle.log.specs.Events.{Outcome, refuse, acted, gateOf, gated, Passed}
+use Rattle.log.specs.Events.{Outcome, refuse, acted, gateOf, gated, Passed, heard, receiveOpen}
 
 -- the gate
 module _ (n s c : ℕ) (t : List ℕ) (room : ℕ) where
@@ -83,6 +88,23 @@ acted-is s t out o j e a b c = (
 pub setup-of : (n s c : ℕ) (t : List ℕ) → fits n s c t ≡ true → setupOk n s c ≡ true
 unfolding fits
 setup-of n s c t h = and-true (setupOk n s c) _ h .0
+
+-- a received message: 3 exactly for bytes that are not valid, then 10. Past the gate the reader says nothing else
+pub receive-open : (n s c : ℕ) (t out b : List ℕ) → setupOk n s c ≡ true
+    → receiveOpen n s c t out b
+    ≡ cond (not (validBytes n s c b)) (refuse why.Message t out)
+    (cond (refused10 (recordIn s t (messageAt b .owner) (messageAt b .number)) (messageAt b)) (refuse why.Differs t out)
+    (acted s t out (messageAt b .owner) (messageAt b .number) (onMessage n s c (recordsIn s t) (messageAt b))))
+unfolding receiveOpen heard wire.received
+receive-open n s c t out b p = go (validBytes n s c b) refl
+  where
+    go : (v : Bool) → validBytes n s c b ≡ v
+        → receiveOpen n s c t out b
+        ≡ cond (not (validBytes n s c b)) (refuse why.Message t out)
+        (cond (refused10 (recordIn s t (messageAt b .owner) (messageAt b .number)) (messageAt b)) (refuse why.Differs t out)
+        (acted s t out (messageAt b .owner) (messageAt b .number) (onMessage n s c (recordsIn s t) (messageAt b))))
+    go true e = rw (p, e)
+    go false e = rw (p, e)
 
 -- a setup has three copies or more
 pub three : (n s c : ℕ) (t : List ℕ) → fits n s c t ≡ true → 3 ≤ n

@@ -1,20 +1,22 @@
 -- From a sound table's bytes to the records that the rules keep sound, and from what they send to the room. Assumes nothing.
 use mathlib.Core.Path.{_≡_, refl, sym, _∙_}
-use mathlib.Core.Bool.{Bool, true, false}
+use mathlib.Core.Bool.{Bool, true, false, cond}
 use mathlib.Core.List.{List}
 use Prim.Native.Nat.{ℕ, zero, suc, _+_, _*_, _^_, _≤_, _<_}
 use native.Mathlib.Omega.{arith}
-use lib.Dec.{eqb}
 use lib.ListN.{length, length-append}
-use borrow.Author.Tests.{ne-eqb}
 use Rattle.num.specs.Num.{numAt}
 use Rattle.num.proofs.Laws.{numAt-small}
-use Rattle.codec.specs.Parts.{depsAt}
+use Rattle.codec.specs.Parts.{commandAt, depsAt}
 use Rattle.codec.proofs.Laws.{depsAt-fits}
 use Rattle.paper.specs.Setup.{setupOk}
-use Rattle.paper.specs.Message.{kindOf}
+use Rattle.paper.specs.Command.{noop}
+use Rattle.paper.specs.Deps.{noDeps}
+use Rattle.paper.specs.Message.{rowOf, partsOf, kindOf, carriedIn, kept}
 use Rattle.paper.specs.Vote.{member}
+use Rattle.paper.proofs.Bodies.{carried-is, kept-kept}
 use Rattle.paper.proofs.Deps.{none-fits}
+use Rattle.paper.specs.declared.Parts.{Parts}
 use Rattle.paper.specs.declared.Message.{Message}
 use Rattle.record.specs.Part.{Bytes}
 use Rattle.rules.specs.declared.Step.{Step}
@@ -22,10 +24,10 @@ use Rattle.rules.specs.Events.{addressed, messagesFrom}
 use Rattle.table.specs.Table.{fits, soundTable}
 use Rattle.table.proofs.Laws.{names}
 use Rattle.table.proofs.Round.{record-sound, fits-in}
-use Rattle.wire.specs.Wire.{isProposal, lengthOf, restWidths, bodyOf, depsOf, bodyAt, besideAt, kindAt, messageAt, messageBytes}
-use Rattle.wire.proofs.Laws.{length-messageBytes, Framed}
+use Rattle.wire.specs.Wire.{commandPlace, depsPlace, lengthOf, carriedAt, bodyAt, besideAt, kindAt, messageAt, messageBytes}
+use Rattle.wire.proofs.Laws.{length-messageBytes, Framed, untold-short, long-enough}
 use Rattle.seen.specs.Records.{recordsIn}
-use Rattle.paper.specs.Fits.{DepsFit, BodyFits, MessageFits}
+use Rattle.paper.specs.Fits.{CommandFits, DepsFit, CarriedFits, MessageFits}
 use Rattle.closed.specs.Held.{Sent, SoundRecords}
 use Rattle.closed.proofs.Closed.{room}
 use Rattle.log.specs.Out.{allBytes, outBytes}
@@ -35,33 +37,39 @@ pub sound-records : (n s c : ℕ) (t : List ℕ) → Bytes t → fits n s c t �
 sound-records n s c t b f h o j i =
     record { sound = record-sound n s c t h o j (names n s c t o j f i); fits = fits-in s t o j b }
 
--- a known kind's body, and the dependencies beside it, fit
-body-fits : (k : ℕ) (b : List ℕ) → Bytes b → 1 ≤ k → k ≤ 8 → BodyFits (bodyAt k b)
-unfolding bodyOf restWidths
-body-fits zero b h l u = absurd (omega arith)
-body-fits (suc zero) b h l u = record { key = numAt-small 4 b 11 h; edit = numAt-small 8 b 15 h }
-body-fits (suc (suc zero)) b h l u = tt
-body-fits (suc (suc (suc zero))) b h l u = record { key = numAt-small 4 b 11 h; edit = numAt-small 8 b 15 h }
-body-fits (suc (suc (suc (suc zero)))) b h l u = tt
-body-fits (suc (suc (suc (suc (suc zero))))) b h l u = record { key = numAt-small 4 b 11 h; edit = numAt-small 8 b 15 h }
-body-fits (suc (suc (suc (suc (suc (suc zero)))))) b h l u = tt
-body-fits (suc (suc (suc (suc (suc (suc (suc zero))))))) b h l u =
-    (numAt-small 4 b 10 h, omega (arith, numAt-small 1 b 14 h), record { key = numAt-small 4 b 16 h; edit = numAt-small 8 b 20 h })
-body-fits (suc (suc (suc (suc (suc (suc (suc (suc zero)))))))) b h l u = numAt-small 4 b 10 h
-body-fits (suc (suc (suc (suc (suc (suc (suc (suc (suc k))))))))) b h l u = absurd (omega arith)
+-- what is read of a body, and of the dependencies beside it, fits, whatever parts are there
+read-fits : (t : Bool) (x w : ℕ) → x < w → 0 < w → cond t x 0 < w
+read-fits true x w h z = h
+read-fits false x w h z = z
 
-beside-fits : (k : ℕ) (b : List ℕ) → Bytes b → 1 ≤ k → k ≤ 8 → DepsFit (besideAt k b)
-unfolding depsOf restWidths depsAt
-beside-fits zero b h l u = absurd (omega arith)
-beside-fits (suc zero) b h l u = depsAt-fits b 23 h
-beside-fits (suc (suc zero)) b h l u = depsAt-fits b 10 h
-beside-fits (suc (suc (suc zero))) b h l u = depsAt-fits b 23 h
-beside-fits (suc (suc (suc (suc zero)))) b h l u = none-fits
-beside-fits (suc (suc (suc (suc (suc zero))))) b h l u = depsAt-fits b 23 h
-beside-fits (suc (suc (suc (suc (suc (suc zero)))))) b h l u = none-fits
-beside-fits (suc (suc (suc (suc (suc (suc (suc zero))))))) b h l u = depsAt-fits b 28 h
-beside-fits (suc (suc (suc (suc (suc (suc (suc (suc zero)))))))) b h l u = none-fits
-beside-fits (suc (suc (suc (suc (suc (suc (suc (suc (suc k))))))))) b h l u = absurd (omega arith)
+carriedAt-fits : (p : Parts) (b : List ℕ) → Bytes b → CarriedFits (carriedAt p b)
+unfolding carriedAt kept commandAt
+carriedAt-fits p b h =
+    let n : (w i : ℕ) → numAt w b i < 256 ^ w = λ w i. numAt-small w b i h in
+    record {
+      voted = read-fits (p .told) _ _ (n 4 _) (omega arith);
+      status = read-fits (p .told) _ _ (omega (arith, n 1 14)) (omega arith);
+      command = command (p .command);
+      joined = read-fits (p .joined) _ _ (n 4 _) (omega arith);
+    }
+  where
+    command : (t : Bool) → CommandFits (cond t (commandAt b (commandPlace p 10)) noop)
+    command true = record { key = numAt-small 4 b _ h; edit = numAt-small 8 b _ h }
+    command false = record { key = omega arith; edit = omega arith }
+
+body-fits : (k : ℕ) (b : List ℕ) → Bytes b → rowOf k .known ≡ true → CarriedFits (carriedIn (bodyAt k b))
+unfolding carriedAt
+body-fits k b h known =
+    let e = carried-is k (carriedAt (partsOf k) b) known ∙ kept-kept (partsOf k) _ in
+    rw e (carriedAt-fits (partsOf k) b h)
+
+beside-fits : (p : Parts) (b : List ℕ) → Bytes b → DepsFit (besideAt p b)
+unfolding besideAt
+beside-fits p b h = go (p .deps)
+  where
+    go : (t : Bool) → DepsFit (cond t (depsAt b (depsPlace p 10)) noDeps)
+    go true = depsAt-fits b _ h
+    go false = none-fits
 
 -- a message that was read fits its fields
 pub messageAt-fits : (b : List ℕ) → Bytes b → Framed b → MessageFits (messageAt b)
@@ -74,8 +82,8 @@ messageAt-fits b h f =
       owner = omega (arith, n 1 3);
       number = n 2 4;
       ballot = n 4 6;
-      body = body-fits (kindAt b) b h (f .known) (f .small);
-      deps = beside-fits (kindAt b) b h (f .known) (f .small);
+      body = body-fits (kindAt b) b h (f .known);
+      deps = beside-fits (partsOf (kindAt b)) b h;
     }
 
 -- all messages of a set are of one length
@@ -90,19 +98,8 @@ all-long (suc k) q to m = go (member q to) refl (all-long k (q + 1) to m)
         rw e (length-append (messageBytes (addressed m q)) (allBytes (messagesFrom k (q + 1) to m)) ∙ rw (length-messageBytes (addressed m q), h) (sym (native.Mathlib.Nat.suc-mul _ _ ∙ native.Mathlib.Nat.add-comm _ _)))
     go false e h = rw e h
 
-kind-long : (k : ℕ) → (k ≡ 7 → ⊥) → lengthOf k ≤ 37
-unfolding lengthOf restWidths
-kind-long k h = go (isProposal k) (eqb k 2) (eqb k 8) refl refl refl
-  where
-    go : (a b c : Bool) → isProposal k ≡ a → eqb k 2 ≡ b → eqb k 8 ≡ c → lengthOf k ≤ 37
-    go true b c e f g = rw e (omega arith)
-    go false true c e f g = rw (e, f) (omega arith)
-    go false false true e f g = rw (e, f, ne-eqb k 7 h, g) (omega arith)
-    go false false false e f g = rw (e, f, ne-eqb k 7 h, g) (omega arith)
-
 -- what an event sends fits the room
 pub out-short : (n s c : ℕ) → setupOk n s c ≡ true → (x : Step) → Sent n s c x → length (outBytes x) ≤ 222
-unfolding lengthOf restWidths
 out-short n s c p x h =
-    let r = room n s c p lengthOf kind-long (omega arith) x h in
+    let r = room n s c p lengthOf untold-short long-enough x h in
     rw (all-long 7 0 (x .to) (x .message)) r

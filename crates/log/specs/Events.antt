@@ -20,7 +20,9 @@ use Rattle.rules.specs.Received.{refused10}
 use Rattle.rules.specs.Recover.{outOfBallots}
 use Rattle.rules.specs.Nudge.{nothingToNudge}
 use Rattle.rules.specs.Events.{requestNumber, onRequest, onMessage, onRecover, onNudge}
-use Rattle.wire.specs.Wire.{messageAt, validBytes}
+use Rattle.wire.specs.declared.Reading.{Reading}
+use Rattle.wire.specs.declared.Reading.the-variants as reading
+use Rattle.wire.specs.Calls as wire
 use Rattle.table.specs.Table.{fits, soundTable, recordIn, putRecord}
 use Rattle.seen.specs.Records.{recordsIn}
 use Rattle.log.specs.declared.Answer.{Answer}
@@ -80,12 +82,20 @@ requestOpen n s c t out op key edit = cond (not (opTaken op)) (refuse why.Op t o
 abbrev pub requested : ℕ → ℕ → ℕ → List ℕ → List ℕ → ℕ → ℕ → ℕ → Outcome
 requested n s c t out op key edit = gated n s c t out (requestOpen n s c t out op key edit)
 
--- a received message: 3, then 10
+-- what the reader refuses is refused
+abbrev pub unlessRefused : Reading → List ℕ → List ℕ → Outcome → Outcome
+unlessRefused reading.Valid t out rest = rest
+unlessRefused (reading.Refused r) t out rest = refuse r t out
+
+-- a message that the reader takes: 10
+unfoldable pub heard : ℕ → ℕ → ℕ → List ℕ → List ℕ → Message → Outcome
+heard n s c t out m =
+    cond (refused10 (recordIn s t (m .owner) (m .number)) m) (refuse why.Differs t out)
+    (acted s t out (m .owner) (m .number) (onMessage n s c (recordsIn s t) m))
+
+-- a received message: what the reader says of it, then 10
 unfoldable pub receiveOpen : ℕ → ℕ → ℕ → List ℕ → List ℕ → List ℕ → Outcome
-receiveOpen n s c t out b =
-    cond (not (validBytes n s c b)) (refuse why.Message t out)
-    (cond (refused10 (recordIn s t (messageAt b .owner) (messageAt b .number)) (messageAt b)) (refuse why.Differs t out)
-    (acted s t out (messageAt b .owner) (messageAt b .number) (onMessage n s c (recordsIn s t) (messageAt b))))
+receiveOpen n s c t out b = unlessRefused (wire.received n s c b .answer) t out (heard n s c t out (wire.received n s c b .message))
 
 abbrev pub received : ℕ → ℕ → ℕ → List ℕ → List ℕ → List ℕ → Outcome
 received n s c t out b = gated n s c t out (receiveOpen n s c t out b)

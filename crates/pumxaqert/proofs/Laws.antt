@@ -5,7 +5,7 @@ use mathlib.Core.List.{List, [], _∷_}
 use Prim.Native.Nat.{ℕ}
 use lib.ListN.{replicate}
 use borrow.Author.Tests.{eq-eqb, ne-eqb}
-use Rattle.paper.specs.Message.{kindOf, votedIn, joinedIn, noMessage}
+use Rattle.paper.specs.Message.{partsIn, votedIn, joinedIn, noMessage}
 use Rattle.paper.specs.Refusal.{numberOf}
 use Rattle.paper.specs.declared.Body.{Body}
 use Rattle.paper.specs.declared.Message.{Message}
@@ -21,13 +21,13 @@ use Rattle.paper.specs.declared.Command.{Command}
 use Rattle.pumxaqert.specs.Flat.{settlingValues}
 use Rattle.pumxaqert.specs.Fields.{otherBallot, fieldsOf, readValues, messageFrom, sameFields, messageOf}
 
-pub other-8 : (b : Body) → kindOf b ≡ 8 → joinedIn b ≡ otherBallot b
+pub other-joined : (b : Body) → partsIn b .joined ≡ true → joinedIn b ≡ otherBallot b
 unfolding otherBallot
-other-8 b e = rw (eq-eqb (kindOf b) 8 e)
+other-joined b e = rw e
 
-pub other-not : (b : Body) → (kindOf b ≡ 8 → ⊥) → votedIn b ≡ otherBallot b
+pub other-voted : (b : Body) → partsIn b .joined ≡ false → votedIn b ≡ otherBallot b
 unfolding otherBallot
-other-not b e = rw (ne-eqb (kindOf b) 8 e)
+other-voted b e = rw e
 
 module _ {x y : Received} (e : x ≡ y) where
   answers : x .answer ≡ y .answer

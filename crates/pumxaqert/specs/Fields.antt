@@ -8,17 +8,16 @@ use lib.ListN.{getD, replicate}
 use Rattle.codec.specs.Parts.{opOf}
 use Rattle.paper.specs.Logic.{allBelow}
 use Rattle.paper.specs.Command.{opNumber}
-use Rattle.paper.specs.Message.{kindOf, commandIn, votedIn, statusIn, joinedIn, noMessage}
+use Rattle.paper.specs.Message.{partsIn, kindOf, bodyOf, commandIn, votedIn, statusIn, joinedIn, noMessage}
 use Rattle.paper.specs.declared.Command.{Command}
 use Rattle.paper.specs.declared.Body.{Body}
-use Rattle.paper.specs.declared.Body.the-variants.{PreAccept, PreAcceptOk, Accept, AcceptOk, Commit, Prepare, PrepareOk, Nack}
 use Rattle.paper.specs.declared.Message.{Message}
 use Rattle.wire.specs.declared.Reading.{Reading}
 use Rattle.wire.specs.declared.Reading.the-variants as reading
 
--- voted, or joined in a Nack
+-- voted, or joined where the body carries that
 unfoldable pub otherBallot : Body → ℕ
-otherBallot b = cond (eqb (kindOf b) 8) (joinedIn b) (votedIn b)
+otherBallot b = cond (partsIn b .joined) (joinedIn b) (votedIn b)
 
 unfoldable pub fieldsOf : Message → List ℕ
 fieldsOf m =
@@ -35,12 +34,9 @@ readValues (reading.Refused r) m = replicate 18 0
 unfoldable pub commandFrom : List ℕ → Command
 commandFrom fs = record { op = opOf (getD fs 8 0 % 256); key = getD fs 9 0 % 4294967296; edit = getD fs 10 0 }
 
+-- the other ballot is the voted or the joined one, as the kind has it
 unfoldable pub bodyFrom : ℕ → ℕ → ℕ → Command → Body
-bodyFrom k v t c =
-    cond (eqb k 1) (PreAccept c)
-    (cond (eqb k 2) PreAcceptOk
-    (cond (eqb k 3) (Accept c)
-    (cond (eqb k 4) AcceptOk (cond (eqb k 5) (Commit c) (cond (eqb k 7) (PrepareOk v t c) (cond (eqb k 8) (Nack v) Prepare))))))
+bodyFrom k v t c = bodyOf k (record { voted = v; status = t; command = c; joined = v })
 
 unfoldable pub depsFrom : List ℕ → List ℕ
 depsFrom fs =

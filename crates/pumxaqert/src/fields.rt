@@ -1,13 +1,15 @@
 // A message as eighteen numbers, and back.
 use codec::op_of;
 use nouns::command::op_number;
-use nouns::logic::wide8;
+use nouns::message::body_of;
 use nouns::message::command_in;
 use nouns::message::joined_in;
 use nouns::message::kind_of;
+use nouns::message::row_in;
 use nouns::message::status_in;
 use nouns::message::voted_in;
 use paper::Body;
+use paper::Carried;
 use paper::Command;
 use paper::Message;
 ghost use mathlib.Core.Path.{_≡_};
@@ -56,11 +58,13 @@ fn low32(x: u64) -> u32
     (x % 4_294_967_296) as u32
 }
 
-// Voted, or joined in a Nack.
+// Voted, or joined where the body carries that.
 fn other_ballot(b: Body) -> u32
     ensures { λ r. ⌜ r ≡ otherBallot b ⌝ }
 {
-    if wide8(kind_of(b)) == 8 {
+    let row = row_in(b);
+    let parts = row.parts;
+    if parts.joined {
         return joined_in(b);
     }
     voted_in(b)
@@ -107,20 +111,13 @@ fn command_from(f: &[u64; 18]) -> Command
 fn body_from(k: u64, v: u32, t: u8, c: Command) -> Body
     ensures { λ r. ⌜ r ≡ bodyFrom k v t c ⌝ }
 {
-    match k {
-        1 => Body::PreAccept(c),
-        2 => Body::PreAcceptOk,
-        3 => Body::Accept(c),
-        4 => Body::AcceptOk,
-        5 => Body::Commit(c),
-        7 => Body::PrepareOk {
-            voted: v,
-            status: t,
-            command: c,
-        },
-        8 => Body::Nack(v),
-        _ => Body::Prepare,
-    }
+    let x = Carried {
+        voted: v,
+        status: t,
+        command: c,
+        joined: v,
+    };
+    body_of(k as usize, x)
 }
 
 fn deps_from(f: &[u64; 18]) -> [u16; 7]

@@ -7,7 +7,7 @@ use native.Mathlib.Omega.{arith}
 use lib.Dec.{eqb}
 use lib.ListN.{length}
 use Rattle.paper.specs.Setup.{setupOk}
-use Rattle.paper.specs.Message.{kindOf, commandIn, voteIn}
+use Rattle.paper.specs.Message.{commandIn, voteIn}
 use Rattle.paper.specs.Valid.{valid}
 use Rattle.paper.proofs.Laws.{and-true}
 use Rattle.paper.specs.declared.Command.{Command}
@@ -42,12 +42,13 @@ use Rattle.closed.proofs.Sound.{sound-is}
 use Rattle.closed.proofs.Shapes.{setup-is}
 use Rattle.log.specs.Out.{outBytes}
 use Rattle.log.specs.Events.{refuse, acted, Passed, receiveOpen}
+use Rattle.log.specs.Events as events
 use Rattle.log.proofs.Held.{sound-records, messageAt-fits, out-short}
-use Rattle.log.proofs.Calls.{setup-of, three}
+use Rattle.log.proofs.Calls.{setup-of, three, receive-open}
 use Rattle.receive.specs.Message as specs
 
 -- only a Commit can be refused 10
-pub conflict-is : (r : Record) (m : Message) (b : Body) → (eqb (kindOf b) 5 && differs r m (commandIn b)) ≡ conflict r m b
+pub conflict-is : (r : Record) (m : Message) (b : Body) → (specs.isCommit b && differs r m (commandIn b)) ≡ conflict r m b
 unfolding conflict
 conflict-is r m (PreAccept k) = refl
 conflict-is r m PreAcceptOk = refl
@@ -120,16 +121,16 @@ module _ (n s c : ℕ) (t : List ℕ) (room : ℕ) (m : Message) (h : specs.Hear
 -- outcomes
 module _ (n s c : ℕ) (t out : List ℕ) where
   pub heard-10 : (m : Message) {o j : ℕ} {r : Record} → o ≡ m .owner → j ≡ m .number → r ≡ recordIn s t o j
-      → refused10 r m ≡ true → refuse why.Differs t out ≡ specs.heard n s c t out m
-  unfolding specs.heard
+      → refused10 r m ≡ true → refuse why.Differs t out ≡ events.heard n s c t out m
+  unfolding events.heard
   heard-10 m {r = r} eo ej er e =
       let q : r ≡ recordIn s t (m .owner) (m .number) = rw (er, eo, ej) in
       let f : refused10 (recordIn s t (m .owner) (m .number)) m ≡ true = ap (λ (x : Record). refused10 x m) (sym q) ∙ e in
       rw f
 
   pub heard-ok : (m : Message) {o j : ℕ} {r : Record} → o ≡ m .owner → j ≡ m .number → r ≡ recordIn s t o j
-      → refused10 r m ≡ false → acted s t out o j (onMessage n s c (recordsIn s t) m) ≡ specs.heard n s c t out m
-  unfolding specs.heard
+      → refused10 r m ≡ false → acted s t out o j (onMessage n s c (recordsIn s t) m) ≡ events.heard n s c t out m
+  unfolding events.heard
   heard-ok m {r = r} eo ej er e =
       let q : r ≡ recordIn s t (m .owner) (m .number) = rw (er, eo, ej) in
       let f : refused10 (recordIn s t (m .owner) (m .number)) m ≡ false = ap (λ (x : Record). refused10 x m) (sym q) ∙ e in
@@ -143,18 +144,9 @@ module _ (n s c : ℕ) (t out : List ℕ) where
 
   -- a reading that was refused, and one that was not
   module _ (b : List ℕ) {x : Received} (e : x ≡ calls.received n s c b) (setup : setupOk n s c ≡ true) where
-    pub unread : (r : Refusal) → x .answer ≡ reading.Refused r → refuse why.Message t out ≡ receiveOpen n s c t out b
-    unfolding calls.received receiveOpen
-    unread r f = go (validBytes n s c b) refl
-      where
-        go : (v : Bool) → validBytes n s c b ≡ v → refuse why.Message t out ≡ receiveOpen n s c t out b
-        go false p = rw p
-        go true p =
-            let q : x .answer ≡ reading.Valid = ap (λ (z : Received). z .answer) e ∙ rw (setup, p) in
-            absurd (apart r (sym q ∙ f))
-          where
-            apart : (r : Refusal) → reading.Valid ≡ reading.Refused r → ⊥
-            apart r g = let z : _≡_ {A = ℕ} 0 1 = cc in omega arith
+    pub unread : (r : Refusal) → x .answer ≡ reading.Refused r → refuse r t out ≡ receiveOpen n s c t out b
+    unfolding receiveOpen
+    unread r f = let g : calls.received n s c b .answer ≡ reading.Refused r = ap (λ (z : Received). z .answer) (sym e) ∙ f in rw g
 
     pub read : x .answer ≡ reading.Valid → (validBytes n s c b ≡ true) × (x .message ≡ messageAt b)
     unfolding calls.received
@@ -168,9 +160,10 @@ module _ (n s c : ℕ) (t out : List ℕ) where
             let z : _≡_ {A = ℕ} 0 1 = cc in
             absurd (omega arith)
 
-  pub receive-ok : (b : List ℕ) {m : Message} → m ≡ messageAt b → validBytes n s c b ≡ true → specs.heard n s c t out m ≡ receiveOpen n s c t out b
-  unfolding receiveOpen specs.heard
-  receive-ok b em p = rw (em, p)
+  pub receive-ok : (b : List ℕ) → setupOk n s c ≡ true → {m : Message} → m ≡ messageAt b → validBytes n s c b ≡ true
+      → events.heard n s c t out m ≡ receiveOpen n s c t out b
+  unfolding events.heard
+  receive-ok b setup em p = rw (receive-open n s c t out b setup, em, p)
 
   pub hearing : (b : List ℕ) → Bytes b → Passed n s c t (length out) → {m : Message} → m ≡ messageAt b → validBytes n s c b ≡ true
       → specs.Hearing n s c t (length out) m

@@ -12,18 +12,14 @@ use lead::nack::on_nack;
 use lead::pre_accept_ok::on_pre_accept_ok;
 use log::act::byte;
 use nouns::logic::both;
-use nouns::logic::equal;
 use nouns::logic::wide8;
 use nouns::logic::wide16;
 use nouns::message::command_in;
-use nouns::message::kind_of;
-use nouns::message::status_in;
-use nouns::message::voted_in;
+use nouns::message::vote_in;
 use paper::Body;
 use paper::Command;
 use paper::Message;
 use paper::Record;
-use paper::Vote;
 use rules::Step;
 use seen::seen_of;
 use step::made::collected;
@@ -31,22 +27,39 @@ use step::made::is_awaited;
 use step::made::silently;
 ghost use mathlib.Core.Path.{_≡_};
 ghost use Prim.Native.Nat.{_<_};
-ghost use Rattle.paper.specs.Message.{voteIn};
 ghost use Rattle.rules.specs.PreAccept.{preAccept};
 ghost use Rattle.rules.specs.PrepareOk.{onPrepareOk, preparedBy};
 ghost use Rattle.rules.specs.Received.{received, refused10};
 ghost use Rattle.rules.specs.Seen.{seen};
 ghost use Rattle.seen.specs.Records.{recordsIn};
 ghost use Rattle.table.specs.Sizes.{Sizes};
-ghost use Rattle.receive.specs.Message.{Ready};
+ghost use Rattle.receive.specs.Message.{isCommit, Ready};
+
+fn is_commit(b: Body) -> bool
+    ensures { λ r. ⌜ r ≡ isCommit b ⌝ }
+{
+    match b {
+        Body::PreAccept(_) => false,
+        Body::PreAcceptOk => false,
+        Body::Accept(_) => false,
+        Body::AcceptOk => false,
+        Body::Commit(_) => true,
+        Body::Prepare => false,
+        Body::PrepareOk {
+            voted: _,
+            status: _,
+            command: _,
+        } => false,
+        Body::Nack(_) => false,
+    }
+}
 
 // A Commit that differs from the stored one: refusal 10.
 pub fn is_refused10(r: Record, m: Message) -> bool
     ensures { λ x. ⌜ x ≡ refused10 r m ⌝ }
 {
     let body = m.body;
-    let is_commit = equal(wide8(kind_of(body)), 5);
-    both(is_commit, commit_differs(r, m, command_in(body)))
+    both(is_commit(body), commit_differs(r, m, command_in(body)))
 }
 
 // Seen of a command for the message's instance.
@@ -63,23 +76,6 @@ fn on_proposal(t: &[u8], n: usize, s: usize, c: usize, r: Record, m: Message, k:
 {
     let seen = seen_for(t, n, s, c, m, k);
     on_pre_accept(byte(c), m.owner, m.number, r, m, k, seen)
-}
-
-// What a PrepareOK tells.
-fn told(m: Message) -> Vote
-    ensures { λ x. ⌜ x ≡ voteIn m ⌝ }
-{
-    let body = m.body;
-    let voted = voted_in(body);
-    let status = status_in(body);
-    let command = command_in(body);
-    let deps = m.deps;
-    Vote {
-        voted,
-        status,
-        command,
-        deps,
-    }
 }
 
 // With the reply collected: at F+1 replies, own included, the lead decides.
@@ -101,7 +97,7 @@ fn on_prepare_ok(t: &[u8], n: usize, s: usize, c: usize, r: Record, m: Message) 
     if !is_awaited(1, r, m) {
         return silently(r);
     }
-    prepared_by(t, n, s, c, collected(r, m.from, told(m)), m)
+    prepared_by(t, n, s, c, collected(r, m.from, vote_in(m)), m)
 }
 
 pub fn received_as(t: &[u8], n: usize, s: usize, c: usize, r: Record, m: Message) -> Step

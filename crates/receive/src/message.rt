@@ -14,8 +14,8 @@ use wire::Reading;
 use wire::read_message;
 ghost use mathlib.Core.Path.{_≡_};
 ghost use lib.ListN.{length};
-ghost use Rattle.log.specs.Events.{Passed, receiveOpen, received};
-ghost use Rattle.receive.specs.Message.{Hearing, heard};
+ghost use Rattle.log.specs.Events.{Passed, heard, receiveOpen, received};
+ghost use Rattle.receive.specs.Message.{Hearing};
 
 // A valid message.
 fn hear(t: &mut [u8], out: &mut [u8], n: usize, s: usize, c: usize, m: Message) -> Answer
@@ -43,8 +43,8 @@ fn message_open(t: &mut [u8], out: &mut [u8], n: usize, s: usize, c: usize, b: &
 {
     let x = read_message(n, s, c, b);
     let reading = x.answer;
-    if let Reading::Refused(_) = reading {
-        return Answer::Refused(Refusal::Message);
+    if let Reading::Refused(why) = reading {
+        return Answer::Refused(why);
     }
     let m = x.message;
     hear(t, out, n, s, c, m)

@@ -1,18 +1,20 @@
 -- A valid message, by its kind: a move of the model. Assumes nothing.
 use Prim.Native.Nat.{ℕ, suc, _*_, _<_}
 use mathlib.Core.Path.{_≡_, refl, sym, subst, _∙_}
-use mathlib.Core.Bool.{true, _&&_}
+use mathlib.Core.Bool.{true}
 use mathlib.Core.List.{List}
 use lib.ListN.{length}
 use Rattle.paper.specs.Instance.{instanceOk}
 use Rattle.paper.specs.Ballot.{lead}
-use Rattle.paper.specs.Valid.{valid, headOk, wayOk, bodyOk, fromRange, toRange, ownerRange, numberRange, ballotRange, prepareBallot, toHere, fromAnother, fromLead, toLead, commandRange, depsRange, joinedRange, depsCarried, freshOp, told, joinedAbove}
+use Rattle.paper.specs.Message.{rowOf, rowIn, joinedIn}
+use Rattle.paper.specs.Valid.{valid, fromLead, joinedAbove}
+use Rattle.paper.proofs.Valid.{clauses-of}
 use Rattle.paper.specs.declared.Command.{Command}
 use Rattle.paper.specs.declared.Message.{Message}
 use Rattle.paper.specs.declared.Body.{Body}
 use Rattle.paper.specs.declared.Body.the-variants.{PreAccept, PreAcceptOk, Accept, AcceptOk, Commit, Prepare, PrepareOk, Nack}
 use Rattle.rules.specs.Received.{byKind}
-use Rattle.reach.proofs.Tests.{and-l, and-r, and-in, not-not, eqb-eq, eqb-ne, ltb-lt}
+use Rattle.reach.proofs.Tests.{and-in, not-not, eqb-eq, eqb-ne, ltb-lt}
 use Rattle.safety.proofs.Deps.{Under}
 use Rattle.safety.proofs.Rel.{val, Means, Spot, Ref}
 use Rattle.safety.proofs.Rel.Votes.{on-prepare, on-preaccept, on-accept, on-commit, on-nack}
@@ -24,23 +26,19 @@ pub record Fit (n s c : ℕ) (m : Message) : Type 0 where
   pub from : m .from < n
   pub inst : instanceOk n s (m .owner) (m .number) ≡ true
   pub other : c ≡ m .from → ⊥
-  pub lead : fromLead m ≡ true
-  pub above : joinedAbove m ≡ true
+  pub lead : fromLead (rowIn (m .body)) m ≡ true
+  pub above : joinedAbove (rowIn (m .body)) m (joinedIn (m .body)) ≡ true
 
 pub fits : (n s c : ℕ) (m : Message) → valid n s c m ≡ true → Fit n s c m
-unfolding valid headOk wayOk bodyOk instanceOk
+unfolding instanceOk
 fits n s c m v =
-    let h : headOk n s m ≡ true = and-l _ (wayOk c m) (and-l _ (bodyOk n s m) v) in
-    let w : wayOk c m ≡ true = and-r (headOk n s m) _ (and-l _ (bodyOk n s m) v) in
-    let b : bodyOk n s m ≡ true = and-r (headOk n s m && wayOk c m) _ v in
-    let h2 = and-l _ (ballotRange n m) (and-l _ (prepareBallot m) h) in
-    let w2 = and-l _ (fromLead m) (and-l _ (toLead m) w) in
+    let k = clauses-of n s c m v in
     record {
-      from = ltb-lt _ _ (and-l _ (toRange n m) (and-l _ (ownerRange n m) (and-l _ (numberRange s m) h2)));
-      inst = and-in _ _ (and-r (fromRange n m && toRange n m) _ (and-l _ (numberRange s m) h2)) (and-r (fromRange n m && toRange n m && ownerRange n m) _ h2);
-      other = λ e. eqb-ne (m .from) c (not-not _ (and-r (toHere c m) _ w2)) (sym e);
-      lead = and-r (toHere c m && fromAnother c m) _ (and-l _ (toLead m) w);
-      above = and-r (commandRange m && depsRange n s m && joinedRange n m && depsCarried m && freshOp m && told n s m) _ b;
+      from = ltb-lt _ _ (k .from);
+      inst = and-in _ _ (k .owner) (k .number);
+      other = λ e. eqb-ne (m .from) c (not-not _ (k .another)) (sym e);
+      lead = k .lead;
+      above = k .above;
     }
 
 module _ (p : Spot) where
@@ -56,7 +54,7 @@ module _ (p : Spot) where
       not-lead e n z = n (sym (e ∙ z))
 
       on-body : (x : Body) → Fit (suc (2 * F)) s c (msg x) → Means S (msg x) x → Ref p (byKind (suc (2 * F)) c o j seen r (msg x) x)
-      unfolding byKind
+      unfolding byKind rowOf
       on-body (PreAccept k) f (l, t) = on-preaccept p (msg (PreAccept k)) k (not-lead (eqb-eq _ _ (f .lead)) (f .other)) l t (seen k) (cov k)
       on-body PreAcceptOk f (l, (k, t)) = on-preacceptok p (msg PreAcceptOk) (f .from) (f .other) l k t
       on-body (Accept k) f (l, t) = on-accept p (msg (Accept k)) k (not-lead (eqb-eq _ _ (f .lead)) (f .other)) l t

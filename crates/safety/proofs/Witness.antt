@@ -13,8 +13,8 @@ use Rattle.paper.specs.Command.{noop, isNoop, sameCommand, commandOk, interfere
 use Rattle.paper.specs.Deps.{depsOk, sameDeps, covers, joinFrom}
 use Rattle.paper.specs.Ballot.{ballotOk, lead}
 use Rattle.paper.specs.Vote.{blank, member, sameVote, noneIsBlank, voteOk, toldOk}
-use Rattle.paper.specs.Message.{noMessage}
-use Rattle.paper.specs.Valid.{valid, headOk, wayOk, bodyOk}
+use Rattle.paper.specs.Message.{noMessage, rowOf}
+use Rattle.paper.specs.Valid.{valid, firstFailing, firstOf, holdsOf}
 use Rattle.paper.specs.declared.Op.the-variants.{Write}
 use Rattle.paper.specs.declared.Command.{Command}
 use Rattle.paper.specs.declared.Message.{Message}
@@ -192,7 +192,7 @@ pub record Shown : Type 0 where
 
 pub shown : Shown
 unfolding fast slow out lost saved-edit told write deps put requestNumber lowestBlank isBlank sameVote sameCommand sameDeps allBelow onRequest
-    Rattle.rules.specs.Request.request afresh others absent bitsBelow messagesFrom member valid headOk wayOk bodyOk ballotOk lead commandOk
+    Rattle.rules.specs.Request.request afresh others absent bitsBelow messagesFrom member valid firstFailing firstOf holdsOf rowOf ballotOk lead commandOk
     depsOk voteOk toldOk noneIsBlank instanceOk conflict differs onMessage byKind preAccept seenFrom seenEntry highest met interfere joinFrom
     onPreAcceptOk awaited collect preAcceptedBy fastEnough slowEnough someEnough matching different committing acceptingJoin accepting joinAll
     accept onAcceptOk acceptedBy commit prepare onPrepareOk preparedBy quorum decide acceptedFrom afreshCommand topVoted maybeFast lowestFrom

@@ -4,11 +4,9 @@ use crate::value::put_deps;
 use crate::value::put_proposal;
 use forms::put_form;
 use nouns::logic::wide8;
-use nouns::message::command_in;
-use nouns::message::joined_in;
 use nouns::message::kind_of;
-use nouns::message::status_in;
-use nouns::message::voted_in;
+use nouns::message::vote_in;
+use paper::Body;
 use paper::Command;
 use paper::Message;
 use paper::Vote;
@@ -27,18 +25,6 @@ fn put_name(out: &mut [u8], at: usize, kind: usize) -> usize {
         b"|PreAccept|PreAcceptOK|Accept|AcceptOK|Commit|Prepare|PrepareOK|Nack",
         kind,
     )
-}
-
-fn vote_in(m: Message) -> Vote {
-    let body = m.body;
-    let deps = m.deps;
-    let command = command_in(body);
-    Vote {
-        voted: voted_in(body),
-        status: status_in(body),
-        command,
-        deps,
-    }
 }
 
 fn put_told(out: &mut [u8], at: usize, n: usize, vote: Vote) -> usize {
@@ -62,16 +48,23 @@ fn put_joined(out: &mut [u8], at: usize, joined: u32) -> usize {
     put_form(out, at, b": joined #", v)
 }
 
-// What only some kinds carry.
-fn put_body(out: &mut [u8], at: usize, n: usize, kind: usize, m: Message) -> usize {
+// What the body carries.
+fn put_body(out: &mut [u8], at: usize, n: usize, m: Message) -> usize {
     let body = m.body;
     let deps = m.deps;
-    match kind {
-        1 | 3 | 5 => put_carried(out, at, n, command_in(body), deps),
-        2 => put_answered(out, at, n, deps),
-        7 => put_told(out, at, n, vote_in(m)),
-        8 => put_joined(out, at, joined_in(body)),
-        _ => at,
+    match body {
+        Body::PreAccept(k) => put_carried(out, at, n, k, deps),
+        Body::PreAcceptOk => put_answered(out, at, n, deps),
+        Body::Accept(k) => put_carried(out, at, n, k, deps),
+        Body::AcceptOk => at,
+        Body::Commit(k) => put_carried(out, at, n, k, deps),
+        Body::Prepare => at,
+        Body::PrepareOk {
+            voted: _,
+            status: _,
+            command: _,
+        } => put_told(out, at, n, vote_in(m)),
+        Body::Nack(joined) => put_joined(out, at, joined),
     }
 }
 
@@ -82,7 +75,7 @@ fn put_fields(out: &mut [u8], at: usize, n: usize, m: Message) -> usize {
     let owner = wide(wide8(m.owner));
     let v = [owner, from16(m.number), from32(m.ballot), 0];
     let front = put_form(&mut *out, name, b" #.# ballot #", v);
-    put_body(&mut *out, front, n, kind, m)
+    put_body(&mut *out, front, n, m)
 }
 
 // The message in these bytes, as copy c reads it.

@@ -4,14 +4,8 @@ use Rattle.receive.proofs.by_kind.is_refused10.Tie as tie
 use mathlib.Core.Path.{_∙_}
 use Rattle.receive.proofs.Laws.{conflict-is}
 
-kind-of-requires : tie.Need-kind-of-requires
-kind-of-requires c κs = search needs
-
-wide8-requires : tie.Need-wide8-requires
-wide8-requires c κs = search needs
-
-equal-requires : tie.Need-equal-requires
-equal-requires c κs = search needs
+is-commit-requires : tie.Need-is-commit-requires
+is-commit-requires c κs = search needs
 
 command-in-requires : tie.Need-command-in-requires
 command-in-requires c κs = search needs
@@ -29,9 +23,7 @@ pub is-refused10-spec : {M : Type 1} → statement M
 is-refused10-spec =
     tie.close
     (tie.spec
-    kind-of-requires
-    wide8-requires
-    equal-requires
+    is-commit-requires
     command-in-requires
     commit-differs-requires
     both-requires

@@ -14,8 +14,8 @@ silently-requires c κs = search needs
 returns : tie.Need-returns
 returns c = c .silently .ensures ∙ unawaited _ _ _ _ _ _ _ (sym (c .before .before .is-awaited .ensures) ∙ not-true _ (c .before .if1 .taken))
 
-told-requires : tie.Need-told-requires
-told-requires c κs = search needs
+vote-in-requires : tie.Need-vote-in-requires
+vote-in-requires c κs = search needs
 
 collected-requires : tie.Need-collected-requires
 collected-requires c κs = search needs
@@ -24,7 +24,7 @@ prepared-by-requires : tie.Need-prepared-by-requires
 prepared-by-requires c κs = search needs
 
 returns-2 : tie.Need-returns-2
-returns-2 c = c .prepared-by .ensures ∙ awaits _ _ _ _ _ _ _ (c .before .before .told .ensures) (c .before .collected .ensures) (sym (c .before .before .before .before .is-awaited .ensures) ∙ not-false _ (c .before .before .before .if1 .left))
+returns-2 c = c .prepared-by .ensures ∙ awaits _ _ _ _ _ _ _ (c .before .before .vote-in .ensures) (c .before .collected .ensures) (sym (c .before .before .before .before .is-awaited .ensures) ∙ not-false _ (c .before .before .before .if1 .left))
 
 pub on-prepare-ok-spec : {M : Type 1} → statement M
 on-prepare-ok-spec =
@@ -33,7 +33,7 @@ on-prepare-ok-spec =
     is-awaited-requires
     silently-requires
     returns
-    told-requires
+    vote-in-requires
     collected-requires
     prepared-by-requires
     returns-2)

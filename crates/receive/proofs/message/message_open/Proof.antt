@@ -2,7 +2,6 @@ use borrow.Author.Needs.{needs}
 use Rattle.receive.proofs.message.message_open.Statement.{statement}
 use Rattle.receive.proofs.message.message_open.Tie as tie
 use native.Mathlib.Omega.{arith}
-use Rattle.paper.specs.declared.Refusal.the-variants as why
 use Rattle.record.specs.Part.{Bytes}
 use Rattle.log.proofs.Calls.{met, refused, setup-of}
 use Rattle.receive.proofs.Laws.{unread, read, receive-ok, hearing}
@@ -10,25 +9,25 @@ use Rattle.receive.proofs.Laws.{unread, read, receive-ok, hearing}
 read-message-requires : tie.Need-read-message-requires
 read-message-requires c κs = search needs
 
-enum-told : tie.Need-enum-told
-enum-told c = search needs
+enum-known-reading : tie.Need-enum-known-reading
+enum-known-reading c = search needs
 
 returns : tie.Need-returns
 returns c = let z = c .before .before .before .before .before .before in
     let a = z .args in
     let e = c .before .before .read-message .ensures in
     let setup = setup-of _ _ _ _ (z .pre .setup) in
-    met (unread _ _ _ (a .t .now) (a .out .now) (a .b .now) e setup _ (c .enum-told .given .1)) (refused why.Message _ _)
+    met (unread _ _ _ (a .t .now) (a .out .now) (a .b .now) e setup _ (c .before .reading .given .1)) (refused _ _ _)
 
-enum-told-2 : tie.Need-enum-told-2
-enum-told-2 c = search needs
+enum-told : tie.Need-enum-told
+enum-told c = search needs
 
 hear-requires : tie.Need-hear-requires
 hear-requires c κs = let z = c .before .before .before .before .before .before .before .before .before in
     let a = z .args in
     let e = c .before .before .before .before .before .read-message .ensures in
     let setup = setup-of _ _ _ _ (z .pre .setup) in
-    let rd = read _ _ _ (a .t .now) (a .out .now) (a .b .now) e setup (c .before .before .before .enum-told2 .given .1) in
+    let rd = read _ _ _ (a .t .now) (a .out .now) (a .b .now) e setup (c .before .before .before .enum-told .given .1) in
     let bt : Bytes (a .b .now) = λ i. omega (arith, c .before .before .before .before .before .before .shared-slice-known .given i) in
     hearing _ _ _ _ (a .out .now) (a .b .now) bt (z .pre) (rd .1) (rd .0)
 
@@ -43,17 +42,17 @@ returns-2 c = let z = c .before .before .before .before .before .before .before 
     let a = z .args in
     let e = c .before .before .before .before .before .before .before .before .before .before .read-message .ensures in
     let setup = setup-of _ _ _ _ (z .pre .setup) in
-    let rd = read _ _ _ (a .t .now) (a .out .now) (a .b .now) e setup (c .before .before .before .before .before .before .before .before .enum-told2 .given .1) in
-    met (receive-ok _ _ _ (a .t .now) (a .out .now) (a .b .now) (rd .1) (rd .0)) (c .before .before .before .before .hear .ensures)
+    let rd = read _ _ _ (a .t .now) (a .out .now) (a .b .now) e setup (c .before .before .before .before .before .before .before .before .enum-told .given .1) in
+    met (receive-ok _ _ _ (a .t .now) (a .out .now) (a .b .now) setup (rd .1) (rd .0)) (c .before .before .before .before .hear .ensures)
 
 pub message-open-spec : {M : Type 1} → statement M
 message-open-spec =
     tie.close
     (tie.spec
     read-message-requires
-    enum-told
+    enum-known-reading
     returns
-    enum-told-2
+    enum-told
     hear-requires
     same-length
     same-length-2
