@@ -25,7 +25,11 @@ fn put_settled(k: Command) -> Text {
 fn put_settling(answer: Settling) -> Text {
     match answer {
         Settling::Settled(k) => put_settled(k),
-        Settling::Waits { owner, number } => put_form(empty(), b"= waits # #", [owner, number, 0, 0]),
+        Settling::Waits { owner, number } => put_form(
+            empty(),
+            b"= waits # #",
+            [owner, number, 0, 0],
+        ),
         Settling::Refused(why) => put_no(why),
     }
 }

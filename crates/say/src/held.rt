@@ -1,7 +1,7 @@
 // A record: who holds what, with which status and ballots.
 use crate::value::put_proposal;
-use nouns::logic::wide32;
 use nouns::logic::wide8;
+use nouns::logic::wide32;
 use nouns::vote::is_member;
 use paper::Record;
 use paper::Vote;

@@ -2,9 +2,9 @@
 use crate::held::put_vote;
 use crate::value::put_deps;
 use crate::value::put_proposal;
+use nouns::logic::wide8;
 use nouns::logic::wide16;
 use nouns::logic::wide32;
-use nouns::logic::wide8;
 use nouns::message::kind_of;
 use paper::Body;
 use paper::Command;

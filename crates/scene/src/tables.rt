@@ -65,7 +65,11 @@ pub fn is_changed(all: &[u8], w: Scene, c: usize, o: usize, j: usize) -> bool {
 // The record of o.j in a copy's working table, as it goes to the disk.
 fn on_disk(all: &[u8], w: Scene, c: usize, o: usize, j: usize) -> [u8; LENGTH] {
     let mut disk = [0u8; LENGTH];
-    write(&mut disk, 0, record_part(table_in(all, w, c), w.n, w.s, c, o, j));
+    write(
+        &mut disk,
+        0,
+        record_part(table_in(all, w, c), w.n, w.s, c, o, j),
+    );
     disk
 }
 
