@@ -7,7 +7,7 @@ use native.Mathlib.Omega.{arith}
 use native.Mathlib.Decide.{decLt}
 use lib.Dec.{ltb, eqb}
 use lib.ListN.{length, getD, set, List·getD-eq-default}
-use borrow.Author.Tests.{leb-true, eqb-true, le-leb, ne-eqb}
+use borrow.Author.Tests.{leb-true, le-leb, ne-eqb}
 use Rattle.paper.specs.Logic.{allBelow}
 use Rattle.paper.specs.Command.{noop, opNumber, sameCommand, commandOk}
 use Rattle.paper.specs.Deps.{depsOk, sameDeps}
@@ -21,7 +21,7 @@ use Rattle.paper.proofs.Laws.{allBelow-at, sameCommand-eq}
 use Rattle.rules.specs.Step.{noReplies}
 use Rattle.paper.proofs.Deps.{none-fits}
 use Rattle.paper.specs.Fits.{CommandFits, VoteFits, VotesFit}
-use Rattle.closed.proofs.Laws.{eqb-self, three, four, both, imp-in, all-in}
+use Rattle.closed.proofs.Laws.{eqb-self, three, four, both, all-in}
 use Rattle.closed.proofs.Deps.{no-deps, same-ok}
 
 pub ballot-0 : (n : ℕ) → ballotOk n 0 ≡ true

@@ -1,5 +1,5 @@
 -- What a hand-out listed and is not saved yet: its marks, one after the other, are those of the saved table. Assumes nothing.
-use Prim.Native.Nat.{ℕ, zero, suc, _/_, _%_, _≤_, _<_}
+use Prim.Native.Nat.{ℕ, zero, suc, _≤_, _<_}
 use mathlib.Core.Path.{_≡_, refl, sym, ap, _∙_}
 use mathlib.Core.Bool.{Bool, true, false, _&&_, not, cond}
 use mathlib.Core.List.{List, [], _∷_}
@@ -14,7 +14,8 @@ use Rattle.rules.specs.declared.First.{First}
 use Rattle.rules.specs.declared.First.the-variants.{At, Nowhere}
 use Rattle.rules.specs.Seen.{Records}
 use Rattle.rules.specs.Events.{put}
-use Rattle.rules.specs.Order.{isSettled, isMarked, candidate, marked, mark, nextOut, codeOf, found, handOut}
+use Rattle.rules.specs.Order.{isSettled, isMarked, candidate, marked, mark, nextOut, codeOf, found, handOut, instanceOf}
+use Rattle.rules.proofs.Codes.{code-owner, code-number}
 use Rattle.table.specs.Table.{recordIn, putRecord, Kept}
 use Rattle.table.specs.Calls.{judged}
 use Rattle.table.specs.declared.Judging.the-variants as judging
@@ -195,21 +196,14 @@ module _ (n s c : ℕ) (t list : List ℕ) (k : Kept n s c t) where
   unfolding handed handedOpen
   listed-pending i e = record { room = length list; table = rw (sound-judged n s c t k); codes = listed-is i e }
 
--- a code tells its instance
-code-owner : (o j : ℕ) → j < 256 → codeOf o j / 256 ≡ o
-code-owner o j l = omega arith
-
-code-number : (o j : ℕ) → j < 256 → codeOf o j % 256 ≡ j
-code-number o j l = omega arith
-
 -- one mark is saved: it was listed first, it is what the saved table hands out next, and the rest is still pending
 pub record Marked (n s c : ℕ) (t u : List ℕ) (code : ℕ) (rest : List ℕ) : Type 0 where
   pub owner : ℕ
   pub number : ℕ
   pub found : Found n s (candidate n s (recordsIn s t)) (At owner number)
   pub next : nextOut n s (recordsIn s t) ≡ At owner number
-  pub is-owner : code / 256 ≡ owner
-  pub is-number : code % 256 ≡ number
+  pub is-owner : instanceOf code .0 ≡ owner
+  pub is-number : instanceOf code .1 ≡ number
   pub saved : stored s t (saveOf n s c u owner number) ≡ markIn s t owner number
   pub pending : Pending n s (markIn s t owner number) u rest
 
@@ -229,8 +223,8 @@ marked-next n s c t u code rest l k p e = by (p .room) (p .table) (sym e ∙ p .
           number = j;
           found = f;
           next = g;
-          is-owner = ap (λ (m : ℕ). m / 256) q ∙ code-owner o j small;
-          is-number = ap (λ (m : ℕ). m % 256) q ∙ code-number o j small;
+          is-owner = ap (λ (m : ℕ). instanceOf m .0) q ∙ code-owner o j small;
+          is-number = ap (λ (m : ℕ). instanceOf m .1) q ∙ code-number o j small;
           saved = rw x (save-mark n s c t k o j f room g);
           pending = record { room = room; table = x ∙ next-table n s c t k o j f room g; codes = ap (drop 1) z };
         }

@@ -1,6 +1,6 @@
 -- A run of N copies over bytes: what the public calls answer, what their hosts save and send, and every cut. Assumes nothing.
 -- In all of this n, s is the setup, c a copy and o.j an instance.
-use Prim.Native.Nat.{ℕ, zero, suc, _/_, _%_, _<_}
+use Prim.Native.Nat.{ℕ, zero, suc, _<_}
 use mathlib.Core.Path.{_≡_}
 use mathlib.Core.Bool.{false}
 use mathlib.Core.List.{List, [], _∷_, _++_, List·Memᴰ}
@@ -8,6 +8,7 @@ use lib.ListN.{take, drop}
 use Rattle.paper.specs.Command.{isNoop}
 use Rattle.paper.specs.Fits.{CommandFits}
 use Rattle.paper.specs.declared.Command.{Command}
+use Rattle.rules.specs.Order.{instanceOf}
 use Rattle.wire.specs.Wire.{lengthOf, kindAt}
 use Rattle.table.specs.Table.{blankTable}
 use Rattle.table.specs.Calls.{partOf, putPart}
@@ -127,10 +128,6 @@ acted n s c k y o j w =
 -- a hand-out answered i codes: none is saved yet
 abbrev pub handing : Copy → Handed → ℕ → Copy
 handing k y i = record { disk = k .disk; lent = y .table; leaving = k .leaving; listed = take i (y .list); marks = k .marks }
-
--- the instance of a code
-abbrev pub instanceOf : ℕ → Instance
-instanceOf code = (code / 256, code % 256)
 
 -- the mark that a code stands for is saved; the others are still to come
 abbrev pub marking : ℕ → ℕ → ℕ → Copy → ℕ → List ℕ → Copy

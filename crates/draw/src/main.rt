@@ -2,8 +2,12 @@
 // message an arrow from where it left to where it arrived. A lost message ends in a cross; commits are dots, hand-outs
 // squares, cuts red crosses, and a copy's line is dashed while it is down. A script of several runs gives one below the
 // other.
-mod event;
+mod copies;
 mod input;
+mod marks;
+mod messages;
+mod picture;
+mod see;
 
 fn main() {
     input::draw_input();

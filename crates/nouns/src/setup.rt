@@ -8,6 +8,9 @@ ghost use Prim.Native.Nat.{_≤_};
 ghost use Rattle.paper.specs.Setup.{setupOk, faults};
 ghost use Rattle.paper.specs.Instance.{instanceOk};
 
+// All instances of seven copies with 64 numbers each.
+pub const INSTANCES: usize = 7 * 64;
+
 pub fn setup_ok(n: usize, s: usize, c: usize) -> bool
     ensures { λ r. ⌜ r ≡ setupOk n s c ⌝ }
 {

@@ -1,5 +1,5 @@
 -- Little-endian numbers of any width, and a write over part of a list. Assumes nothing.
-use Prim.Native.Nat.{ℕ, zero, suc, _+_, _*_, _/_, _%_}
+use Prim.Native.Nat.{ℕ, zero, suc, _+_, _*_, _/_, _%_, _<_}
 use mathlib.Core.List.{List, [], _∷_, _++_}
 use lib.ListN.{getD, take, drop, length}
 
@@ -16,3 +16,7 @@ bytesOf (suc w) x = (x % 256) ∷ bytesOf w (x / 256)
 -- l with vs written over its elements from `at` on
 unfoldable pub splice : List ℕ → ℕ → List ℕ → List ℕ
 splice l at vs = take at l ++ vs ++ drop (at + length vs) l
+
+-- bytes
+abbrev pub Bytes : List ℕ → Type 0
+Bytes b = (i : ℕ) → getD b i 0 < 256

@@ -7,7 +7,7 @@ use lib.ListN.{length, getD, replicate, length-replicate}
 use Rattle.num.specs.Num.{splice}
 use Rattle.codec.specs.Parts.{depsAt}
 use Rattle.paper.specs.declared.Refusal.{Refusal}
-use Rattle.record.specs.Part.{Bytes}
+use Rattle.num.specs.Num.{Bytes}
 use Rattle.table.specs.Table.{Whole}
 use Rattle.table.specs.Calls.{judged}
 use Rattle.table.specs.declared.Judging.the-variants as judging

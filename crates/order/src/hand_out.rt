@@ -1,5 +1,6 @@
 // The hand-out, as a public call.
 use crate::Handing;
+use crate::codes::code_of;
 use crate::states::settle_all;
 use next::next_out;
 use rows::slot_of;
@@ -9,10 +10,9 @@ use table::Judging;
 use table::judge_table;
 use table::records::put_mark;
 ghost use mathlib.Core.Path.{_≡_};
-ghost use Prim.Native.Nat.{_+_, _≤_, _<_};
+ghost use Prim.Native.Nat.{_+_, _<_};
 ghost use lib.ListN.{length};
 ghost use Rattle.num.specs.Num.{splice};
-ghost use Rattle.rules.specs.Order.{codeOf};
 ghost use Rattle.order.specs.Passed.{Passed};
 ghost use Rattle.order.specs.States.{Marking, Listing};
 ghost use Rattle.order.specs.Calls.{markIn, handedTable, handedCodes, handedOpen, handed};
@@ -23,14 +23,6 @@ fn set_mark(t: &mut [u8], n: usize, s: usize, o: usize, j: usize)
     ensures { λ _. ⌜ now (t .exit) ≡ markIn s (now (t .entry)) o j ⌝ }
 {
     put_mark(t, n, s, o, j);
-}
-
-// 256 x owner + number.
-fn code_of(o: usize, j: usize) -> u16
-    requires { ⌜ (o < 7) × (j ≤ 64) ⌝ }
-    ensures { λ r. ⌜ r ≡ codeOf o j ⌝ }
-{
-    (256 * o + j) as u16
 }
 
 // One place of the list at a time, until it is full or none is left.

@@ -2,6 +2,7 @@
 use paper::Command;
 use paper::Refusal;
 
+pub mod codes;
 pub mod hand_out;
 pub mod settled;
 pub mod states;

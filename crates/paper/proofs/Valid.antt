@@ -8,9 +8,9 @@ use native.Mathlib.Omega.{arith}
 use Rattle.paper.specs.Logic.{implies, allBelow}
 use Rattle.paper.specs.Command.{keyOk, editOk, commandOk}
 use Rattle.paper.specs.Deps.{entryOk, depsOk}
-use Rattle.paper.specs.Vote.{votedOk, statusOk, voteOk, votedBelow, noneVoted, noneOp, noneEntry, noneIsBlank, toldOk}
+use Rattle.paper.specs.Vote.{votedOk, statusOk, voteOk, noneVoted, noneOp, noneEntry, noneIsBlank, toldOk}
 use Rattle.paper.specs.Message.{rowIn, voteIn, joinedIn}
-use Rattle.paper.specs.Valid.{fromRange, toRange, ownerRange, numberRange, ballotRange, recoveryBallot, toHere, fromAnother, fromLead, toLead, toldBelow, freshOp, joinedRange, joinedAbove, depsCarried, Clause, Failing, none, first, holdsOf, holds, clauses, firstOf, firstFailing, isNone, valid}
+use Rattle.paper.specs.Valid.{fromRange, toRange, ownerRange, numberRange, ballotRange, recoveryBallot, toHere, fromAnother, fromLead, toLead, toldBelow, freshOp, joinedRange, joinedAbove, depsCarried, Clause, first, holdsOf, holds, clauses, firstOf, firstFailing, isNone, valid}
 use Rattle.paper.specs.declared.Vote.{Vote}
 use Rattle.paper.specs.declared.Row.{Row}
 use Rattle.paper.specs.declared.Message.{Message}

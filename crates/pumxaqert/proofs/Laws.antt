@@ -4,7 +4,6 @@ use mathlib.Core.Bool.{true, false}
 use mathlib.Core.List.{List, [], _∷_}
 use Prim.Native.Nat.{ℕ}
 use lib.ListN.{replicate}
-use borrow.Author.Tests.{eq-eqb, ne-eqb}
 use Rattle.paper.specs.Message.{partsIn, votedIn, joinedIn, noMessage}
 use Rattle.paper.specs.Refusal.{numberOf}
 use Rattle.paper.specs.declared.Body.{Body}

@@ -4,7 +4,6 @@ use mathlib.Core.Bool.{Bool, true, false, _&&_}
 use mathlib.Core.List.{List}
 use Prim.Native.Nat.{ℕ, zero, suc, _^_, _≤_, _<_}
 use native.Mathlib.Omega.{arith}
-use lib.Dec.{eqb}
 use lib.ListN.{length}
 use Rattle.paper.specs.Setup.{setupOk}
 use Rattle.paper.specs.Message.{commandIn, voteIn}
@@ -25,7 +24,7 @@ use Rattle.rules.specs.PrepareOk.{afreshCommand, decide, quorum, preparedBy, on
 use Rattle.rules.specs.Received.{conflict, refused10, received}
 use Rattle.rules.specs.Events.{onMessage}
 use Rattle.rules.specs.Seen.{seen}
-use Rattle.record.specs.Part.{Bytes}
+use Rattle.num.specs.Num.{Bytes}
 use Rattle.table.specs.Sizes.{Names}
 use Rattle.table.specs.Table.{recordIn}
 use Rattle.table.proofs.Laws.{sizes, names}
@@ -43,7 +42,8 @@ use Rattle.closed.proofs.Shapes.{setup-is}
 use Rattle.log.specs.Out.{outBytes}
 use Rattle.log.specs.Events.{refuse, acted, Passed, receiveOpen}
 use Rattle.log.specs.Events as events
-use Rattle.log.proofs.Held.{sound-records, messageAt-fits, out-short}
+use Rattle.log.proofs.Held.{sound-records, out-short}
+use Rattle.wire.proofs.Fits.{messageAt-fits}
 use Rattle.log.proofs.Calls.{setup-of, three, receive-open}
 use Rattle.receive.specs.Message as specs
 

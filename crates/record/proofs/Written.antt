@@ -20,7 +20,8 @@ use Rattle.paper.specs.Vote.{blank}
 use Rattle.paper.specs.declared.Vote.{Vote}
 use Rattle.paper.specs.declared.Record.{Record}
 use Rattle.record.specs.Layout.{voteLength, opInVote, votePlace, markPlace, phasePlace, setPlace, repliesPlace, replyPlace, recordLength, withMark, votesAt, votesBytes, recordAt, frontBytes, recordBytes}
-use Rattle.record.specs.Part.{Bytes, opFits, opsFit, soundPart}
+use Rattle.num.specs.Num.{Bytes}
+use Rattle.record.specs.Part.{opFits, opsFit, soundPart}
 use Rattle.record.proofs.Laws.{length-frontBytes, length-voteBytes}
 use Rattle.record.proofs.Round.{recordAt-recordBytes}
 

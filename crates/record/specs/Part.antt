@@ -1,6 +1,6 @@
 -- When the bytes of a record are sound: the record is, and each op byte is the number of an op, so that no byte can differ
 -- unseen. Assumes nothing.
-use Prim.Native.Nat.{ℕ, _+_, _<_}
+use Prim.Native.Nat.{ℕ, _+_}
 use mathlib.Core.Bool.{Bool, _&&_}
 use mathlib.Core.List.{List}
 use lib.Dec.{leb, eqb}
@@ -14,10 +14,6 @@ use Rattle.paper.specs.Sound.{phasesOk, replyOk, soundRecord}
 use Rattle.codec.specs.Parts.{commandAt, depsAt, voteAt}
 use Rattle.sound.specs.Asked.{ballotsOk, markedOk, phasedOk}
 use Rattle.record.specs.Layout.{opInVote, joinedPlace, votePlace, statusPlace, commandPlace, depsPlace, markPlace, phasePlace, setPlace, repliesPlace, repliesLength, replyPlace, recordAt}
-
--- bytes
-abbrev pub Bytes : List ℕ → Type 0
-Bytes b = (i : ℕ) → getD b i 0 < 256
 
 -- the op byte of the vote at a place
 abbrev pub opFits : List ℕ → ℕ → Bool

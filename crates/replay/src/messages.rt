@@ -1,196 +1,203 @@
-// The calls on messages: read and write.
-use crate::answer::begin;
-use crate::answer::put_message;
-use nouns::logic::both;
+// The calls on messages: read and write, and every field of a message in the order of the line.
+use crate::play::Setup;
+use codec::op_of;
+use nouns::command::op_number;
+use nouns::logic::wide8;
+use nouns::logic::wide16;
+use nouns::logic::wide32;
+use nouns::message::command_in;
+use nouns::message::joined_in;
+use nouns::message::kind_of;
+use nouns::message::status_in;
+use nouns::message::voted_in;
 use paper::Body;
 use paper::Command;
 use paper::Message;
-use paper::Op;
 use text::bytes::front;
 use text::bytes::front_mut;
+use text::bytes::low8;
+use text::bytes::low32;
+use text::bytes::size;
+use text::forms::BYTES;
+use text::forms::NUMBERS;
+use text::forms::Read;
+use text::put::Text;
 use text::put::bad_line;
+use text::put::empty;
 use text::put::put_bytes;
-use text::put::put_front;
+use text::put::put_form;
 use text::put::put_hex;
-use text::put::put_size;
-use text::refusals::put_refused;
-use text::setup::Setup;
-use text::words::last_hex;
-use text::words::last_numbers;
-use text::words::low8;
-use text::words::size;
+use text::put::put_number;
+use text::put::put_refused;
+use text::put::wide;
 use wire::Reading;
 use wire::Writing;
 
+fn put_names(out: Text, m: Message) -> Text {
+    let body = m.body;
+    let kind = wide8(kind_of(body));
+    let copies = [kind, wide8(m.from), wide8(m.to), wide8(m.owner)];
+    let named = put_form(out, b" # # # #", copies);
+    put_form(named, b" # #", [wide16(m.number), wide32(m.ballot), 0, 0])
+}
+
+// What only some kinds carry, 0 where this one does not.
+fn put_body(out: Text, body: Body) -> Text {
+    let k = command_in(body);
+    let op = k.op;
+    let told = [
+        wide32(voted_in(body)),
+        wide8(status_in(body)),
+        wide32(joined_in(body)),
+        0,
+    ];
+    let v = [op_number(op), wide32(k.key), size(k.edit), 0];
+    put_form(put_form(out, b" # # #", told), b" # # #", v)
+}
+
+fn put_deps(out: Text, deps: [u16; 7]) -> Text {
+    let mut next = out;
+    for i in 0..7 {
+        next = put_number(next, wide16(deps[i]));
+    }
+    next
+}
+
+// Every field of a message, in the order of the line.
+fn put_message(out: Text, m: Message) -> Text {
+    let body = m.body;
+    let deps = m.deps;
+    put_deps(put_body(put_names(out, m), body), deps)
+}
+
 // The message written again, into a room of 256 bytes.
-fn put_again(out: &mut [u8], at: usize, w: Setup, c: usize, m: Message) -> usize {
+fn put_again(out: Text, w: Setup, m: Message) -> Text {
     let mut room = [0u8; 256];
-    match wire::write_message(w.n, w.s, c, &mut room, m) {
-        Writing::Refused(why) => put_refused(out, at, why),
-        Writing::Bytes(k) => put_front(out, at, &room, k),
+    match wire::write_message(w.n, w.s, w.c, &mut room, m) {
+        Writing::Refused(why) => put_refused(out, why),
+        Writing::Bytes(k) => put_hex(out, &room, k),
     }
 }
 
-fn put_read(out: &mut [u8], at: usize, w: Setup, c: usize, m: Message) -> usize {
-    let told = put_bytes(&mut *out, at, b" message");
-    let fields = put_message(&mut *out, told, m);
-    put_again(&mut *out, fields, w, c, m)
+fn put_read(m: Message, w: Setup) -> Text {
+    let told = put_bytes(empty(), b"= message");
+    put_again(put_message(told, m), w, m)
 }
 
-fn read_bytes(b: &[u8], w: Setup, c: usize, out: &mut [u8]) -> usize {
-    let got = wire::read_message(w.n, w.s, c, b);
+fn read_bytes(b: &[u8], w: Setup) -> Text {
+    let got = wire::read_message(w.n, w.s, w.c, b);
     let answer = got.answer;
-    let at = begin(&mut *out);
     match answer {
-        Reading::Refused(why) => put_refused(out, at, why),
-        Reading::Valid => put_read(out, at, w, c, got.message),
+        Reading::Refused(why) => put_refused(put_bytes(empty(), b"="), why),
+        Reading::Valid => put_read(got.message, w),
     }
 }
 
 // C read BYTES
-pub fn read(line: &[u8], at: usize, w: Setup, c: usize, out: &mut [u8]) -> usize {
-    let mut room = [0u8; 300];
-    let got = last_hex(line, at, &mut room);
-    if !got.good {
-        return bad_line(out);
-    }
-    read_bytes(front(&room, got.count), w, c, out)
+pub fn read(got: Read, w: Setup) -> Text {
+    let bytes = got.bytes;
+    read_bytes(front(&bytes, got.length), w)
 }
 
-fn low16(x: u64) -> u16 {
+fn low16(x: usize) -> u16 {
     (x % 65536) as u16
 }
 
-fn low32(x: u64) -> u32 {
-    (x % 4294967296) as u32
-}
-
-fn byte(x: u64) -> u8 {
-    low8(size(x))
-}
-
-fn op_of(x: u64) -> Op {
-    match x {
-        0 => Op::Noop,
-        1 => Op::Read,
-        _ => Op::Write,
-    }
-}
-
-fn command_of(v: [u64; 20]) -> Command {
-    let op = op_of(v[10]);
-    let key = low32(v[11]);
+fn command_of(v: [usize; NUMBERS]) -> Command {
     Command {
-        op,
-        key,
-        edit: v[12],
+        op: op_of(low8(v[11])),
+        key: low32(v[12]),
+        edit: wide(v[13]),
     }
 }
 
-fn body_of(v: [u64; 20]) -> Body {
+fn prepare_ok(v: [usize; NUMBERS]) -> Body {
     let command = command_of(v);
-    match v[1] {
+    Body::PrepareOk {
+        voted: low32(v[8]),
+        status: low8(v[9]),
+        command,
+    }
+}
+
+// The kinds by the paper's numbers.
+fn body_of(v: [usize; NUMBERS]) -> Body {
+    let command = command_of(v);
+    match v[2] {
         1 => Body::PreAccept(command),
         2 => Body::PreAcceptOk,
         3 => Body::Accept(command),
         4 => Body::AcceptOk,
         5 => Body::Commit(command),
         6 => Body::Prepare,
-        7 => prepare_ok(v, command),
-        _ => Body::Nack(low32(v[9])),
+        7 => prepare_ok(v),
+        _ => Body::Nack(low32(v[10])),
     }
 }
 
-fn prepare_ok(v: [u64; 20], command: Command) -> Body {
-    let voted = low32(v[7]);
-    let status = byte(v[8]);
-    Body::PrepareOk {
-        voted,
-        status,
-        command,
-    }
-}
-
-fn deps_of(v: [u64; 20]) -> [u16; 7] {
+fn deps_of(v: [usize; NUMBERS]) -> [u16; 7] {
     let mut deps = [0u16; 7];
     for i in 0..7 {
-        deps[i] = low16(v[i + 13]);
+        deps[i] = low16(v[i + 14]);
     }
     deps
 }
 
-fn message_of(v: [u64; 20]) -> Message {
-    let from = byte(v[2]);
-    let to = byte(v[3]);
-    let owner = byte(v[4]);
-    let number = low16(v[5]);
-    let ballot = low32(v[6]);
+fn message_of(v: [usize; NUMBERS]) -> Message {
     let body = body_of(v);
     let deps = deps_of(v);
     Message {
-        from,
-        to,
-        owner,
-        number,
-        ballot,
+        from: low8(v[3]),
+        to: low8(v[4]),
+        owner: low8(v[5]),
+        number: low16(v[6]),
+        ballot: low32(v[7]),
         body,
         deps,
     }
 }
 
-// The largest number that a word of the line may hold.
-fn most(i: usize) -> u64 {
+// The largest number that a place of the line may hold.
+fn most(i: usize) -> usize {
     match i {
-        0 => 300,
-        1 => 8,
-        2 | 3 | 4 | 8 => 255,
-        6 | 7 | 9 | 11 => 4294967295,
-        10 => 2,
-        12 => u64::MAX,
+        1 => BYTES,
+        2 => 8,
+        3 | 4 | 5 | 9 => 255,
+        7 | 8 | 10 | 12 => 4294967295,
+        11 => 2,
+        0 | 13 => usize::MAX,
         _ => 65535,
     }
 }
 
-fn fit(v: [u64; 20]) -> bool {
-    for i in 0..20 {
+fn fit(v: [usize; NUMBERS]) -> bool {
+    for i in 0..NUMBERS {
         if v[i] > most(i) {
             return false;
         }
     }
-    v[1] > 0
+    v[2] > 0
 }
 
-fn put_writing(out: &mut [u8], at: usize, answer: Writing) -> usize {
+fn put_writing(answer: Writing) -> Text {
     match answer {
-        Writing::Refused(why) => put_refused(out, at, why),
-        Writing::Bytes(k) => put_written(out, at, k),
+        Writing::Refused(why) => put_refused(put_bytes(empty(), b"="), why),
+        Writing::Bytes(k) => put_number(put_bytes(empty(), b"= written"), k),
     }
-}
-
-fn put_written(out: &mut [u8], at: usize, k: usize) -> usize {
-    let next = put_bytes(&mut *out, at, b" written");
-    put_size(&mut *out, next, k)
 }
 
 // The answer, and the whole room after the call.
-fn write_to(room: &mut [u8], w: Setup, c: usize, m: Message, out: &mut [u8]) -> usize {
-    let answer = wire::write_message(w.n, w.s, c, &mut *room, m);
-    let at = begin(&mut *out);
-    let told = put_writing(&mut *out, at, answer);
-    put_hex(&mut *out, told, &*room)
+fn write_to(room: &mut [u8], w: Setup, m: Message) -> Text {
+    let answer = wire::write_message(w.n, w.s, w.c, &mut *room, m);
+    put_hex(put_writing(answer), &*room, room.len())
 }
 
 // C write ROOM KIND FROM TO OWNER NUMBER BALLOT VOTED STATUS JOINED OP KEY EDIT D0 .. D6
-pub fn write(line: &[u8], at: usize, w: Setup, c: usize, out: &mut [u8]) -> usize {
-    let mut v = [0u64; 20];
-    let good = last_numbers(line, at, &mut v);
-    if !both(good, fit(v)) {
-        return bad_line(out);
+pub fn write(got: Read, w: Setup) -> Text {
+    let mut room = [0xEEu8; BYTES];
+    let v = got.v;
+    if !fit(v) {
+        return bad_line();
     }
-    write_fields(v, w, c, out)
-}
-
-fn write_fields(v: [u64; 20], w: Setup, c: usize, out: &mut [u8]) -> usize {
-    let mut room = [0xEEu8; 300];
-    write_to(front_mut(&mut room, size(v[0])), w, c, message_of(v), out)
+    write_to(front_mut(&mut room, v[1]), w, message_of(v))
 }

@@ -1,67 +1,86 @@
-// One line of the input: the setup, or a call and its answer.
+// Plays the lines of the input: the setup, or a call and its answer.
 use crate::messages;
 use crate::tables;
-use text::parts::which_word;
+use text::forms::Read;
+use text::forms::which_form;
+use text::lines::before_first;
+use text::lines::is_passed_over;
+use text::lines::next_line;
+use text::put::Text;
 use text::put::bad_line;
 use text::put::finish;
-use text::put::say_bad;
-use text::setup;
-use text::setup::Setup;
-use text::words::next_word;
-use text::words::number;
-use text::words::size;
-use text::words::word_is;
+use table::LONGEST;
 
-// A call at copy c; its name begins at a place of the line.
-fn call(line: &[u8], at: usize, w: Setup, c: usize, t: &mut [u8], out: &mut [u8]) -> usize {
-    let next = next_word(line, at);
-    match which_word(line, at, b"read|write|judge|blank|part") {
-        0 => messages::read(line, next, w, c, out),
-        1 => messages::write(line, next, w, c, out),
-        2 => tables::judge(line, next, w, c, t, out),
-        3 => tables::blank(line, next, w, c, t, out),
-        4 => tables::part(line, next, w, c, t, out),
-        _ => bad_line(out),
+// The setup of the calls that follow, and the copy of a call.
+pub struct Setup {
+    pub n: usize,
+    pub s: usize,
+    pub c: usize,
+}
+
+// The answer to a call, by the place of its form below.
+fn answer_of(got: Read, w: Setup, t: &mut [u8]) -> Text {
+    let form = got.form;
+    match form {
+        1 => messages::read(got, w),
+        2 => messages::write(got, w),
+        3 => tables::judge(got, w, t),
+        4 => tables::blank(got, w, t),
+        5 => tables::part(got, w, t),
+        _ => bad_line(),
     }
 }
 
-fn answer_of(line: &[u8], w: Setup, t: &mut [u8], out: &mut [u8]) -> usize {
-    let c = number(line, 0);
-    if !c.good {
-        return bad_line(out);
-    }
-    call(line, c.next, w, size(c.value), t, out)
-}
-
-fn play_call(line: &[u8], w: Setup, t: &mut [u8], out: &mut [u8]) {
-    let n = answer_of(line, w, t, &mut *out);
-    finish(&mut *out, n);
-}
-
-fn play_run(line: &[u8], w: Setup, out: &mut [u8]) -> Setup {
-    let told = setup::run(line, next_word(line, 0), w);
-    if told.good {
-        return told.setup;
-    }
-    say_bad(out);
-    w
-}
-
-fn is_passed_over(line: &[u8]) -> bool {
-    if line.len() == 0 {
-        return true;
-    }
-    line[0] == b'='
+fn play_call(got: Read, old: Setup, t: &mut [u8]) {
+    let mut w = old;
+    w.c = got.v[0];
+    finish(answer_of(got, w, t));
 }
 
 // Plays one line; the setup that holds after it.
-pub fn play_line(line: &[u8], w: Setup, t: &mut [u8], out: &mut [u8]) -> Setup {
+fn play_line(line: &[u8], w: Setup, t: &mut [u8]) -> Setup {
     if is_passed_over(line) {
         return w;
     }
-    if word_is(line, 0, b"run") {
-        return play_run(line, w, out);
+    let got = which_form(
+        line,
+        b"run # #\
+            |# read @\
+            |# write # # # # # # # # # # # # # # # # # # # #\
+            |# judge # # # # @\
+            |# blank #\
+            |# part # # #",
+    );
+    if got.form == 0 {
+        return Setup {
+            n: got.v[0],
+            s: got.v[1],
+            c: 0,
+        };
     }
-    play_call(line, w, t, out);
+    play_call(got, w, t);
     w
+}
+
+// A proved loop has to end, and nothing says that the input does: the lines count down from a number that no run uses up.
+fn play_lines(buf: &mut [u8], t: &mut [u8]) {
+    let mut lines = u64::MAX;
+    let mut w = Setup { n: 0, s: 0, c: 0 };
+    let mut line = before_first();
+    while 0 < lines {
+        line = next_line(&mut *buf, line);
+        if !line.more {
+            break;
+        }
+        let from = line.from;
+        let end = line.end;
+        w = play_line(&buf[from..end], w, &mut *t);
+        lines -= 1;
+    }
+}
+
+pub fn play_input() {
+    let mut buf = io::large_buffer();
+    let mut t = [0u8; LONGEST];
+    play_lines(&mut buf, &mut t);
 }

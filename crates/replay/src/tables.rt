@@ -1,27 +1,24 @@
 // The calls on one table: judge, blank and part. The table's bytes are lent, as many as the longest table has.
-use crate::answer::begin;
+use crate::play::Setup;
 use nouns::logic::both;
+use nouns::logic::either;
 use table::Blanking;
 use table::Judging;
+use text::bytes::behind;
 use text::bytes::checksum;
 use text::bytes::fill;
 use text::bytes::front;
 use text::bytes::front_mut;
+use text::bytes::low8;
+use text::bytes::write;
+use text::forms::Read;
+use text::put::Text;
 use text::put::bad_line;
-use text::put::put_byte;
+use text::put::empty;
 use text::put::put_bytes;
 use text::put::put_number;
-use text::put::put_size;
-use text::refusals::put_refused;
-use text::setup::Setup;
-use text::setup::times;
-use text::words::last_hex;
-use text::words::last_number;
-use text::words::last_numbers;
-use text::words::low8;
-use text::words::numbers;
-use text::words::size;
-ghost use Prim.Native.Nat.{_≤_};
+use text::put::put_refused;
+use table::part_start;
 
 // Byte i is i modulo 251.
 fn count_up(t: &mut [u8]) {
@@ -32,148 +29,86 @@ fn count_up(t: &mut [u8]) {
     }
 }
 
-struct Spot {
-    at: usize,
-    good: bool,
-}
-
-fn no_spot() -> Spot {
-    Spot { at: 0, good: false }
-}
-
-// A place in the record of o.j, by the layout's rule whether or not a table has it.
-fn record_spot(s: usize, o: usize, j: usize, at: usize) -> Spot
-    requires { ⌜ at ≤ 4294967295 ⌝ }
-{
-    if 8 < o {
-        return no_spot();
-    }
-    if j == 0 {
-        return no_spot();
-    }
-    if 4294967295 < j {
-        return no_spot();
-    }
-    if 4294967295 < s {
-        return no_spot();
-    }
-    Spot {
-        at: 3 + 263 * (times(o, s) + (j - 1)) + at,
-        good: true,
-    }
-}
-
-// Where the bytes of a judge line go: into a record, or, for owner 9, into the table itself.
-fn spot_of(s: usize, v: [u64; 4]) -> Spot {
-    let o = size(v[1]);
-    let j = size(v[2]);
-    let at = size(v[3]);
-    if 4294967295 < at {
-        return no_spot();
-    }
+// Writes bytes from a place of the record of o.j on, where the table has it; for o = 9, from a place of the table on.
+fn set(t: &mut [u8], w: Setup, o: usize, j: usize, at: usize, bytes: &[u8]) {
     if o == 9 {
-        return Spot { at, good: true };
+        write(t, at, bytes);
+        return;
     }
-    record_spot(s, o, j, at)
+    let start = part_start(&*t, w.n, w.s, w.c, o, j);
+    if start == 0 {
+        return;
+    }
+    write(behind(t, start), at, bytes);
 }
 
-fn put_head(t: &mut [u8], w: Setup, c: usize) {
-    let n = put_byte(&mut *t, 0, low8(w.n));
-    let s = put_byte(&mut *t, n, low8(w.s));
-    put_byte(&mut *t, s, low8(c));
-}
-
-fn put_judging(out: &mut [u8], at: usize, answer: Judging) -> usize {
+fn put_judging(answer: Judging) -> Text {
     match answer {
-        Judging::Sound => put_bytes(out, at, b" sound"),
-        Judging::Refused(why) => put_refused(out, at, why),
+        Judging::Sound => put_bytes(empty(), b"= sound"),
+        Judging::Refused(why) => put_refused(put_bytes(empty(), b"="), why),
     }
 }
 
-// The answer for a table that is blank but for the bytes at a place.
-fn judge_bytes(t: &mut [u8], w: Setup, c: usize, at: usize, bytes: &[u8], out: &mut [u8]) -> usize {
+// The answer for a table that is blank but for the bytes of the line.
+fn judge_in(t: &mut [u8], w: Setup, got: Read) -> Text {
+    let v = got.v;
+    let bytes = got.bytes;
     fill(&mut *t, 0);
-    put_head(&mut *t, w, c);
-    put_bytes(&mut *t, at, bytes);
-    let answer = table::judge_table(&*t, w.n, w.s, c);
-    let next = begin(&mut *out);
-    put_judging(&mut *out, next, answer)
+    table::blank_table(&mut *t, w.n, w.s, w.c);
+    set(&mut *t, w, v[2], v[3], v[4], front(&bytes, got.length));
+    put_judging(table::judge_table(&*t, w.n, w.s, w.c))
 }
 
-fn judge_words(
-    line: &[u8],
-    at: usize,
-    w: Setup,
-    c: usize,
-    spot: Spot,
-    t: &mut [u8],
-    out: &mut [u8],
-) -> usize {
-    let mut room = [0u8; 300];
-    let got = last_hex(line, at, &mut room);
-    if !both(got.good, spot.good) {
-        return bad_line(out);
-    }
-    judge_bytes(t, w, c, spot.at, front(&room, got.count), out)
+// The line names a record, or the table itself.
+fn names_place(o: usize, j: usize) -> bool {
+    either(o == 9, both(o < 9, 0 < j))
 }
 
 // C judge LEN O J AT BYTES
-pub fn judge(line: &[u8], at: usize, w: Setup, c: usize, t: &mut [u8], out: &mut [u8]) -> usize {
-    let mut v = [0u64; 4];
-    let got = numbers(line, at, &mut v);
-    let length = size(v[0]);
-    if !both(got.good, length <= t.len()) {
-        return bad_line(out);
+pub fn judge(got: Read, w: Setup, t: &mut [u8]) -> Text {
+    let v = got.v;
+    let length = v[1];
+    if !both(length <= t.len(), names_place(v[2], v[3])) {
+        return bad_line();
     }
-    let spot = spot_of(w.s, v);
-    judge_words(line, got.next, w, c, spot, front_mut(t, length), out)
+    judge_in(front_mut(t, length), w, got)
 }
 
-fn put_blanking(out: &mut [u8], at: usize, answer: Blanking) -> usize {
+fn put_blanking(answer: Blanking) -> Text {
     match answer {
-        Blanking::Blank => put_bytes(out, at, b" blank"),
-        Blanking::Refused(why) => put_refused(out, at, why),
+        Blanking::Blank => put_bytes(empty(), b"= blank"),
+        Blanking::Refused(why) => put_refused(put_bytes(empty(), b"="), why),
     }
 }
 
-fn blank_bytes(t: &mut [u8], w: Setup, c: usize, out: &mut [u8]) -> usize {
+fn blank_in(t: &mut [u8], w: Setup) -> Text {
     fill(&mut *t, 0xEE);
-    let answer = table::blank_table(&mut *t, w.n, w.s, c);
-    let at = begin(&mut *out);
-    let told = put_blanking(&mut *out, at, answer);
-    put_number(&mut *out, told, checksum(&*t))
+    let answer = table::blank_table(&mut *t, w.n, w.s, w.c);
+    put_number(put_blanking(answer), checksum(&*t))
 }
 
 // C blank LEN
-pub fn blank(line: &[u8], at: usize, w: Setup, c: usize, t: &mut [u8], out: &mut [u8]) -> usize {
-    let got = last_number(line, at);
-    let length = size(got.value);
-    if !both(got.good, length <= t.len()) {
-        return bad_line(out);
+pub fn blank(got: Read, w: Setup, t: &mut [u8]) -> Text {
+    let length = got.v[1];
+    if t.len() < length {
+        return bad_line();
     }
-    blank_bytes(front_mut(t, length), w, c, out)
+    blank_in(front_mut(t, length), w)
 }
 
-fn part_bytes(t: &[u8], w: Setup, c: usize, o: usize, j: usize, out: &mut [u8]) -> usize {
-    let part = table::record_part(t, w.n, w.s, c, o, j);
-    let at = begin(&mut *out);
-    let told = put_bytes(&mut *out, at, b" part");
-    let length = put_size(&mut *out, told, part.len());
-    put_number(&mut *out, length, checksum(part))
-}
-
-fn part_words(t: &mut [u8], w: Setup, c: usize, o: usize, j: usize, out: &mut [u8]) -> usize {
+fn part_in(t: &mut [u8], w: Setup, o: usize, j: usize) -> Text {
     count_up(&mut *t);
-    part_bytes(&*t, w, c, o, j, out)
+    let part = table::record_part(&*t, w.n, w.s, w.c, o, j);
+    let told = put_number(put_bytes(empty(), b"= part"), part.len());
+    put_number(told, checksum(part))
 }
 
 // C part LEN O J
-pub fn part(line: &[u8], at: usize, w: Setup, c: usize, t: &mut [u8], out: &mut [u8]) -> usize {
-    let mut v = [0u64; 3];
-    let good = last_numbers(line, at, &mut v);
-    let length = size(v[0]);
-    if !both(good, length <= t.len()) {
-        return bad_line(out);
+pub fn part(got: Read, w: Setup, t: &mut [u8]) -> Text {
+    let v = got.v;
+    let length = v[1];
+    if t.len() < length {
+        return bad_line();
     }
-    part_words(front_mut(t, length), w, c, size(v[1]), size(v[2]), out)
+    part_in(front_mut(t, length), w, v[2], v[3])
 }

@@ -1,3 +1,4 @@
 pub mod Worked
 pub mod Rests
 pub mod Joins
+pub mod Codes

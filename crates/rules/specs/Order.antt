@@ -1,5 +1,5 @@
 -- "Settled and handed out". Assumes nothing.
-use Prim.Native.Nat.{ℕ, zero, suc, _+_, _*_}
+use Prim.Native.Nat.{ℕ, zero, suc, _+_, _*_, _/_, _%_}
 use mathlib.Core.Bool.{Bool, false, _&&_, _||_, not, cond}
 use mathlib.Core.List.{List, [], _∷_}
 use lib.Dec.{eqb}
@@ -77,9 +77,12 @@ mark t o j = put t o j (marked (t o j))
 unfoldable pub nextOut : ℕ → ℕ → Records → First
 nextOut n s t = first n s (candidate n s t)
 
--- 256 x owner + number
+-- the code of an instance, 256 x owner + number, and the instance that a code names
 abbrev pub codeOf : ℕ → ℕ → ℕ
 codeOf o j = 256 * o + j
+
+abbrev pub instanceOf : ℕ → ℕ × ℕ
+instanceOf code = (code / 256, code % 256)
 
 abbrev pub found : {A : Type 0} → First → A → (ℕ → ℕ → A) → A
 found Nowhere none f = none

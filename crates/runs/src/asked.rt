@@ -1,94 +1,77 @@
 // The settled question and the hand-out.
 use crate::event::put_no;
 use crate::told::Told;
-use forms::put_form;
 use nouns::command::op_number;
+use nouns::logic::wide16;
+use nouns::logic::wide32;
 use order::Handing;
 use order::Settling;
 use paper::Command;
+use text::bytes::size;
+use text::put::Text;
 use text::put::bad_line;
-use text::put::from16;
-use text::put::from32;
-use text::put::put_byte;
+use text::put::empty;
 use text::put::put_bytes;
-use text::put::put_decimal;
-use text::put::wide;
-use text::words::last_number;
-use text::words::last_numbers;
-use text::words::size;
+use text::put::put_form;
+use text::put::put_number;
+use nouns::setup::INSTANCES;
 
-fn put_settled(out: &mut [u8], k: Command) -> usize {
+fn put_settled(k: Command) -> Text {
     let op = k.op;
-    let v = [wide(op_number(op)), from32(k.key), k.edit, 0];
-    put_form(out, 0, b"= settled # # #", v)
+    let v = [op_number(op), wide32(k.key), size(k.edit), 0];
+    put_form(empty(), b"= settled # # #", v)
 }
 
-fn put_waits(out: &mut [u8], o: usize, j: usize) -> usize {
-    put_form(out, 0, b"= waits # #", [wide(o), wide(j), 0, 0])
-}
-
-fn put_settling(out: &mut [u8], answer: Settling) -> usize {
+fn put_settling(answer: Settling) -> Text {
     match answer {
-        Settling::Settled(k) => put_settled(out, k),
-        Settling::Waits { owner, number } => put_waits(out, owner, number),
-        Settling::Refused(why) => put_no(out, why),
+        Settling::Settled(k) => put_settled(k),
+        Settling::Waits { owner, number } => put_form(
+            empty(),
+            b"= waits # #",
+            [owner, number, 0, 0],
+        ),
+        Settling::Refused(why) => put_no(why),
     }
 }
 
 // C settled OWNER NUMBER
-pub fn settled(line: &[u8], at: usize, w: Told, t: &[u8], out: &mut [u8]) -> usize {
-    let mut v = [0u64; 2];
-    if !last_numbers(line, at, &mut v) {
-        return bad_line(out);
-    }
-    let answer = order::settled::settled(t, w.n, w.s, w.c, size(v[0]), size(v[1]));
-    put_settling(out, answer)
+pub fn settled(t: &[u8], w: Told, o: usize, j: usize) -> Text {
+    put_settling(order::settled::settled(t, w.n, w.s, w.c, o, j))
 }
 
-fn put_code(out: &mut [u8], at: usize, i: usize, code: u16) -> usize {
-    if i == 0 {
-        return put_decimal(out, at, from16(code));
-    }
-    let next = put_byte(&mut *out, at, b' ');
-    put_decimal(&mut *out, next, from16(code))
-}
-
-// The first k codes of the list, all of it where k is more.
-fn put_codes(out: &mut [u8], list: &[u16], k: usize) -> usize {
-    let mut next = put_bytes(&mut *out, 0, b"= codes ");
+// The first k codes of the list, all of it where k is more; a space after the word even where there are none.
+fn put_codes(list: &[u16], k: usize) -> Text {
+    let mut next = put_bytes(empty(), b"= codes");
     let mut i = 0;
     while i < list.len() {
         if k <= i {
             break;
         }
-        next = put_code(&mut *out, next, i, list[i]);
+        next = put_number(next, wide16(list[i]));
         i += 1;
     }
     next
 }
 
-fn put_handing(out: &mut [u8], answer: Handing, list: &[u16]) -> usize {
-    match answer {
-        Handing::Codes(k) => put_codes(out, list, k),
-        Handing::Refused(why) => put_no(out, why),
+fn put_listed(list: &[u16], k: usize) -> Text {
+    if k == 0 {
+        return put_bytes(empty(), b"= codes ");
     }
+    put_codes(list, k)
 }
 
-fn hand_out_in(w: Told, t: &mut [u8], list: &mut [u16], out: &mut [u8]) -> usize {
-    let answer = order::hand_out::hand_out(t, w.n, w.s, w.c, &mut *list);
-    put_handing(out, answer, &*list)
+fn hand_out_in(t: &mut [u8], w: Told, list: &mut [u16]) -> Text {
+    match order::hand_out::hand_out(t, w.n, w.s, w.c, &mut *list) {
+        Handing::Codes(k) => put_listed(&*list, k),
+        Handing::Refused(why) => put_no(why),
+    }
 }
 
 // C handout ROOM
-pub fn hand_out(line: &[u8], at: usize, w: Told, t: &mut [u8], out: &mut [u8]) -> usize {
-    let mut list = [0u16; 448];
-    let room = last_number(line, at);
-    let k = size(room.value);
-    if !room.good {
-        return bad_line(out);
+pub fn hand_out(t: &mut [u8], w: Told, room: usize) -> Text {
+    let mut list = [0u16; INSTANCES];
+    if INSTANCES < room {
+        return bad_line();
     }
-    if 448 < k {
-        return bad_line(out);
-    }
-    hand_out_in(w, t, &mut list[..k], out)
+    hand_out_in(t, w, &mut list[..room])
 }

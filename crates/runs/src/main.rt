@@ -10,13 +10,10 @@
 //     C poke AT BYTES     sets bytes of copy C's table
 // Empty lines and lines that begin with '=' are passed over.
 mod asked;
-mod call;
 mod event;
-mod input;
 mod play;
-mod tables;
 mod told;
 
 fn main() {
-    input::play_input();
+    play::play_input();
 }

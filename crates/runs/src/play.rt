@@ -1,63 +1,170 @@
-// One line of the input: a run, how calls are made, or a call and its answer.
-use crate::call;
-use crate::tables::blank_all;
+// Plays the lines of the input: a run, how calls are made, or a call and its answer.
+use crate::asked;
+use crate::event;
 use crate::told::Told;
-use crate::told::run;
+use crate::told::at_copy;
+use crate::told::begun;
 use crate::told::way;
+use text::bytes::checksum;
 use text::bytes::fill;
-use text::parts::which_word;
-use text::put::say_bad;
-use text::words::number;
-use text::words::size;
+use text::bytes::front;
+use text::bytes::front_mut;
+use text::bytes::part_mut;
+use text::bytes::write;
+use text::forms::BYTES;
+use text::forms::Read;
+use text::forms::which_form;
+use text::lines::before_first;
+use text::lines::is_passed_over;
+use text::lines::next_line;
+use text::put::Text;
+use text::put::bad_line;
+use text::put::finish;
+use text::put::put_number;
+use table::LONGEST;
 
-fn play_run(line: &[u8], w: Told, all: &mut [u8], out: &mut [u8]) -> Told {
-    let told = run(line, w);
-    if !told.good {
-        say_bad(out);
-        return w;
+// Seven areas, one for each copy's table.
+const AREAS: usize = 7 * LONGEST;
+
+// Where the area of a copy starts; a copy past the seventh has none, and gets the end of all.
+fn start_of(c: usize) -> usize {
+    if 6 < c { AREAS } else { c * LONGEST }
+}
+
+// Blanks the tables of copies 0 to 6, as far as the setup has them.
+fn blank_all(all: &mut [u8], w: Told) {
+    for c in 0..7 {
+        table::blank_table(part_mut(&mut *all, start_of(c), w.length), w.n, w.s, c);
     }
+}
+
+fn play_run(got: Read, all: &mut [u8]) -> Told {
+    let w = begun(got.v[0], got.v[1]);
     fill(&mut *all, 0);
-    blank_all(all, told);
-    told
+    blank_all(all, w);
+    w
 }
 
-fn play_way(line: &[u8], word: usize, w: Told, out: &mut [u8]) -> Told {
-    let told = way(line, word, w);
-    if !told.good {
-        say_bad(out);
-        return w;
+// The answer to a call, by the place of its form.
+fn answer_of(got: Read, w: Told, t: &mut [u8], room: &mut [u8]) -> Text {
+    let v = got.v;
+    let form = got.form;
+    match form {
+        6 => event::request(t, w, room, v),
+        7 => event::message(t, w, room, got),
+        8 => event::recover(t, w, room, v[1], v[2]),
+        9 => event::nudge(t, w, room, v[1], v[2]),
+        10 => asked::settled(&*t, w, v[1], v[2]),
+        11 => asked::hand_out(t, w, v[1]),
+        _ => bad_line(),
     }
-    told
 }
 
-fn play_call(line: &[u8], w: Told, all: &mut [u8], out: &mut [u8]) {
-    let c = number(line, 0);
-    if !c.good {
-        say_bad(out);
+// The checksums after the call, where they are asked for.
+fn put_watched(out: Text, w: Told, t: &[u8], room: &[u8]) -> Text {
+    if !w.watch {
+        return out;
+    }
+    put_number(put_number(out, checksum(t)), checksum(room))
+}
+
+fn play_in(got: Read, w: Told, t: &mut [u8], room: &mut [u8]) {
+    let told = answer_of(got, w, &mut *t, &mut *room);
+    finish(put_watched(told, w, &*t, &*room));
+}
+
+// C poke AT BYTES
+fn poke(got: Read, t: &mut [u8]) {
+    let bytes = got.bytes;
+    write(t, got.v[1], front(&bytes, got.length));
+}
+
+// A call with the part of the copy's area that is lent.
+fn play_call(got: Read, w: Told, t: &mut [u8]) {
+    let mut room = [0xEEu8; BYTES];
+    if got.form == 5 {
+        poke(got, t);
         return;
     }
-    call::by(line, c.next, w, size(c.value), all, out);
-}
-
-fn is_passed_over(line: &[u8]) -> bool {
-    if line.len() == 0 {
-        return true;
+    if BYTES < w.room {
+        finish(bad_line());
+        return;
     }
-    line[0] == b'='
+    play_in(got, w, t, front_mut(&mut room, w.room));
 }
 
-// Plays one line; how the calls after it are made.
-pub fn play_line(line: &[u8], w: Told, all: &mut [u8], out: &mut [u8]) -> Told {
+fn play_copy(got: Read, w: Told, all: &mut [u8]) {
+    let copy = got.v[0];
+    let t = part_mut(all, start_of(copy), w.length);
+    if t.len() != w.length {
+        finish(bad_line());
+        return;
+    }
+    play_call(got, at_copy(w, copy), t);
+}
+
+// Plays one line that is read, by the place of its form; how the calls after it are made.
+fn play_read(got: Read, w: Told, all: &mut [u8]) -> Told {
+    let form = got.form;
+    match form {
+        0 => play_run(got, all),
+        1 | 2 | 3 | 4 => way(got, w),
+        5 | 6 | 7 | 8 | 9 | 10 | 11 => {
+            play_copy(got, w, all);
+            w
+        }
+        _ => {
+            finish(bad_line());
+            w
+        }
+    }
+}
+
+fn play_line(line: &[u8], w: Told, all: &mut [u8]) -> Told {
     if is_passed_over(line) {
         return w;
     }
-    let word = which_word(line, 0, b"run|as|length|room|watch");
-    if word == 0 {
-        return play_run(line, w, all, out);
+    let got = which_form(
+        line,
+        b"run # #\
+            |as # # #\
+            |length #\
+            |room #\
+            |watch\
+            |# poke # @\
+            |# request # # #\
+            |# message @\
+            |# recover # #\
+            |# nudge # #\
+            |# settled # #\
+            |# handout #",
+    );
+    play_read(got, w, all)
+}
+
+// A proved loop has to end, and nothing says that the input does: the lines count down from a number that no run uses up.
+fn play_lines(buf: &mut [u8], all: &mut [u8]) {
+    let mut lines = u64::MAX;
+    let mut w = begun(0, 0);
+    let mut line = before_first();
+    while 0 < lines {
+        line = next_line(&mut *buf, line);
+        if !line.more {
+            break;
+        }
+        let from = line.from;
+        let end = line.end;
+        w = play_line(&buf[from..end], w, &mut *all);
+        lines -= 1;
     }
-    if word < 5 {
-        return play_way(line, word, w, out);
-    }
-    play_call(line, w, all, out);
-    w
+}
+
+fn play_areas(buf: &mut [u8], all: &mut [u8; AREAS]) {
+    play_lines(buf, all);
+}
+
+pub fn play_input() {
+    let mut buf = io::large_buffer();
+    let mut all = [0u8; AREAS];
+    play_areas(&mut buf, &mut all);
 }

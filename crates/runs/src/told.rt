@@ -1,12 +1,9 @@
 // How the calls that follow are made.
-use text::setup::table_length;
-use text::words::last_number;
-use text::words::last_numbers;
-use text::words::next_word;
-use text::words::size;
+use text::forms::Read;
+use table::length_of;
 
 // The setup and, where `other` says so, the copy number that calls name; the length that is lent of a table; the room;
-// whether answers end with checksums; whether the last line was a good one.
+// whether answers end with checksums.
 pub struct Told {
     pub n: usize,
     pub s: usize,
@@ -15,88 +12,66 @@ pub struct Told {
     pub length: usize,
     pub room: usize,
     pub watch: bool,
-    pub good: bool,
 }
 
-pub fn untold() -> Told {
-    begun(0, 0, 0)
-}
-
-fn begun(n: usize, s: usize, length: usize) -> Told {
+// run N S
+pub fn begun(n: usize, s: usize) -> Told {
     Told {
         n,
         s,
         other: false,
         c: 0,
-        length,
+        length: length_of(n, s),
         room: 256,
         watch: false,
-        good: true,
     }
-}
-
-fn bad(old: Told) -> Told {
-    let mut w = old;
-    w.good = false;
-    w
-}
-
-// run N S
-pub fn run(line: &[u8], old: Told) -> Told {
-    let mut v = [0u64; 2];
-    if !last_numbers(line, next_word(line, 0), &mut v) {
-        return bad(old);
-    }
-    let n = size(v[0]);
-    let s = size(v[1]);
-    begun(n, s, table_length(n, s))
 }
 
 // as N S C
-fn named(line: &[u8], old: Told) -> Told {
-    let mut v = [0u64; 3];
-    if !last_numbers(line, next_word(line, 0), &mut v) {
-        return bad(old);
-    }
+fn named(old: Told, n: usize, s: usize, c: usize) -> Told {
     let mut w = old;
-    w.n = size(v[0]);
-    w.s = size(v[1]);
-    w.c = size(v[2]);
+    w.n = n;
+    w.s = s;
+    w.c = c;
     w.other = true;
     w
 }
 
-// length L
-fn lent(line: &[u8], old: Told) -> Told {
-    let x = last_number(line, next_word(line, 0));
+fn lent(old: Told, length: usize) -> Told {
     let mut w = old;
-    w.length = size(x.value);
-    w.good = x.good;
+    w.length = length;
     w
 }
 
-// room R
-fn roomy(line: &[u8], old: Told) -> Told {
-    let x = last_number(line, next_word(line, 0));
+fn roomy(old: Told, room: usize) -> Told {
     let mut w = old;
-    w.room = size(x.value);
-    w.good = x.good;
+    w.room = room;
     w
 }
 
-fn watched(line: &[u8], old: Told) -> Told {
+fn watched(old: Told) -> Told {
     let mut w = old;
     w.watch = true;
-    w.good = line.len() == 5;
     w
 }
 
-// A line that says how the calls that follow are made, by its first word: run, as, length, room or watch.
-pub fn way(line: &[u8], word: usize, old: Told) -> Told {
-    match word {
-        1 => named(line, old),
-        2 => lent(line, old),
-        3 => roomy(line, old),
-        _ => watched(line, old),
+// A line that says how the calls that follow are made, by the place of its form: as, length, room or watch.
+pub fn way(got: Read, old: Told) -> Told {
+    let v = got.v;
+    let form = got.form;
+    match form {
+        1 => named(old, v[0], v[1], v[2]),
+        2 => lent(old, v[0]),
+        3 => roomy(old, v[0]),
+        _ => watched(old),
     }
+}
+
+// The call is at its copy, or, after `as`, names another.
+pub fn at_copy(old: Told, copy: usize) -> Told {
+    let mut w = old;
+    if !w.other {
+        w.c = copy;
+    }
+    w
 }

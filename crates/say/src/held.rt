@@ -1,96 +1,82 @@
 // A record: who holds what, with which status and ballots.
 use crate::value::put_proposal;
-use forms::put_form;
 use nouns::logic::wide8;
+use nouns::logic::wide32;
 use nouns::vote::is_member;
 use paper::Record;
 use paper::Vote;
-use text::parts::put_text;
-use text::put::from32;
+use text::put::Text;
 use text::put::put_bytes;
-use text::put::put_size;
+use text::put::put_form;
+use text::put::put_number;
+use text::put::put_text;
+use record::places::LENGTH;
 
-fn put_status(out: &mut [u8], at: usize, status: u8) -> usize {
-    put_text(
-        out,
-        at,
-        b"no vote|pre-accepted with dependencies added here|pre-accepted as received|accepted|committed",
-        wide8(status),
-    )
-}
-
-fn put_phase(out: &mut [u8], at: usize, phase: u8) -> usize {
-    put_text(
-        out,
-        at,
-        b"|, preparing|, pre-accepting|, accepting",
-        wide8(phase),
-    )
-}
-
-fn put_member(out: &mut [u8], at: usize, q: usize, set: u8) -> usize {
+fn put_member(out: Text, q: usize, set: u8) -> Text {
     if 6 < q {
-        return at;
+        return out;
     }
     if is_member(q, set) {
-        return put_size(out, at, q);
+        return put_number(out, q);
     }
-    at
+    out
 }
 
 // The copies that have replied.
-fn put_members(out: &mut [u8], at: usize, set: u8) -> usize {
-    let mut next = at;
+fn put_members(out: Text, set: u8) -> Text {
+    let mut next = out;
     for q in 0..7 {
-        next = put_member(&mut *out, next, q, set);
+        next = put_member(next, q, set);
     }
     next
 }
 
-fn put_replies(out: &mut [u8], at: usize, set: u8) -> usize {
+fn put_replies(out: Text, set: u8) -> Text {
     if set == 0 {
-        return at;
+        return out;
     }
-    let told = put_bytes(&mut *out, at, b", replies from");
-    put_members(&mut *out, told, set)
-}
-
-fn put_mark(out: &mut [u8], at: usize, mark: u8) -> usize {
-    if mark == 0 {
-        return at;
-    }
-    put_bytes(out, at, b", handed out")
+    put_members(put_bytes(out, b", replies from"), set)
 }
 
 // A vote, with these bytes before what was voted for.
-pub fn put_vote(out: &mut [u8], at: usize, n: usize, vote: Vote, between: &[u8]) -> usize {
-    let status = put_status(&mut *out, at, vote.status);
+pub fn put_vote(out: Text, n: usize, vote: Vote, between: &[u8]) -> Text {
+    let told = put_text(
+        out,
+        b"no vote|pre-accepted with dependencies added here|pre-accepted as received|accepted|committed",
+        wide8(vote.status),
+    );
     if vote.status == 0 {
-        return status;
+        return told;
     }
     let command = vote.command;
     let deps = vote.deps;
-    let next = put_bytes(&mut *out, status, between);
-    put_proposal(&mut *out, next, n, command, deps)
+    put_proposal(put_bytes(told, between), n, command, deps)
 }
 
-pub fn put_record(out: &mut [u8], at: usize, n: usize, r: Record) -> usize {
+// What a copy does with its record: what it leads, who has replied, whether the instance is handed out.
+fn put_state(out: Text, phase: u8, set: u8, mark: u8) -> Text {
+    let leads = put_text(
+        out,
+        b"|, preparing|, pre-accepting|, accepting",
+        wide8(phase),
+    );
+    put_text(put_replies(leads, set), b"|, handed out", wide8(mark))
+}
+
+fn put_record(out: Text, n: usize, r: Record) -> Text {
     let vote = r.vote;
-    let voted = vote.voted;
-    let told = put_vote(&mut *out, at, n, vote, b" ");
-    let v = [from32(r.joined), from32(voted), 0, 0];
-    let ballots = put_form(&mut *out, told, b", joined #, voted #", v);
-    let phase = put_phase(&mut *out, ballots, r.phase);
-    let replies = put_replies(&mut *out, phase, r.set);
-    put_mark(&mut *out, replies, r.mark)
+    let told = put_vote(out, n, vote, b" ");
+    let v = [wide32(r.joined), wide32(vote.voted), 0, 0];
+    let ballots = put_form(told, b", joined #, voted #", v);
+    put_state(ballots, r.phase, r.set, r.mark)
 }
 
 // The record in the part of the table that holds it.
-pub fn put_part(out: &mut [u8], at: usize, n: usize, part: &[u8]) -> usize {
-    if part.len() < 263 {
-        return at;
+pub fn put_part(out: Text, n: usize, part: &[u8]) -> Text {
+    if part.len() < LENGTH {
+        return out;
     }
-    put_record(out, at, n, record::read_record(part))
+    put_record(out, n, record::read_record(part))
 }
 
 // Nothing has happened to the record yet.

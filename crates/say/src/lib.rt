@@ -1,6 +1,6 @@
-// What is in messages and records, in words.
+// What is in messages, records, refusals and scenes, in words.
 pub mod held;
 pub mod message;
 pub mod reason;
-pub mod refusal;
+pub mod show;
 pub mod value;

@@ -1,6 +1,7 @@
 // Why a script's line is not played.
 use script::Reason;
-use text::parts::put_text;
+use text::put::Text;
+use text::put::put_text;
 
 // The place of a reason among the texts below.
 fn place_of(why: Reason) -> usize {
@@ -24,10 +25,9 @@ fn place_of(why: Reason) -> usize {
 }
 
 // First the words that a line of some kind may have.
-pub fn put_reason(out: &mut [u8], at: usize, why: Reason) -> usize {
+pub fn put_reason(out: Text, why: Reason) -> Text {
     put_text(
         out,
-        at,
         b"a line begins with copies, copy, deliver, drop, repeat, cut, stop, restart, show or #\
             |say: copies 3, numbers 4\
             |say: copy 0 requests write key 7 edit 100, requests read key 7, recovers 0.1, nudges 0.1, \

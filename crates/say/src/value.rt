@@ -1,61 +1,79 @@
-// Commands, dependencies, instances and lines with numbers.
-use forms::put_form;
-use nouns::command::op_number;
+// Commands, dependencies, refusals, and lines with numbers.
+use nouns::logic::wide16;
+use nouns::logic::wide32;
+use nouns::refusal::number_of;
 use paper::Command;
+use paper::Op;
+use paper::Refusal;
+use text::bytes::size;
+use text::put::Text;
+use text::put::empty;
 use text::put::finish;
-use text::put::from16;
-use text::put::from32;
 use text::put::put_byte;
 use text::put::put_bytes;
-use text::put::put_decimal;
-use text::put::wide;
-
-// A whole line by its form.
-pub fn say(out: &mut [u8], form: &[u8], a: usize, b: usize, c: usize) {
-    let v = [wide(a), wide(b), wide(c), 0];
-    let end = put_form(&mut *out, 0, form, v);
-    finish(&mut *out, end);
-}
+use text::put::put_form;
+use text::put::put_refused;
+use text::put::put_text;
 
 // The beginning of a line by its form.
-pub fn begin(out: &mut [u8], form: &[u8], a: usize, b: usize, c: usize) -> usize {
-    let v = [wide(a), wide(b), wide(c), 0];
-    put_form(out, 0, form, v)
+pub fn begin(form: &[u8], a: usize, b: usize, c: usize) -> Text {
+    put_form(empty(), form, [a, b, c, 0])
 }
 
-pub fn put_command(out: &mut [u8], at: usize, k: Command) -> usize {
+// A whole line by its form.
+pub fn say(form: &[u8], a: usize, b: usize, c: usize) {
+    finish(begin(form, a, b, c));
+}
+
+pub fn put_command(out: Text, k: Command) -> Text {
     let op = k.op;
-    let v = [from32(k.key), k.edit, 0, 0];
-    match op_number(op) {
-        0 => put_bytes(out, at, b"no-op"),
-        1 => put_form(out, at, b"read key #", v),
-        _ => put_form(out, at, b"write key # edit #", v),
+    let v = [wide32(k.key), size(k.edit), 0, 0];
+    match op {
+        Op::Noop => put_bytes(out, b"no-op"),
+        Op::Read => put_form(out, b"read key #", v),
+        Op::Write => put_form(out, b"write key # edit #", v),
     }
 }
 
-fn put_entry(out: &mut [u8], at: usize, n: usize, i: usize, x: u16) -> usize {
+fn put_entry(out: Text, n: usize, i: usize, x: usize) -> Text {
     if n <= i {
-        return at;
+        return out;
     }
     if i == 0 {
-        return put_decimal(out, at, from16(x));
+        return put_form(out, b"(#", [x, 0, 0, 0]);
     }
-    let next = put_byte(&mut *out, at, b',');
-    put_decimal(&mut *out, next, from16(x))
+    put_form(out, b",#", [x, 0, 0, 0])
 }
 
 // The entries of copies 0 to N-1, in brackets.
-pub fn put_deps(out: &mut [u8], at: usize, n: usize, deps: [u16; 7]) -> usize {
-    let mut next = put_byte(&mut *out, at, b'(');
+pub fn put_deps(out: Text, n: usize, deps: [u16; 7]) -> Text {
+    let mut next = out;
     for i in 0..7 {
-        next = put_entry(&mut *out, next, n, i, deps[i]);
+        next = put_entry(next, n, i, wide16(deps[i]));
     }
-    put_byte(&mut *out, next, b')')
+    put_byte(next, b')')
 }
 
 // A command and its dependencies.
-pub fn put_proposal(out: &mut [u8], at: usize, n: usize, k: Command, deps: [u16; 7]) -> usize {
-    let command = put_command(&mut *out, at, k);
-    let after = put_bytes(&mut *out, command, b" after ");
-    put_deps(&mut *out, after, n, deps)
+pub fn put_proposal(out: Text, n: usize, k: Command, deps: [u16; 7]) -> Text {
+    put_deps(put_bytes(put_command(out, k), b" after "), n, deps)
+}
+
+// A space, `refused`, the number and what it means.
+pub fn put_refusal(out: Text, why: Refusal) -> Text {
+    put_text(
+        put_refused(out, why),
+        b"|: the setup is not the table's\
+            |: there is no room for messages\
+            |: the message is not valid\
+            |: only reads and writes are requested\
+            |: all numbers of this copy are used\
+            |: there is no such instance\
+            |: its ballots are used up\
+            |: it is committed\
+            |: this copy is not leading it\
+            |: another command or order is committed\
+            |: the table is not sound",
+        wide32(number_of(why)),
+    )
 }

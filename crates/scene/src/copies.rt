@@ -14,10 +14,6 @@ fn with7(v: [usize; 7], i: usize, x: usize) -> [usize; 7] {
     w
 }
 
-pub fn no_scene() -> Scene {
-    begun(0, 0)
-}
-
 // A run of n blank copies: all are up, no cut awaits one, and nothing is on the way.
 pub fn begun(n: usize, s: usize) -> Scene {
     Scene {

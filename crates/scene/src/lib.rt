@@ -1,6 +1,6 @@
-// The copies of a run, each with a working table and a saved one, and the messages on the way between them.
+// The copies of a run, each with a working table and a saved one, and the messages on the way between them. Their bytes are
+// lent: the way first, then the working tables of seven copies, then their saved tables.
 pub mod copies;
-pub mod saved;
 pub mod tables;
 pub mod way;
 

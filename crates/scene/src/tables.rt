@@ -1,14 +1,22 @@
-// Fourteen areas of lent bytes: the working tables of seven copies, then their saved tables.
+// The tables of the copies: what each works on, and what it has saved and goes on with after a cut.
 use crate::Scene;
-use text::setup::table_length;
-use text::setup::times;
-ghost use Prim.Native.Nat.{_≤_};
+use crate::way::WAY;
+use table::record_part;
+use text::bytes::move_bytes;
+use text::bytes::part;
+use text::bytes::part_mut;
+use text::bytes::write;
+use record::places::LENGTH;
+use table::LONGEST;
+use table::length_of;
+use table::part_start;
 
-// Where an area starts; one past the fourteenth has no bytes, at the end of all.
-pub fn start_of(area: usize) -> usize
-    ensures { λ r. ⌜ r ≤ 1649578 ⌝ }
-{
-    if 13 < area { 1649578 } else { area * 117827 }
+// All lent bytes.
+pub const ALL: usize = WAY + 14 * LONGEST;
+
+// Where the table in an area starts; one past the fourteenth has no bytes, at the end of all.
+fn start_of(area: usize) -> usize {
+    if 13 < area { ALL } else { WAY + area * LONGEST }
 }
 
 // The area of a copy's saved table.
@@ -16,54 +24,78 @@ pub fn saved(c: usize) -> usize {
     if 6 < c { 14 } else { c + 7 }
 }
 
-pub fn length_of(w: Scene) -> usize
-    ensures { λ r. ⌜ r ≤ 9036611188683 ⌝ }
-{
-    table_length(w.n, w.s)
-}
-
 // The table in an area; empty where there is none.
 pub fn table_in(all: &[u8], w: Scene, area: usize) -> &[u8] {
-    let start = start_of(area);
-    let end = start + length_of(w);
-    if all.len() < end {
-        return &all[..0];
-    }
-    &all[start..end]
+    part(all, start_of(area), length_of(w.n, w.s))
 }
 
-// Where the record of o.j starts in its table, by the layout's rule.
-pub fn place_of(s: usize, o: usize, j: usize) -> usize
-    ensures { λ r. ⌜ r ≤ 10166187587005 ⌝ }
-{
-    if 8 < o {
-        return 0;
-    }
-    if j == 0 {
-        return 0;
-    }
-    if 4294967295 < j {
-        return 0;
-    }
-    if 4294967295 < s {
-        return 0;
-    }
-    3 + 263 * (times(o, s) + (j - 1))
-}
-
-fn blank(all: &mut [u8], w: Scene, area: usize, c: usize) {
-    let start = start_of(area);
-    let end = start + length_of(w);
-    if all.len() < end {
-        return;
-    }
-    table::blank_table(&mut all[start..end], w.n, w.s, c);
+pub fn table_mut(all: &mut [u8], w: Scene, area: usize) -> &mut [u8] {
+    part_mut(all, start_of(area), length_of(w.n, w.s))
 }
 
 // Blanks both tables of every copy.
 pub fn blank_all(all: &mut [u8], w: Scene) {
     for c in 0..7 {
-        blank(&mut *all, w, c, c);
-        blank(&mut *all, w, saved(c), c);
+        table::blank_table(table_mut(&mut *all, w, c), w.n, w.s, c);
+        table::blank_table(table_mut(&mut *all, w, saved(c)), w.n, w.s, c);
     }
+}
+
+fn differ(a: &[u8], b: &[u8]) -> bool {
+    let mut i = 0;
+    while i < a.len() {
+        if b.len() <= i {
+            return true;
+        }
+        if a[i] != b[i] {
+            return true;
+        }
+        i += 1;
+    }
+    false
+}
+
+// The record of o.j in a copy's working table is not the saved one.
+pub fn is_changed(all: &[u8], w: Scene, c: usize, o: usize, j: usize) -> bool {
+    let part = record_part(table_in(all, w, c), w.n, w.s, c, o, j);
+    let kept = record_part(table_in(all, w, saved(c)), w.n, w.s, c, o, j);
+    differ(part, kept)
+}
+
+// The record of o.j in a copy's working table, as it goes to the disk.
+fn on_disk(all: &[u8], w: Scene, c: usize, o: usize, j: usize) -> [u8; LENGTH] {
+    let mut disk = [0u8; LENGTH];
+    write(
+        &mut disk,
+        0,
+        record_part(table_in(all, w, c), w.n, w.s, c, o, j),
+    );
+    disk
+}
+
+// Saves the record of o.j: the part that the library hands back goes to its place in the saved table.
+pub fn save(all: &mut [u8], w: Scene, c: usize, o: usize, j: usize) {
+    let disk = on_disk(&*all, w, c, o, j);
+    let at = part_start(table_in(&*all, w, c), w.n, w.s, c, o, j);
+    if at == 0 {
+        return;
+    }
+    write(table_mut(all, w, saved(c)), at, &disk);
+}
+
+// The copy goes on with what it saved.
+pub fn restore(all: &mut [u8], w: Scene, c: usize) {
+    let from = start_of(saved(c));
+    let to = start_of(c);
+    let count = length_of(w.n, w.s);
+    if all.len() < from {
+        return;
+    }
+    if all.len() - from < count {
+        return;
+    }
+    if from < to {
+        return;
+    }
+    move_bytes(all, from, to, count);
 }

@@ -1,63 +1,83 @@
-// The messages on the way, oldest first, in places of 45 bytes: the length, the message's own number, its bytes.
+// The messages on the way, oldest first, each in a place of its own: the length, the message's number, its bytes.
 use crate::Scene;
 use nouns::logic::both;
 use nouns::logic::equal;
-use text::put::put_byte;
-use text::put::put_bytes;
-use text::words::low8;
+use text::bytes::byte_at;
+use text::bytes::low8;
+use text::bytes::move_bytes;
+use text::bytes::part;
+use text::bytes::part_mut;
+use text::bytes::write;
 ghost use Prim.Native.Nat.{_≤_};
 
 // How many messages can be on the way.
-pub const MOST: usize = 512;
+const MOST: usize = 512;
+
+// A place; no message is longer.
+const PLACE: usize = 64;
+
+const FRONT: usize = 3;
+
+// All places.
+pub const WAY: usize = MOST * PLACE;
 
 pub enum Found {
     At(usize),
     Nothing,
 }
 
+// A message in its bytes, and the number by which the run knows it.
+pub struct Parcel {
+    pub number: usize,
+    pub length: usize,
+    pub bytes: [u8; PLACE],
+}
+
 fn place(i: usize) -> usize
-    ensures { λ r. ⌜ r ≤ 23040 ⌝ }
+    ensures { λ r. ⌜ r ≤ 32768 ⌝ }
 {
-    if i < 512 { 45 * i } else { 23040 }
+    if i < MOST { PLACE * i } else { WAY }
 }
 
-fn wide(x: u8) -> usize
-    ensures { λ r. ⌜ r ≤ 255 ⌝ }
-{
-    x as usize
+// A message's bytes begin with its kind, the copy that it is from and the copy that it is for.
+pub fn from_of(b: &[u8]) -> usize {
+    byte_at(b, 1)
 }
 
-pub fn byte_at(b: &[u8], i: usize) -> usize
-    ensures { λ r. ⌜ r ≤ 255 ⌝ }
-{
-    if i < b.len() {
-        return wide(b[i]);
-    }
-    0
+pub fn to_of(b: &[u8]) -> usize {
+    byte_at(b, 2)
 }
 
 // The bytes of the message at a place of the way.
-pub fn message_at(way: &[u8], i: usize) -> &[u8] {
-    let from = place(i) + 3;
-    let end = from + byte_at(way, place(i));
-    if way.len() < end {
-        return &way[..0];
-    }
-    &way[from..end]
+pub fn message_at(all: &[u8], i: usize) -> &[u8] {
+    let at = place(i);
+    part(all, at + FRONT, byte_at(all, at))
 }
 
-// The number by which the run knows the message.
-pub fn number_at(way: &[u8], i: usize) -> usize {
-    byte_at(way, place(i) + 1) + 256 * byte_at(way, place(i) + 2)
+pub fn number_at(all: &[u8], i: usize) -> usize {
+    let at = place(i);
+    byte_at(all, at + 1) + 256 * byte_at(all, at + 2)
+}
+
+// The message at a place, held outside the way.
+pub fn parcel_at(all: &[u8], i: usize) -> Parcel {
+    let mut bytes = [0u8; PLACE];
+    let m = message_at(all, i);
+    write(&mut bytes, 0, m);
+    Parcel {
+        number: number_at(all, i),
+        length: m.len(),
+        bytes,
+    }
 }
 
 // The oldest message on the way from one copy to another.
-pub fn find(way: &[u8], w: Scene, from: usize, to: usize) -> Found {
+pub fn find(all: &[u8], w: Scene, from: usize, to: usize) -> Found {
     let waiting = w.waiting;
     let mut i = 0;
     while i < waiting {
-        let m = message_at(way, i);
-        if both(equal(byte_at(m, 1), from), equal(byte_at(m, 2), to)) {
+        let m = message_at(all, i);
+        if both(equal(from_of(m), from), equal(to_of(m), to)) {
             return Found::At(i);
         }
         i += 1;
@@ -69,47 +89,46 @@ pub fn is_full(w: Scene) -> bool {
     MOST <= w.waiting
 }
 
-// One more message is on the way, if there is a place for it.
-pub fn put_on(way: &mut [u8], w: Scene, b: &[u8]) -> Scene {
-    if is_full(w) {
-        return w;
-    }
-    let waiting = w.waiting;
-    let at = place(waiting);
-    let length = put_byte(&mut *way, at, low8(b.len()));
-    let low = put_byte(&mut *way, length, low8(w.sent));
-    let high = put_byte(&mut *way, low, low8(w.sent / 256));
-    put_bytes(&mut *way, high, b);
-    let mut next = w;
-    next.waiting = one_more(waiting);
-    next.sent = one_more(w.sent);
-    next
-}
-
 fn one_more(x: usize) -> usize {
     if x < 65535 { x + 1 } else { x }
 }
 
-// The messages from a place on move to the place before.
-fn close_up(way: &mut [u8], i: usize) {
-    let mut to = place(i);
-    let mut from = to + 45;
-    while from < way.len() {
-        way[to] = way[from];
-        to += 1;
-        from += 1;
-    }
+fn one_less(x: usize) -> usize {
+    if 0 < x { x - 1 } else { 0 }
 }
 
-// The message at a place is not on the way any more.
-pub fn take_off(way: &mut [u8], w: Scene, i: usize) -> Scene {
-    close_up(way, i);
+// One more message is on the way, if there is a place for it.
+pub fn put_on(all: &mut [u8], w: Scene, b: &[u8]) -> Scene {
+    if is_full(w) {
+        return w;
+    }
+    let at = place(w.waiting);
+    let front = [low8(b.len()), low8(w.sent), low8(w.sent / 256)];
+    write(&mut *all, at, &front);
+    write(part_mut(all, at + FRONT, PLACE - FRONT), 0, b);
     let mut next = w;
-    let waiting = w.waiting;
-    next.waiting = one_less(waiting);
+    next.waiting = one_more(w.waiting);
+    next.sent = one_more(w.sent);
     next
 }
 
-fn one_less(x: usize) -> usize {
-    if 0 < x { x - 1 } else { 0 }
+// The messages behind a place move to the place before.
+fn close_up(all: &mut [u8], i: usize) {
+    let to = place(i);
+    let from = to + PLACE;
+    if all.len() < WAY {
+        return;
+    }
+    if WAY < from {
+        return;
+    }
+    move_bytes(all, from, to, WAY - from);
+}
+
+// The message at a place is not on the way any more.
+pub fn take_off(all: &mut [u8], w: Scene, i: usize) -> Scene {
+    close_up(all, i);
+    let mut next = w;
+    next.waiting = one_less(w.waiting);
+    next
 }

@@ -9,7 +9,6 @@
 //     copy 1 is asked about 0.1 · copy 1 hands out · copy 1 hands out up to 2
 //     show · show copy 1
 // A line that begins with # is the story's text.
-pub mod at_copy;
 pub mod line;
 
 // An event at a copy; a message's bytes stand beside it.

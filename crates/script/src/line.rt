@@ -1,84 +1,110 @@
 // One line of a script as a step.
+use crate::Act;
+use crate::Event;
 use crate::Fate;
 use crate::Moment;
 use crate::Reason;
 use crate::Step;
-use crate::at_copy::at_copy;
-use forms::fits;
-use forms::which_form;
-use text::parts::which_word;
-use text::words::size;
+use nouns::command::op_number;
+use paper::Op;
+use text::bytes::low32;
+use text::forms::which_form;
+use text::put::wide;
+use nouns::setup::INSTANCES;
 
-fn copies(line: &[u8]) -> Step {
-    let mut v = [0u64; 4];
-    if fits(line, b"copies #, numbers #", &mut v) {
-        return Step::Copies {
-            n: size(v[0]),
-            s: size(v[1]),
-        };
+// A key is a u32.
+fn request(c: usize, op: Op, key: usize, edit: usize) -> Step {
+    if 4294967295 < key {
+        return Step::Bad(Reason::Copy);
     }
-    Step::Bad(Reason::Copies)
+    let what = Event::Request {
+        op: op_number(op),
+        key: low32(key),
+        edit: wide(edit),
+    };
+    let act = Act::Event(what);
+    Step::At(c, act)
 }
 
-fn way(from: u64, to: u64, fate: Fate) -> Step {
-    Step::Way {
-        from: size(from),
-        to: size(to),
-        fate,
+fn recover(c: usize, o: usize, j: usize) -> Step {
+    let act = Act::Event(Event::Recover { o, j });
+    Step::At(c, act)
+}
+
+fn nudge(c: usize, o: usize, j: usize) -> Step {
+    let act = Act::Event(Event::Nudge { o, j });
+    Step::At(c, act)
+}
+
+fn ask(c: usize, o: usize, j: usize) -> Step {
+    let act = Act::Ask { o, j };
+    Step::At(c, act)
+}
+
+fn hand_out(c: usize, room: usize) -> Step {
+    if INSTANCES < room {
+        return Step::Bad(Reason::Copy);
+    }
+    let act = Act::HandOut(room);
+    Step::At(c, act)
+}
+
+fn way(from: usize, to: usize, fate: Fate) -> Step {
+    Step::Way { from, to, fate }
+}
+
+// A copy is told to do something, by the place of the form below.
+fn at_copy(form: usize, c: usize, a: usize, b: usize) -> Step {
+    match form {
+        0 => request(c, Op::Write, a, b),
+        1 => request(c, Op::Read, a, 0),
+        2 => recover(c, a, b),
+        3 => nudge(c, a, b),
+        4 => ask(c, a, b),
+        5 => hand_out(c, INSTANCES),
+        _ => hand_out(c, a),
     }
 }
 
-fn deliver(line: &[u8]) -> Step {
-    let mut v = [0u64; 4];
-    match which_form(
+fn cut(c: usize, when: Moment) -> Step {
+    Step::Cut(c, when)
+}
+
+// A step by the place of its form below.
+fn step(line: &[u8], form: usize, a: usize, b: usize, c: usize) -> Step {
+    match form {
+        0 | 1 | 2 | 3 | 4 | 5 | 6 => at_copy(form, a, b, c),
+        7 => Step::All,
+        8 => way(a, b, Fate::Deliver),
+        9 => way(a, b, Fate::Drop),
+        10 => way(a, b, Fate::Repeat),
+        11 => cut(a, Moment::Saving),
+        12 => cut(a, Moment::Sending),
+        13 | 14 => cut(a, Moment::Marks(b)),
+        15 => cut(a, Moment::Now),
+        16 => Step::Restart(a),
+        17 => Step::Show,
+        18 => Step::ShowCopy(a),
+        19 => Step::Copies { n: a, s: b },
+        _ => Step::Bad(reason_of(line)),
+    }
+}
+
+// Why a line is no step, by its first word.
+fn reason_of(line: &[u8]) -> Reason {
+    let got = which_form(
         line,
-        b"deliver all|deliver # to #|drop # to #|repeat # to #",
-        &mut v,
-    ) {
-        0 => Step::All,
-        1 => way(v[0], v[1], Fate::Deliver),
-        2 => way(v[0], v[1], Fate::Drop),
-        3 => way(v[0], v[1], Fate::Repeat),
-        _ => Step::Bad(Reason::Way),
-    }
-}
-
-fn cut_at(c: u64, when: Moment) -> Step {
-    Step::Cut(size(c), when)
-}
-
-fn cut(line: &[u8]) -> Step {
-    let mut v = [0u64; 4];
-    match which_form(
-        line,
-        b"cut copy # before saving\
-            |cut copy # before sending\
-            |cut copy # after # marks\
-            |cut copy # after # mark",
-        &mut v,
-    ) {
-        0 => cut_at(v[0], Moment::Saving),
-        1 => cut_at(v[0], Moment::Sending),
-        2 | 3 => cut_at(v[0], Moment::Marks(size(v[1]))),
-        _ => Step::Bad(Reason::Cut),
-    }
-}
-
-fn stop(line: &[u8]) -> Step {
-    let mut v = [0u64; 4];
-    match which_form(line, b"stop copy #|restart copy #", &mut v) {
-        0 => cut_at(v[0], Moment::Now),
-        1 => Step::Restart(size(v[0])),
-        _ => Step::Bad(Reason::Restart),
-    }
-}
-
-fn show(line: &[u8]) -> Step {
-    let mut v = [0u64; 4];
-    match which_form(line, b"show|show copy #", &mut v) {
-        0 => Step::Show,
-        1 => Step::ShowCopy(size(v[0])),
-        _ => Step::Bad(Reason::Show),
+        b"copies*|copy*|deliver*|drop*|repeat*|cut*|stop*|restart*|show*",
+    );
+    let form = got.form;
+    match form {
+        0 => Reason::Copies,
+        1 => Reason::Copy,
+        2 | 3 | 4 => Reason::Way,
+        5 => Reason::Cut,
+        6 | 7 => Reason::Restart,
+        8 => Reason::Show,
+        _ => Reason::Word,
     }
 }
 
@@ -89,22 +115,32 @@ fn is_text(line: &[u8]) -> bool {
     line[0] == b'#'
 }
 
-// By the line's first word.
 pub fn step_of(line: &[u8]) -> Step {
     if is_text(line) {
         return Step::Text;
     }
-    match which_word(
+    let got = which_form(
         line,
-        0,
-        b"copies|copy|deliver|drop|repeat|cut|stop|restart|show",
-    ) {
-        0 => copies(line),
-        1 => at_copy(line),
-        2 | 3 | 4 => deliver(line),
-        5 => cut(line),
-        6 | 7 => stop(line),
-        8 => show(line),
-        _ => Step::Bad(Reason::Word),
-    }
+        b"copy # requests write key # edit #\
+            |copy # requests read key #\
+            |copy # recovers #.#\
+            |copy # nudges #.#\
+            |copy # is asked about #.#\
+            |copy # hands out\
+            |copy # hands out up to #\
+            |deliver all\
+            |deliver # to #\
+            |drop # to #\
+            |repeat # to #\
+            |cut copy # before saving\
+            |cut copy # before sending\
+            |cut copy # after # marks\
+            |cut copy # after # mark\
+            |stop copy #\
+            |restart copy #\
+            |show\
+            |show copy #\
+            |copies #, numbers #",
+    );
+    step(line, got.form, got.v[0], got.v[1], got.v[2])
 }

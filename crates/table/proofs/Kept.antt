@@ -19,7 +19,8 @@ use Rattle.paper.specs.Vote.{blank}
 use Rattle.paper.proofs.Laws.{and-true}
 use Rattle.paper.specs.declared.Record.{Record}
 use Rattle.record.specs.Layout.{recordLength, recordAt, recordBytes}
-use Rattle.record.specs.Part.{Bytes, soundPart}
+use Rattle.num.specs.Num.{Bytes}
+use Rattle.record.specs.Part.{soundPart}
 use Rattle.record.proofs.Round.{recordAt-recordBytes}
 use Rattle.record.proofs.Written.{Are, append, written-bytes, all-in, written-sound, blank-bytes}
 use Rattle.table.specs.Place.{headLength, tableLength, placeAt, placeOf, partAt}

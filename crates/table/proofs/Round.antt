@@ -17,7 +17,8 @@ use Rattle.paper.specs.Sound.{soundRecord}
 use Rattle.paper.proofs.Laws.{and-true, allBelow-at}
 use Rattle.paper.specs.declared.Record.{Record}
 use Rattle.record.specs.Layout.{recordAt, recordBytes, votesBytes}
-use Rattle.record.specs.Part.{Bytes, soundPart, opsFit}
+use Rattle.num.specs.Num.{Bytes}
+use Rattle.record.specs.Part.{soundPart, opsFit}
 use Rattle.record.proofs.Laws.{length-frontBytes, length-votesBytes}
 use Rattle.record.proofs.Round.{recordAt-recordBytes, recordBytes-recordAt}
 use Rattle.record.proofs.Written as written

@@ -10,7 +10,8 @@ use Rattle.paper.specs.Logic.{allBelow}
 use Rattle.paper.specs.Setup.{setupOk}
 use Rattle.paper.specs.declared.Record.{Record}
 use Rattle.record.specs.Layout.{recordLength, recordAt, recordBytes}
-use Rattle.record.specs.Part.{Bytes, idleOk, soundPart}
+use Rattle.num.specs.Num.{Bytes}
+use Rattle.record.specs.Part.{idleOk, soundPart}
 use Rattle.table.specs.Place.{tableLength, placeAt, placeOf, partAt}
 
 -- what refusal 1 asks

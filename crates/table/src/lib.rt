@@ -30,8 +30,8 @@ const COPY: usize = NUMBERS + 1;
 
 pub const HEAD: usize = COPY + 1;
 
-// A table of seven copies and 64 numbers.
-pub const LONGEST: usize = HEAD + LENGTH * (7 * 64);
+// The longest table.
+pub const LONGEST: usize = HEAD + LENGTH * nouns::setup::INSTANCES;
 
 pub enum Blanking {
     Blank,

@@ -1,8 +1,5 @@
-// What the programs over text share: words of a line, answers put into a line, lines of the input.
+// What the programs share: lines of the input, read by forms; answers put together; lent bytes.
 pub mod bytes;
+pub mod forms;
 pub mod lines;
-pub mod parts;
 pub mod put;
-pub mod refusals;
-pub mod setup;
-pub mod words;

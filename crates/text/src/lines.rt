@@ -1,5 +1,7 @@
 // Reads standard input a part at a time and finds its lines. A line is at most as long as the part.
+use crate::bytes::find;
 use crate::bytes::least;
+use crate::bytes::move_bytes;
 use nouns::logic::either;
 ghost use Prim.Native.Nat.{_≤_};
 ghost use lib.ListN.{length};
@@ -27,27 +29,12 @@ pub fn before_first() -> Line {
     }
 }
 
-// The end of the line that begins at a place of what is held.
-fn line_end(buf: &[u8], at: usize, held: usize) -> usize
-    requires { ⌜ (at ≤ held) × (held ≤ length (now buf)) ⌝ }
-    ensures { λ r. ⌜ (at ≤ r) × (r ≤ held) ⌝ }
-{
-    let mut i = at;
-    while i < held {
-        if buf[i] == b'\n' {
-            break;
-        }
-        i += 1;
-    }
-    i
-}
-
 // The line that begins at a place of what is held.
 fn line_at(buf: &[u8], at: usize, held: usize, last: bool) -> Line
     requires { ⌜ (at ≤ held) × (held ≤ length (now buf)) ⌝ }
     ensures { λ r. ⌜ (r .from ≤ r .end) × (r .end ≤ length (now (buf .entry))) ⌝ }
 {
-    let end = line_end(buf, at, held);
+    let end = find(buf, at, held, b'\n');
     Line {
         from: at,
         end,
@@ -58,41 +45,14 @@ fn line_at(buf: &[u8], at: usize, held: usize, last: bool) -> Line
     }
 }
 
-// Reads behind what is held; the end of what is held then.
-fn fill_up(buf: &mut [u8], held: usize) -> usize
-    ensures { λ r. ⌜ r ≤ length (now (buf .entry)) ⌝ }
-{
-    if buf.len() <= held {
-        return buf.len();
-    }
-    let n = io::read_full(0, &mut buf[held..]);
-    held + n
-}
-
-// Moves what stands between two places to the front; how much that is.
-fn keep(buf: &mut [u8], from: usize, end: usize) -> usize {
-    let mut i = 0;
-    let mut j = from;
-    while j < end {
-        if buf.len() <= j {
-            break;
-        }
-        if buf.len() <= i {
-            break;
-        }
-        buf[i] = buf[j];
-        i += 1;
-        j += 1;
-    }
-    i
-}
-
-// Reads on where the held part has no further line; a part that is not full is the last.
+// Reads on behind what is left of the held part, moved to the front. A part that is not full is the last.
 fn read_on(buf: &mut [u8], from: usize, held: usize) -> Line
+    requires { ⌜ (from ≤ held) × (held ≤ length (now buf)) ⌝ }
     ensures { λ r. ⌜ (r .from ≤ r .end) × (r .end ≤ length (now (buf .entry))) ⌝ }
 {
-    let kept = keep(&mut *buf, from, held);
-    let end = fill_up(&mut *buf, kept);
+    let left = held - from;
+    move_bytes(&mut *buf, from, 0, left);
+    let end = left + io::read_full(0, &mut buf[left..]);
     line_at(&*buf, 0, end, end < buf.len())
 }
 
@@ -107,4 +67,12 @@ pub fn next_line(buf: &mut [u8], old: Line) -> Line
         return line;
     }
     read_on(buf, at, held)
+}
+
+// The programs that play calls pass over an empty line, and one that is an answer.
+pub fn is_passed_over(line: &[u8]) -> bool {
+    if line.len() == 0 {
+        return true;
+    }
+    line[0] == b'='
 }

@@ -1,20 +1,39 @@
-// Puts text into a lent line. Each function gives the place after what it put; what has no place is dropped.
+// A line that is put together, by value: each function gives the line with more behind it. What has no place is dropped.
 use crate::bytes::front;
+use nouns::logic::both;
+use nouns::logic::wide32;
+use nouns::refusal::number_of;
+use paper::Refusal;
 
-pub fn put_byte(out: &mut [u8], at: usize, b: u8) -> usize {
-    if at < out.len() {
-        out[at] = b;
-        at + 1
-    } else {
-        at
+const ROOM: usize = 4096;
+
+pub struct Text {
+    pub length: usize,
+    pub bytes: [u8; ROOM],
+}
+
+pub fn empty() -> Text {
+    Text {
+        length: 0,
+        bytes: [0u8; ROOM],
     }
 }
 
-pub fn put_bytes(out: &mut [u8], at: usize, bytes: &[u8]) -> usize {
+pub fn put_byte(out: Text, b: u8) -> Text {
+    let mut next = out;
+    let at = out.length;
+    if at < ROOM {
+        next.bytes[at] = b;
+        next.length = at + 1;
+    }
+    next
+}
+
+pub fn put_bytes(out: Text, bytes: &[u8]) -> Text {
+    let mut next = out;
     let mut i = 0;
-    let mut next = at;
     while i < bytes.len() {
-        next = put_byte(&mut *out, next, bytes[i]);
+        next = put_byte(next, bytes[i]);
         i += 1;
     }
     next
@@ -24,81 +43,110 @@ pub fn wide(x: usize) -> u64 {
     x as u64
 }
 
-pub fn from16(x: u16) -> u64 {
-    x as u64
-}
-
-pub fn from32(x: u32) -> u64 {
-    x as u64
-}
-
-pub fn put_decimal(out: &mut [u8], at: usize, n: u64) -> usize {
+fn put_decimal(out: Text, n: usize) -> Text {
     let mut digits = [0u8; 20];
-    let k = io::decimal(n, &mut digits);
-    put_bytes(out, at, &digits[..k])
+    let k = io::decimal(wide(n), &mut digits);
+    put_bytes(out, &digits[..k])
 }
 
 // A space and a number.
-pub fn put_number(out: &mut [u8], at: usize, n: u64) -> usize {
-    let next = put_byte(&mut *out, at, b' ');
-    put_decimal(&mut *out, next, n)
+pub fn put_number(out: Text, n: usize) -> Text {
+    put_decimal(put_byte(out, b' '), n)
 }
 
-pub fn put_size(out: &mut [u8], at: usize, n: usize) -> usize {
-    put_number(out, at, wide(n))
+fn number_at(v: [usize; 4], k: usize) -> usize {
+    if k < 4 { v[k] } else { 0 }
+}
+
+// How many marks were met, with one more byte.
+fn marks(k: usize, b: u8, mark: u8) -> usize {
+    if b != mark {
+        return k;
+    }
+    if k < 255 { k + 1 } else { k }
+}
+
+fn put_one(out: Text, b: u8, n: usize) -> Text {
+    if b == b'#' {
+        put_decimal(out, n)
+    } else {
+        put_byte(out, b)
+    }
+}
+
+// Puts a form: a text in which each '#' stands for the next of these numbers.
+pub fn put_form(out: Text, form: &[u8], v: [usize; 4]) -> Text {
+    let mut next = out;
+    let mut k = 0;
+    let mut i = 0;
+    while i < form.len() {
+        let b = form[i];
+        next = put_one(next, b, number_at(v, k));
+        k = marks(k, b, b'#');
+        i += 1;
+    }
+    next
+}
+
+fn put_where(out: Text, told: bool, b: u8) -> Text {
+    if told { put_byte(out, b) } else { out }
+}
+
+// Puts text k, from 0 on, of several with a bar between two of them.
+pub fn put_text(out: Text, texts: &[u8], k: usize) -> Text {
+    let mut next = out;
+    let mut at = 0;
+    let mut i = 0;
+    while i < texts.len() {
+        let b = texts[i];
+        next = put_where(next, both(at == k, b != b'|'), b);
+        at = marks(at, b, b'|');
+        i += 1;
+    }
+    next
 }
 
 fn hex_digit(x: u8) -> u8 {
     if x < 10 { 48 + x } else { 87 + x % 16 }
 }
 
-fn put_pair(out: &mut [u8], at: usize, b: u8) -> usize {
-    let next = put_byte(&mut *out, at, hex_digit(b / 16));
-    put_byte(&mut *out, next, hex_digit(b % 16))
+fn put_pair(out: Text, b: u8) -> Text {
+    put_byte(put_byte(out, hex_digit(b / 16)), hex_digit(b % 16))
 }
 
-fn put_pairs(out: &mut [u8], at: usize, bytes: &[u8]) -> usize {
+fn put_pairs(out: Text, bytes: &[u8]) -> Text {
+    let mut next = out;
     let mut i = 0;
-    let mut next = at;
     while i < bytes.len() {
-        next = put_pair(&mut *out, next, bytes[i]);
+        next = put_pair(next, bytes[i]);
         i += 1;
     }
     next
 }
 
-// A space and bytes in hex, `-` for none.
-pub fn put_hex(out: &mut [u8], at: usize, bytes: &[u8]) -> usize {
-    let next = put_byte(&mut *out, at, b' ');
+// A space and the first k bytes of a room in hex, `-` for none.
+pub fn put_hex(out: Text, room: &[u8], k: usize) -> Text {
+    let bytes = front(room, k);
+    let next = put_byte(out, b' ');
     if bytes.len() == 0 {
-        return put_byte(&mut *out, next, b'-');
+        return put_byte(next, b'-');
     }
-    put_pairs(&mut *out, next, bytes)
+    put_pairs(next, bytes)
 }
 
-// The first k bytes of a room, in hex; all of it where k is more.
-pub fn put_front(out: &mut [u8], at: usize, room: &[u8], k: usize) -> usize {
-    put_hex(out, at, front(room, k))
-}
-
-fn send(out: &[u8], n: usize) {
-    if n <= out.len() {
-        io::write_all(1, &out[..n]);
-    }
-}
-
-// Writes the answer line out, with its end.
-pub fn finish(out: &mut [u8], at: usize) {
-    let n = put_byte(&mut *out, at, b'\n');
-    send(&*out, n);
-}
-
-pub fn bad_line(out: &mut [u8]) -> usize {
-    put_bytes(out, 0, b"= bad line")
+// A space, `refused` and the paper's number of the refusal.
+pub fn put_refused(out: Text, why: Refusal) -> Text {
+    put_number(put_bytes(out, b" refused"), wide32(number_of(why)))
 }
 
 // The answer to a line that is not understood.
-pub fn say_bad(out: &mut [u8]) {
-    let n = bad_line(&mut *out);
-    finish(&mut *out, n);
+pub fn bad_line() -> Text {
+    put_bytes(empty(), b"= bad line")
+}
+
+// Writes the line out, with its end.
+pub fn finish(out: Text) {
+    let line = put_byte(out, b'\n');
+    let bytes = line.bytes;
+    io::write_all(1, front(&bytes, line.length));
 }

@@ -5,7 +5,7 @@ use mathlib.Core.Bool.{Bool, true, false, _&&_}
 use Rattle.paper.specs.Logic.{implies}
 use Rattle.paper.specs.Vote.{votedBelow, noneIsBlank, voteOk}
 use Rattle.paper.specs.Message.{rowIn, voteIn, joinedIn}
-use Rattle.paper.specs.Valid.{fromRange, toRange, ownerRange, numberRange, ballotRange, recoveryBallot, toHere, fromAnother, fromLead, toLead, freshOp, joinedRange, joinedAbove, depsCarried, valid}
+use Rattle.paper.specs.Valid.{fromRange, toRange, ownerRange, numberRange, ballotRange, toHere, fromAnother, fromLead, freshOp, joinedRange, joinedAbove, depsCarried, valid}
 use Rattle.paper.specs.Deps.{noDeps, sameDeps}
 use Rattle.paper.specs.declared.Vote.{Vote}
 use Rattle.paper.specs.declared.Row.{Row}

@@ -18,7 +18,7 @@ use Rattle.paper.specs.Command.{noop}
 use Rattle.paper.specs.Deps.{noDeps, sameDeps}
 use Rattle.paper.specs.Setup.{setupOk}
 use Rattle.paper.specs.Fits.{DepsFit, CarriedFits, MessageFits}
-use Rattle.paper.specs.Message.{rowOf, rowIn, partsOf, partsIn, kindOf, carriedIn, bodyOf, kept}
+use Rattle.paper.specs.Message.{rowIn, partsOf, partsIn, kindOf, carriedIn, bodyOf, kept}
 use Rattle.paper.specs.Valid.{valid, depsCarried}
 use Rattle.paper.proofs.Laws.{and-true, sameDeps-eq}
 use Rattle.paper.proofs.Bodies.{kind-small, kind-known, body-is, kind-is, carried-is, carried-kept, kept-kept}
@@ -30,7 +30,7 @@ use Rattle.wire.specs.declared.Reading.the-variants as reading
 use Rattle.wire.specs.declared.Writing.the-variants as writing
 use Rattle.wire.specs.Wire.{headWidths, toldWidths, joinedWidths, headNumbers, past, commandPlace, depsPlace, joinedPlace, endPlace, lengthOf, part, toldBytes, joinedBytes, headBytes, restBytes, messageBytes, kindAt, carriedAt, besideAt, bodyAt, messageAt, framed, opAt, opFits, validBytes}
 use Rattle.wire.specs.Calls.{received, Wrote, wrote}
-use Rattle.wire.proofs.Laws.{past-over, told-room, command-room, deps-room, joined-room, begins, ten, long-enough, Framed, framed-is, length-headBytes, told-ends, command-ends, deps-ends, length-messageBytes, received-ok, wrote-ok}
+use Rattle.wire.proofs.Laws.{past-over, told-room, command-room, deps-room, joined-room, ten, long-enough, Framed, framed-is, length-headBytes, told-ends, command-ends, deps-ends, length-messageBytes, received-ok, wrote-ok}
 
 -- each number fits its field
 headNumbers-fit : (m : Message) → MessageFits m → FieldsFit headWidths (headNumbers m)

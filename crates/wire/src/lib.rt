@@ -26,29 +26,7 @@ ghost use Rattle.num.specs.Num.{numAt, splice};
 ghost use Rattle.codec.specs.Parts.{commandAt, commandBytes, depsBytes};
 ghost use Rattle.paper.specs.Command.{noop};
 ghost use Rattle.paper.specs.Message.{bodyOf, noMessage};
-ghost use Rattle.wire.specs.Wire.{
-  headLength,
-  toldWidths,
-  joinedWidths,
-  commandPlace,
-  depsPlace,
-  joinedPlace,
-  endPlace,
-  lengthOf,
-  kindAt,
-  carriedAt,
-  besideAt,
-  messageAt,
-  framed,
-  opAt,
-  opFits,
-  toldBytes,
-  joinedBytes,
-  part,
-  headBytes,
-  restBytes,
-  messageBytes,
-};
+ghost use Rattle.wire.specs.Wire.{headLength, commandPlace, depsPlace, joinedPlace, endPlace, lengthOf, kindAt, carriedAt, besideAt, messageAt, framed, opAt, opFits, toldBytes, joinedBytes, part, headBytes, restBytes, messageBytes};
 ghost use Rattle.wire.specs.Calls.{unread, received, wrote};
 
 // How many bytes the head takes, and each part of the rest.

@@ -3,7 +3,7 @@ use native.Mathlib.Omega.{arith}
 use borrow.Author.Tests.{not-true, not-false}
 use Rattle.paper.specs.declared.Refusal.the-variants as why
 use Rattle.table.proofs.Laws.{sizes, names}
-use Rattle.record.specs.Part.{Bytes}
+use Rattle.num.specs.Num.{Bytes}
 use Rattle.rules.specs.Nudge.{nothingToNudge}
 use Rattle.log.proofs.Calls.{three, met, refused, acted-is}
 use Rattle.nudge.proofs.Laws.{nudge-6, nudge-9, nudge-ok, nudge-room, nudge-step}

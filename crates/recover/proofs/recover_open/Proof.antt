@@ -4,7 +4,7 @@ use borrow.Author.Tests.{not-true, not-false, le-leb, lt-leb}
 use Rattle.paper.specs.declared.Refusal.the-variants as why
 use Rattle.rules.specs.Step.{isCommitted}
 use Rattle.table.proofs.Laws.{sizes, names}
-use Rattle.record.specs.Part.{Bytes}
+use Rattle.num.specs.Num.{Bytes}
 use Rattle.rules.specs.Recover.{outOfBallots}
 use Rattle.log.proofs.Calls.{met, refused, acted-is}
 use Rattle.recover.proofs.Laws.{recover-6, recover-8, recover-7, recover-ok, recover-room, recover-step}

@@ -4,13 +4,12 @@ use mathlib.Core.Path.{_≡_}
 use lib.ListN.{length}
 use Rattle.course.proofs.ask.save_marks.Statement.{statement}
 use Rattle.course.proofs.ask.save_marks.Tie as tie
-use Rattle.course.proofs.ask.hand_one.Reads as hand-one-reads
 
 abbrev Inv-loop : tie.InvT-loop
-Inv-loop all₀ w c list count out₀ i₀ all out i = (length all ≡ length all₀) × (length out ≡ length out₀)
+Inv-loop all₀ w c list count i₀ all i = length all ≡ length all₀
 
 abbrev μ-loop : tie.MeasureT-loop
-μ-loop all₀ w c list count out₀ i₀ all out i = length list - i
+μ-loop all₀ w c list count i₀ all i = length list - i
 
 loop-holds : tie.Need-loop-holds Inv-loop μ-loop
 loop-holds c = search needs
@@ -36,17 +35,11 @@ loop-again c = search needs
 same-length : tie.Need-same-length Inv-loop μ-loop
 same-length c = search needs
 
-same-length-2 : tie.Need-same-length-2 Inv-loop μ-loop
-same-length-2 c = search needs
-
 returns : tie.Need-returns Inv-loop μ-loop
 returns c = search needs
 
-same-length-3 : tie.Need-same-length-3 Inv-loop μ-loop
-same-length-3 c = search needs
-
-same-length-4 : tie.Need-same-length-4 Inv-loop μ-loop
-same-length-4 c = search needs
+same-length-2 : tie.Need-same-length-2 Inv-loop μ-loop
+same-length-2 c = search needs
 
 returns-2 : tie.Need-returns-2 Inv-loop μ-loop
 returns-2 c = search needs
@@ -65,8 +58,6 @@ save-marks-spec =
     loop-less
     loop-again
     same-length
-    same-length-2
     returns
-    same-length-3
-    same-length-4
+    same-length-2
     returns-2)

@@ -5,10 +5,10 @@ use Rattle.course.proofs.deliver.deliver_all.Statement.{statement}
 use Rattle.course.proofs.deliver.deliver_all.Tie as tie
 
 abbrev Inv-loop : tie.InvT-loop
-Inv-loop all₀ way₀ out₀ turn₀ left₀ all way out turn left = (length all ≡ length all₀) × (length way ≡ length way₀) × (length out ≡ length out₀)
+Inv-loop all₀ turn₀ left₀ all turn left = length all ≡ length all₀
 
 abbrev μ-loop : tie.MeasureT-loop
-μ-loop all₀ way₀ out₀ turn₀ left₀ all way out turn left = left
+μ-loop all₀ turn₀ left₀ all turn left = left
 
 went-requires : tie.Need-went-requires Inv-loop μ-loop
 went-requires c κs = search needs
@@ -19,26 +19,14 @@ loop-holds c = search needs
 same-length : tie.Need-same-length Inv-loop μ-loop
 same-length c = search needs
 
-same-length-2 : tie.Need-same-length-2 Inv-loop μ-loop
-same-length-2 c = search needs
-
-same-length-3 : tie.Need-same-length-3 Inv-loop μ-loop
-same-length-3 c = search needs
-
 returns : tie.Need-returns Inv-loop μ-loop
 returns c = search needs
 
 deliver-at-requires : tie.Need-deliver-at-requires Inv-loop μ-loop
 deliver-at-requires c κs = search needs
 
-same-length-4 : tie.Need-same-length-4 Inv-loop μ-loop
-same-length-4 c = search needs
-
-same-length-5 : tie.Need-same-length-5 Inv-loop μ-loop
-same-length-5 c = search needs
-
-same-length-6 : tie.Need-same-length-6 Inv-loop μ-loop
-same-length-6 c = search needs
+same-length-2 : tie.Need-same-length-2 Inv-loop μ-loop
+same-length-2 c = search needs
 
 returns-2 : tie.Need-returns-2 Inv-loop μ-loop
 returns-2 c = search needs
@@ -55,14 +43,8 @@ loop-again c = search needs
 halted-requires : tie.Need-halted-requires Inv-loop μ-loop
 halted-requires c κs = search needs
 
-same-length-7 : tie.Need-same-length-7 Inv-loop μ-loop
-same-length-7 c = search needs
-
-same-length-8 : tie.Need-same-length-8 Inv-loop μ-loop
-same-length-8 c = search needs
-
-same-length-9 : tie.Need-same-length-9 Inv-loop μ-loop
-same-length-9 c = search needs
+same-length-3 : tie.Need-same-length-3 Inv-loop μ-loop
+same-length-3 c = search needs
 
 returns-3 : tie.Need-returns-3 Inv-loop μ-loop
 returns-3 c = search needs
@@ -76,19 +58,13 @@ deliver-all-spec =
     went-requires
     loop-holds
     same-length
-    same-length-2
-    same-length-3
     returns
     deliver-at-requires
-    same-length-4
-    same-length-5
-    same-length-6
+    same-length-2
     returns-2
     sub-left
     loop-less
     loop-again
     halted-requires
-    same-length-7
-    same-length-8
-    same-length-9
+    same-length-3
     returns-3)

@@ -6,10 +6,10 @@ use Rattle.course.proofs.work.send_all.Statement.{statement}
 use Rattle.course.proofs.work.send_all.Tie as tie
 
 abbrev Inv-loop : tie.InvT-loop
-Inv-loop way₀ room written out₀ now₀ at₀ way out now at = (length way ≡ length way₀) × (length out ≡ length out₀)
+Inv-loop all₀ room written now₀ at₀ all now at = length all ≡ length all₀
 
 abbrev μ-loop : tie.MeasureT-loop
-μ-loop way₀ room written out₀ now₀ at₀ way out now at = written - at
+μ-loop all₀ room written now₀ at₀ all now at = written - at
 
 loop-holds : tie.Need-loop-holds Inv-loop μ-loop
 loop-holds c = search needs
@@ -31,9 +31,6 @@ halted-requires c κs = search needs
 
 same-length : tie.Need-same-length Inv-loop μ-loop
 same-length c = search needs
-
-same-length-2 : tie.Need-same-length-2 Inv-loop μ-loop
-same-length-2 c = search needs
 
 returns : tie.Need-returns Inv-loop μ-loop
 returns c = search needs
@@ -62,11 +59,8 @@ loop-again c = search needs
 went-requires : tie.Need-went-requires Inv-loop μ-loop
 went-requires c κs = search needs
 
-same-length-3 : tie.Need-same-length-3 Inv-loop μ-loop
-same-length-3 c = search needs
-
-same-length-4 : tie.Need-same-length-4 Inv-loop μ-loop
-same-length-4 c = search needs
+same-length-2 : tie.Need-same-length-2 Inv-loop μ-loop
+same-length-2 c = search needs
 
 returns-2 : tie.Need-returns-2 Inv-loop μ-loop
 returns-2 c = search needs
@@ -84,7 +78,6 @@ send-all-spec =
     is-full-requires
     halted-requires
     same-length
-    same-length-2
     returns
     add-end
     sub-send-one
@@ -94,6 +87,5 @@ send-all-spec =
     loop-less
     loop-again
     went-requires
-    same-length-3
-    same-length-4
+    same-length-2
     returns-2)

@@ -6,28 +6,16 @@ use Rattle.draw.proofs.input.pass.Statement.{statement}
 use Rattle.draw.proofs.input.pass.Tie as tie
 
 abbrev Inv-loop : tie.InvT-loop
-Inv-loop text v₀ out₀ q₀ at₀ v out q at = (length v ≡ length v₀) × (length out ≡ length out₀)
+Inv-loop text v₀ q₀ at₀ v q at = length v ≡ length v₀
 
 abbrev μ-loop : tie.MeasureT-loop
-μ-loop text v₀ out₀ q₀ at₀ v out q at = length text - at
+μ-loop text v₀ q₀ at₀ v q at = length text - at
 
 loop-holds : tie.Need-loop-holds Inv-loop μ-loop
 loop-holds c = search needs
 
-line-end-requires : tie.Need-line-end-requires Inv-loop μ-loop
-line-end-requires c κs = search needs
-
-sub-sight-of : tie.Need-sub-sight-of Inv-loop μ-loop
-sub-sight-of c = search needs
-
-part-sight-of-start : tie.Need-part-sight-of-start Inv-loop μ-loop
-part-sight-of-start c = search needs
-
-part-sight-of-end : tie.Need-part-sight-of-end Inv-loop μ-loop
-part-sight-of-end c = search needs
-
-sight-of-requires : tie.Need-sight-of-requires Inv-loop μ-loop
-sight-of-requires c κs = search needs
+find-requires : tie.Need-find-requires Inv-loop μ-loop
+find-requires c κs = search needs
 
 sub-see : tie.Need-sub-see Inv-loop μ-loop
 sub-see c = search needs
@@ -53,9 +41,6 @@ loop-again c = search needs
 same-length : tie.Need-same-length Inv-loop μ-loop
 same-length c = search needs
 
-same-length-2 : tie.Need-same-length-2 Inv-loop μ-loop
-same-length-2 c = search needs
-
 returns : tie.Need-returns Inv-loop μ-loop
 returns c = search needs
 
@@ -66,11 +51,7 @@ pass-spec =
     Inv-loop
     μ-loop
     loop-holds
-    line-end-requires
-    sub-sight-of
-    part-sight-of-start
-    part-sight-of-end
-    sight-of-requires
+    find-requires
     sub-see
     part-see-start
     part-see-end
@@ -79,5 +60,4 @@ pass-spec =
     loop-less
     loop-again
     same-length
-    same-length-2
     returns)

@@ -1,12 +1,10 @@
 use borrow.Author.Needs.{needs}
 use Prim.Native.Nat.{_-_, _≤_}
-use mathlib.Core.Path.{_≡_}
-use lib.ListN.{length}
 use Rattle.replay.proofs.messages.deps_of.Statement.{statement}
 use Rattle.replay.proofs.messages.deps_of.Tie as tie
 
 abbrev Inv-loop : tie.InvT-loop
-Inv-loop v deps₀ i₀ deps i = (i ≤ 7) × (length deps ≡ 7)
+Inv-loop v deps₀ i₀ deps i = i ≤ 7
 
 abbrev μ-loop : tie.MeasureT-loop
 μ-loop v deps₀ i₀ deps i = 7 - i

@@ -4,10 +4,10 @@ use Rattle.replay.proofs.messages.fit.Statement.{statement}
 use Rattle.replay.proofs.messages.fit.Tie as tie
 
 abbrev Inv-loop : tie.InvT-loop
-Inv-loop v i₀ i = i ≤ 20
+Inv-loop v i₀ i = i ≤ 24
 
 abbrev μ-loop : tie.MeasureT-loop
-μ-loop v i₀ i = 20 - i
+μ-loop v i₀ i = 24 - i
 
 loop-holds : tie.Need-loop-holds Inv-loop μ-loop
 loop-holds c = search needs

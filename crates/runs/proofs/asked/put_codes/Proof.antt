@@ -1,15 +1,17 @@
 use borrow.Author.Needs.{needs}
 use Prim.Native.Nat.{_-_}
-use mathlib.Core.Path.{_≡_}
 use lib.ListN.{length}
 use Rattle.runs.proofs.asked.put_codes.Statement.{statement}
 use Rattle.runs.proofs.asked.put_codes.Tie as tie
 
 abbrev Inv-loop : tie.InvT-loop
-Inv-loop out₀ list k next₀ i₀ out next i = length out ≡ length out₀
+Inv-loop list k next₀ i₀ next i = Unit {0}
 
 abbrev μ-loop : tie.MeasureT-loop
-μ-loop out₀ list k next₀ i₀ out next i = length list - i
+μ-loop list k next₀ i₀ next i = length list - i
+
+empty-requires : tie.Need-empty-requires Inv-loop μ-loop
+empty-requires c κs = search needs
 
 slice-aggregate-put-bytes : tie.Need-slice-aggregate-put-bytes Inv-loop μ-loop
 slice-aggregate-put-bytes c = search needs
@@ -20,14 +22,17 @@ put-bytes-requires c κs = search needs
 loop-holds : tie.Need-loop-holds Inv-loop μ-loop
 loop-holds c = search needs
 
-mul-put-code : tie.Need-mul-put-code Inv-loop μ-loop
-mul-put-code c = search needs
+mul-wide16 : tie.Need-mul-wide16 Inv-loop μ-loop
+mul-wide16 c = search needs
 
-shared-slice-read-put-code : tie.Need-shared-slice-read-put-code Inv-loop μ-loop
-shared-slice-read-put-code c = search needs
+shared-slice-read-wide16 : tie.Need-shared-slice-read-wide16 Inv-loop μ-loop
+shared-slice-read-wide16 c = search needs
 
-put-code-requires : tie.Need-put-code-requires Inv-loop μ-loop
-put-code-requires c κs = search needs
+wide16-requires : tie.Need-wide16-requires Inv-loop μ-loop
+wide16-requires c κs = search needs
+
+put-number-requires : tie.Need-put-number-requires Inv-loop μ-loop
+put-number-requires c κs = search needs
 
 add-i : tie.Need-add-i Inv-loop μ-loop
 add-i c = search needs
@@ -38,14 +43,8 @@ loop-less c = search needs
 loop-again : tie.Need-loop-again Inv-loop μ-loop
 loop-again c = search needs
 
-same-length : tie.Need-same-length Inv-loop μ-loop
-same-length c = search needs
-
 returns : tie.Need-returns Inv-loop μ-loop
 returns c = search needs
-
-same-length-2 : tie.Need-same-length-2 Inv-loop μ-loop
-same-length-2 c = search needs
 
 returns-2 : tie.Need-returns-2 Inv-loop μ-loop
 returns-2 c = search needs
@@ -56,16 +55,16 @@ put-codes-spec =
     (tie.spec
     Inv-loop
     μ-loop
+    empty-requires
     slice-aggregate-put-bytes
     put-bytes-requires
     loop-holds
-    mul-put-code
-    shared-slice-read-put-code
-    put-code-requires
+    mul-wide16
+    shared-slice-read-wide16
+    wide16-requires
+    put-number-requires
     add-i
     loop-less
     loop-again
-    same-length
     returns
-    same-length-2
     returns-2)

@@ -1,27 +1,25 @@
 use borrow.Author.Needs.{needs}
 use Prim.Native.Nat.{_-_, _≤_}
-use mathlib.Core.Path.{_≡_}
-use lib.ListN.{length}
 use Rattle.say.proofs.value.put_deps.Statement.{statement}
 use Rattle.say.proofs.value.put_deps.Tie as tie
 
 abbrev Inv-loop : tie.InvT-loop
-Inv-loop out₀ at n deps next₀ i₀ out next i = (length out ≡ length out₀) × (i ≤ 7)
+Inv-loop n deps next₀ i₀ next i = i ≤ 7
 
 abbrev μ-loop : tie.MeasureT-loop
-μ-loop out₀ at n deps next₀ i₀ out next i = 7 - i
-
-put-byte-requires : tie.Need-put-byte-requires Inv-loop μ-loop
-put-byte-requires c κs = search needs
+μ-loop n deps next₀ i₀ next i = 7 - i
 
 loop-holds : tie.Need-loop-holds Inv-loop μ-loop
 loop-holds c = search needs
 
-mul-put-entry : tie.Need-mul-put-entry Inv-loop μ-loop
-mul-put-entry c = search needs
+mul-wide16 : tie.Need-mul-wide16 Inv-loop μ-loop
+mul-wide16 c = search needs
 
-array-read-put-entry : tie.Need-array-read-put-entry Inv-loop μ-loop
-array-read-put-entry c = search needs
+array-read-wide16 : tie.Need-array-read-wide16 Inv-loop μ-loop
+array-read-wide16 c = search needs
+
+wide16-requires : tie.Need-wide16-requires Inv-loop μ-loop
+wide16-requires c κs = search needs
 
 put-entry-requires : tie.Need-put-entry-requires Inv-loop μ-loop
 put-entry-requires c κs = search needs
@@ -35,11 +33,8 @@ loop-less c = search needs
 loop-again : tie.Need-loop-again Inv-loop μ-loop
 loop-again c = search needs
 
-put-byte-requires-2 : tie.Need-put-byte-requires-2 Inv-loop μ-loop
-put-byte-requires-2 c κs = search needs
-
-same-length : tie.Need-same-length Inv-loop μ-loop
-same-length c = search needs
+put-byte-requires : tie.Need-put-byte-requires Inv-loop μ-loop
+put-byte-requires c κs = search needs
 
 returns : tie.Need-returns Inv-loop μ-loop
 returns c = search needs
@@ -50,14 +45,13 @@ put-deps-spec =
     (tie.spec
     Inv-loop
     μ-loop
-    put-byte-requires
     loop-holds
-    mul-put-entry
-    array-read-put-entry
+    mul-wide16
+    array-read-wide16
+    wide16-requires
     put-entry-requires
     add-i
     loop-less
     loop-again
-    put-byte-requires-2
-    same-length
+    put-byte-requires
     returns)

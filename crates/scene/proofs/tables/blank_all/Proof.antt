@@ -14,14 +14,20 @@ abbrev μ-loop : tie.MeasureT-loop
 loop-holds : tie.Need-loop-holds Inv-loop μ-loop
 loop-holds c = search needs
 
-blank-requires : tie.Need-blank-requires Inv-loop μ-loop
-blank-requires c κs = search needs
+table-mut-requires : tie.Need-table-mut-requires Inv-loop μ-loop
+table-mut-requires c κs = search needs
+
+blank-table-requires : tie.Need-blank-table-requires Inv-loop μ-loop
+blank-table-requires c κs = search needs
 
 saved-requires : tie.Need-saved-requires Inv-loop μ-loop
 saved-requires c κs = search needs
 
-blank-requires-2 : tie.Need-blank-requires-2 Inv-loop μ-loop
-blank-requires-2 c κs = search needs
+table-mut-requires-2 : tie.Need-table-mut-requires-2 Inv-loop μ-loop
+table-mut-requires-2 c κs = search needs
+
+blank-table-requires-2 : tie.Need-blank-table-requires-2 Inv-loop μ-loop
+blank-table-requires-2 c κs = search needs
 
 add-c : tie.Need-add-c Inv-loop μ-loop
 add-c c = search needs
@@ -45,9 +51,11 @@ blank-all-spec =
     Inv-loop
     μ-loop
     loop-holds
-    blank-requires
+    table-mut-requires
+    blank-table-requires
     saved-requires
-    blank-requires-2
+    table-mut-requires-2
+    blank-table-requires-2
     add-c
     loop-less
     loop-again

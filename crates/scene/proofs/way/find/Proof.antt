@@ -4,10 +4,10 @@ use Rattle.scene.proofs.way.find.Statement.{statement}
 use Rattle.scene.proofs.way.find.Tie as tie
 
 abbrev Inv-loop : tie.InvT-loop
-Inv-loop way from to waiting i₀ i = Unit {0}
+Inv-loop all from to waiting i₀ i = Unit {0}
 
 abbrev μ-loop : tie.MeasureT-loop
-μ-loop way from to waiting i₀ i = waiting - i
+μ-loop all from to waiting i₀ i = waiting - i
 
 loop-holds : tie.Need-loop-holds Inv-loop μ-loop
 loop-holds c = search needs
@@ -15,14 +15,14 @@ loop-holds c = search needs
 message-at-requires : tie.Need-message-at-requires Inv-loop μ-loop
 message-at-requires c κs = search needs
 
-byte-at-requires : tie.Need-byte-at-requires Inv-loop μ-loop
-byte-at-requires c κs = search needs
+from-of-requires : tie.Need-from-of-requires Inv-loop μ-loop
+from-of-requires c κs = search needs
 
 equal-requires : tie.Need-equal-requires Inv-loop μ-loop
 equal-requires c κs = search needs
 
-byte-at-requires-2 : tie.Need-byte-at-requires-2 Inv-loop μ-loop
-byte-at-requires-2 c κs = search needs
+to-of-requires : tie.Need-to-of-requires Inv-loop μ-loop
+to-of-requires c κs = search needs
 
 equal-requires-2 : tie.Need-equal-requires-2 Inv-loop μ-loop
 equal-requires-2 c κs = search needs
@@ -53,9 +53,9 @@ find-spec =
     μ-loop
     loop-holds
     message-at-requires
-    byte-at-requires
+    from-of-requires
     equal-requires
-    byte-at-requires-2
+    to-of-requires
     equal-requires-2
     both-requires
     returns

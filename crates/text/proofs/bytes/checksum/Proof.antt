@@ -1,11 +1,11 @@
 use borrow.Author.Needs.{needs}
-use Prim.Native.Nat.{_-_, _≤_}
+use Prim.Native.Nat.{_-_}
 use lib.ListN.{length}
 use Rattle.text.proofs.bytes.checksum.Statement.{statement}
 use Rattle.text.proofs.bytes.checksum.Tie as tie
 
 abbrev Inv-loop : tie.InvT-loop
-Inv-loop t h₀ i₀ h i = i ≤ length t
+Inv-loop t h₀ i₀ h i = Unit {0}
 
 abbrev μ-loop : tie.MeasureT-loop
 μ-loop t h₀ i₀ h i = length t - i
@@ -28,6 +28,9 @@ loop-less c = search needs
 loop-again : tie.Need-loop-again Inv-loop μ-loop
 loop-again c = search needs
 
+size-requires : tie.Need-size-requires Inv-loop μ-loop
+size-requires c κs = search needs
+
 returns : tie.Need-returns Inv-loop μ-loop
 returns c = search needs
 
@@ -43,4 +46,5 @@ checksum-spec =
     add-i
     loop-less
     loop-again
+    size-requires
     returns)
