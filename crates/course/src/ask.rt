@@ -1,8 +1,11 @@
 // The settled question and the hand-out at a copy.
 use crate::turn::Turn;
 use crate::turn::went;
+use nouns::setup::INSTANCES;
 use order::Handing;
 use order::Settling;
+use order::codes::number_of;
+use order::codes::owner_of;
 use paper::Command;
 use paper::Refusal;
 use say::value::begin;
@@ -16,9 +19,6 @@ use scene::tables::save;
 use scene::tables::table_in;
 use scene::tables::table_mut;
 use text::put::finish;
-use nouns::setup::INSTANCES;
-use order::codes::number_of;
-use order::codes::owner_of;
 
 fn say_settled(c: usize, o: usize, j: usize, k: Command) {
     finish(put_command(begin(b"  copy #: #.# is settled: ", c, o, j), k));

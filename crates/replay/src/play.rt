@@ -1,6 +1,7 @@
 // Plays the lines of the input: the setup, or a call and its answer.
 use crate::messages;
 use crate::tables;
+use table::LONGEST;
 use text::forms::Read;
 use text::forms::which_form;
 use text::lines::before_first;
@@ -9,7 +10,6 @@ use text::lines::next_line;
 use text::put::Text;
 use text::put::bad_line;
 use text::put::finish;
-use table::LONGEST;
 
 // The setup of the calls that follow, and the copy of a call.
 pub struct Setup {

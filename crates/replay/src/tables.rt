@@ -4,6 +4,7 @@ use nouns::logic::both;
 use nouns::logic::either;
 use table::Blanking;
 use table::Judging;
+use table::part_start;
 use text::bytes::behind;
 use text::bytes::checksum;
 use text::bytes::fill;
@@ -18,7 +19,6 @@ use text::put::empty;
 use text::put::put_bytes;
 use text::put::put_number;
 use text::put::put_refused;
-use table::part_start;
 
 // Byte i is i modulo 251.
 fn count_up(t: &mut [u8]) {

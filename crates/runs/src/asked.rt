@@ -4,6 +4,7 @@ use crate::told::Told;
 use nouns::command::op_number;
 use nouns::logic::wide16;
 use nouns::logic::wide32;
+use nouns::setup::INSTANCES;
 use order::Handing;
 use order::Settling;
 use paper::Command;
@@ -14,7 +15,6 @@ use text::put::empty;
 use text::put::put_bytes;
 use text::put::put_form;
 use text::put::put_number;
-use nouns::setup::INSTANCES;
 
 fn put_settled(k: Command) -> Text {
     let op = k.op;

@@ -5,6 +5,7 @@ use crate::told::Told;
 use crate::told::at_copy;
 use crate::told::begun;
 use crate::told::way;
+use table::LONGEST;
 use text::bytes::checksum;
 use text::bytes::fill;
 use text::bytes::front;
@@ -21,7 +22,6 @@ use text::put::Text;
 use text::put::bad_line;
 use text::put::finish;
 use text::put::put_number;
-use table::LONGEST;
 
 // Seven areas, one for each copy's table.
 const AREAS: usize = 7 * LONGEST;

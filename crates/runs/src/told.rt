@@ -1,6 +1,6 @@
 // How the calls that follow are made.
-use text::forms::Read;
 use table::length_of;
+use text::forms::Read;
 
 // The setup and, where `other` says so, the copy number that calls name; the length that is lent of a table; the room;
 // whether answers end with checksums.

@@ -5,12 +5,12 @@ use nouns::logic::wide32;
 use nouns::vote::is_member;
 use paper::Record;
 use paper::Vote;
+use record::places::LENGTH;
 use text::put::Text;
 use text::put::put_bytes;
 use text::put::put_form;
 use text::put::put_number;
 use text::put::put_text;
-use record::places::LENGTH;
 
 fn put_member(out: Text, q: usize, set: u8) -> Text {
     if 6 < q {

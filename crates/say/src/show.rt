@@ -12,9 +12,9 @@ use scene::way::from_of;
 use scene::way::message_at;
 use scene::way::number_at;
 use scene::way::to_of;
+use table::HEAD;
 use table::record_part;
 use text::put::finish;
-use table::HEAD;
 
 fn show_record(t: &[u8], w: Scene, c: usize, o: usize, j: usize) {
     let part = record_part(t, w.n, w.s, c, o, j);

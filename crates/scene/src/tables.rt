@@ -1,15 +1,15 @@
 // The tables of the copies: what each works on, and what it has saved and goes on with after a cut.
 use crate::Scene;
 use crate::way::WAY;
+use record::places::LENGTH;
+use table::LONGEST;
+use table::length_of;
+use table::part_start;
 use table::record_part;
 use text::bytes::move_bytes;
 use text::bytes::part;
 use text::bytes::part_mut;
 use text::bytes::write;
-use record::places::LENGTH;
-use table::LONGEST;
-use table::length_of;
-use table::part_start;
 
 // All lent bytes.
 pub const ALL: usize = WAY + 14 * LONGEST;

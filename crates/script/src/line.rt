@@ -6,11 +6,11 @@ use crate::Moment;
 use crate::Reason;
 use crate::Step;
 use nouns::command::op_number;
+use nouns::setup::INSTANCES;
 use paper::Op;
 use text::bytes::low32;
 use text::forms::which_form;
 use text::put::wide;
-use nouns::setup::INSTANCES;
 
 // A key is a u32.
 fn request(c: usize, op: Op, key: usize, edit: usize) -> Step {
