@@ -4,18 +4,18 @@ use nouns::logic::both;
 use nouns::logic::equal;
 use nouns::logic::wide8;
 use nouns::logic::wide32;
-use nouns::setup::faults_of;
-use nouns::vote::count_of;
-use nouns::vote::is_member;
-use nouns::vote::no_op;
+use nouns::setup::faults;
+use nouns::vote::count;
+use nouns::vote::member;
+use nouns::vote::noop;
 use paper::Command;
 use paper::Record;
 use paper::Vote;
 use rules::Step;
 use sets::bits_of;
-use sets::lowest_in;
-use step::accepting::accepting_with;
-use step::afresh::afresh_with;
+use sets::lowest;
+use step::accepting::accepting;
+use step::afresh::afresh;
 use step::made::replies_of;
 ghost use mathlib.Core.Path.{_≡_};
 ghost use mathlib.Core.Bool.{_&&_, cond};
@@ -42,7 +42,7 @@ fn votes(q: usize, set: u8, v: Vote) -> bool
     requires { ⌜ q < 8 ⌝ }
     ensures { λ x. ⌜ x ≡ (member q set && leb 1 (v .status)) ⌝ }
 {
-    both(is_member(q, set), at_most(1, wide8(v.status)))
+    both(member(q, set), at_most(1, wide8(v.status)))
 }
 
 fn larger32(a: u32, b: u32) -> u32
@@ -160,8 +160,8 @@ fn maybe_fast(n: usize, o: usize, r: Record) -> bool
     requires { ⌜ (3 ≤ n) × (o < 7) ⌝ }
     ensures { λ x. ⌜ x ≡ maybeFast n o r ⌝ }
 {
-    let first = both(equal(wide32(top_voted(r)), 0), !is_member(o, r.set));
-    both(first, at_most(faults_of(n), count_of(same_voters(r))))
+    let first = both(equal(wide32(top_voted(r)), 0), !member(o, r.set));
+    both(first, at_most(faults(n), count(same_voters(r))))
 }
 
 // The command that is pre-accepted afresh, if that is what is decided.
@@ -169,12 +169,12 @@ pub fn afresh_command(r: Record) -> Command
     ensures { λ x. ⌜ x ≡ afreshCommand r ⌝ }
 {
     if voters(r) == 0 {
-        return no_op();
+        return noop();
     }
-    let q = lowest_in(top_voters(r));
+    let q = lowest(top_voters(r));
     let vs = replies_of(r);
     if 7 <= q {
-        return no_op();
+        return noop();
     }
     let v = vs[q];
     v.command
@@ -190,24 +190,24 @@ fn accepted_from(n: usize, o: usize, r: Record) -> usize
     }
     let accepters = top_accepters(r);
     if accepters != 0 {
-        return lowest_in(accepters);
+        return lowest(accepters);
     }
     if maybe_fast(n, o, r) {
-        return lowest_in(same_voters(r));
+        return lowest(same_voters(r));
     }
     7
 }
 
 // At F+1 replies, own included.
-pub fn has_quorum(n: usize, r: Record) -> bool
+pub fn quorum(n: usize, r: Record) -> bool
     requires { ⌜ (3 ≤ n) × (n ≤ 7) ⌝ }
     ensures { λ x. ⌜ x ≡ quorum n r ⌝ }
 {
-    at_most(faults_of(n) + 1, count_of(r.set))
+    at_most(faults(n) + 1, count(r.set))
 }
 
 // seen: Seen of the command that is pre-accepted afresh.
-pub fn decide_on(n: usize, c: u8, o: u8, j: u16, r: Record, seen: [u16; 7]) -> Step
+pub fn decide(n: usize, c: u8, o: u8, j: u16, r: Record, seen: [u16; 7]) -> Step
     requires { ⌜ (3 ≤ n) × (o < 7) ⌝ }
     ensures { λ x. ⌜ x ≡ decide n c o j r seen ⌝ }
 {
@@ -217,7 +217,7 @@ pub fn decide_on(n: usize, c: u8, o: u8, j: u16, r: Record, seen: [u16; 7]) -> S
         let v = vs[q];
         let command = v.command;
         let deps = v.deps;
-        return accepting_with(n, c, o, j, r, command, deps);
+        return accepting(n, c, o, j, r, command, deps);
     }
-    afresh_with(n, c, o, j, r, afresh_command(r), seen)
+    afresh(n, c, o, j, r, afresh_command(r), seen)
 }

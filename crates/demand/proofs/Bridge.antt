@@ -29,7 +29,7 @@ use Rattle.log.specs.Events as log
 use Rattle.log.proofs.Calls.{setup-of}
 use Rattle.log.proofs.Held.{out-short}
 use Rattle.order.specs.declared.Handing.the-variants.{Codes}
-use Rattle.order.specs.Calls.{settled, markIn, handed}
+use Rattle.order.specs.Calls.{settled, markedIn, handed}
 use Rattle.safety.specs.Run.{Instance, Happening, answered, Setup, replaced}
 use Rattle.safety.specs.Run as rules
 use Rattle.demand.specs.Run.{Copy, savedTable, State, begun, Start, blanks, Call, request, receive, recover, nudge, outcome, Possible, recorded, written, saveOf, stored, acted, handing, marking, restarted, changed, remembered, Move, event, leave, handOut, question, cut, Run, stay, further}
@@ -229,7 +229,7 @@ module _ (n s : ℕ) (setup : Setup n s) where
         let o : ℕ = m .owner in
         let j : ℕ = m .number in
         let z : rules.State = rules.marked y c o j in
-        let disk : savedTable (marking n s c k code rest) ≡ markIn s t o j =
+        let disk : savedTable (marking n s c k code rest) ≡ markedIn s t o j =
         ap₂ (λ (p i : ℕ). stored s t (saveOf n s c (k .lent) p i)) (m .is-owner) (m .is-number) ∙ m .saved in
         record {
           copies = one-copy z (x .copies) c (marking n s c k code rest)

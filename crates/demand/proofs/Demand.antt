@@ -94,7 +94,7 @@ module _ (n s : ℕ) (setup : Setup n s) where
 
   asked-fine : (c : ℕ) (t out : List ℕ) (v : Command) → Fine (asked n s c t out v)
   unfolding asked
-  asked-fine c t out v = or-else (ltb s (requestNumber s c (recordsIn s t))) why.Full t out _ refl (done t out _ _ _)
+  asked-fine c t out v = or-else (ltb s (requestNumber s c (recordsIn s t))) why.NoBlank t out _ refl (done t out _ _ _)
 
   request-fine : (c : ℕ) (t out : List ℕ) → Kept n s c t → (op key edit : ℕ) → Fine (log.requested n s c t out op key edit)
   unfolding requestOpen
@@ -110,17 +110,17 @@ module _ (n s : ℕ) (setup : Setup n s) where
       let r : Record = recordIn s t (messageAt b .owner) (messageAt b .number) in
       rw (gate-is n s c t out (receiveOpen n s c t out b) k, receive-open n s c t out b (setup-of n s c t (k .setup)))
       (or-else (ltb (length out) 256) why.Room t out _ refl
-      (or-else (not (validBytes n s c b)) why.Message t out _ refl (or-else (refused10 r (messageAt b)) why.Differs t out _ refl (done t out _ _ _))))
+      (or-else (not (validBytes n s c b)) why.Message t out _ refl (or-else (refused10 r (messageAt b)) why.OtherCommit t out _ refl (done t out _ _ _))))
   open-fine c t out k (recover o j) =
       let r : Record = recordIn s t o j in
       rw (gate-is n s c t out (recoverOpen n s c t out o j) k)
       (or-else (ltb (length out) 256) why.Room t out _ refl
       (or-else (not (instanceOk n s o j)) why.Instance t out _ refl
-      (or-else (isCommitted r) why.Committed t out _ refl (or-else (outOfBallots r) why.Ballots t out _ refl (done t out _ _ _)))))
+      (or-else (isCommitted r) why.RecoverCommitted t out _ refl (or-else (outOfBallots r) why.BallotsUsedUp t out _ refl (done t out _ _ _)))))
   open-fine c t out k (nudge o j) =
       rw (gate-is n s c t out (nudgeOpen n s c t out o j) k)
       (or-else (ltb (length out) 256) why.Room t out _ refl
-      (or-else (not (instanceOk n s o j)) why.Instance t out _ refl (or-else (nothingToNudge (recordIn s t o j)) why.Idle t out _ refl (done t out _ _ _))))
+      (or-else (not (instanceOk n s o j)) why.Instance t out _ refl (or-else (nothingToNudge (recordIn s t o j)) why.NudgeIdle t out _ refl (done t out _ _ _))))
 
   question-fine : (c : ℕ) (t : List ℕ) → Kept n s c t → (o j : ℕ) → Other (settlingNumber (settled n s c t o j))
   unfolding settled settledOpen

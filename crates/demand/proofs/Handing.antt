@@ -24,7 +24,7 @@ use Rattle.seen.specs.Records.{recordsIn}
 use Rattle.closed.specs.Held.{Held}
 use Rattle.closed.proofs.Laws.{two, three, tf}
 use Rattle.closed.proofs.Mark.{marked-held, Found, candidate-committed, nextOut-found}
-use Rattle.order.specs.Calls.{markIn, handedTable, handedCodes, handedOpen, handed}
+use Rattle.order.specs.Calls.{markedIn, handedTable, handedCodes, handedOpen, handed}
 use Rattle.order.specs.declared.Handing.{Handing}
 use Rattle.order.specs.declared.Handing.the-variants.{Codes}
 use Rattle.order.specs.declared.Handing.the-variants as handing
@@ -41,42 +41,42 @@ module _ (n s c : ℕ) (t : List ℕ) (k : Kept n s c t) (o j : ℕ) (f : Found 
   mark-held : Held n s c o (marked (recordIn s t o j))
   mark-held = marked-held n s c o (recordIn s t o j) (held n s c t k o j (f .0)) (candidate-committed n s (recordsIn s t) o j (f .0) (f .1))
 
-  pub mark-kept : Kept n s c (markIn s t o j)
-  unfolding markIn
+  pub mark-kept : Kept n s c (markedIn s t o j)
+  unfolding markedIn
   mark-kept = put-held n s c t k o j (f .0) (marked (recordIn s t o j)) mark-held
 
-  pub mark-records : records n s (markIn s t o j) ≡ mark (records n s t) o j
-  unfolding markIn
+  pub mark-records : records n s (markedIn s t o j) ≡ mark (records n s t) o j
+  unfolding markedIn
   mark-records =
       put-records n s c t k o j (f .0) (marked (recordIn s t o j)) mark-held
       ∙ ap (λ (r : Record). put (records n s t) o j (marked r)) (sym (at-range n s t o j (f .0)))
 
-  mark-alike : Alike n s (mark (recordsIn s t) o j) (recordsIn s (markIn s t o j))
+  mark-alike : Alike n s (mark (recordsIn s t) o j) (recordsIn s (markedIn s t o j))
   unfolding put
   mark-alike p i z =
-      let a : recordIn s (markIn s t o j) p i ≡ mark (records n s t) o j p i = sym (at-range n s (markIn s t o j) p i z) ∙ ap (λ (u : Records). u p i) mark-records in
+      let a : recordIn s (markedIn s t o j) p i ≡ mark (records n s t) o j p i = sym (at-range n s (markedIn s t o j) p i z) ∙ ap (λ (u : Records). u p i) mark-records in
       sym (a ∙ rw (at-range n s t o j (f .0), at-range n s t p i z))
 
-  mark-here : recordIn s (markIn s t o j) o j ≡ marked (recordIn s t o j)
-  unfolding markIn
+  mark-here : recordIn s (markedIn s t o j) o j ≡ marked (recordIn s t o j)
+  unfolding markedIn
   mark-here = put-here n s c t k o j (f .0) (marked (recordIn s t o j)) mark-held
 
   -- what was marked before is another instance, and its record stays
-  mark-frame : (p i : ℕ) → instanceOk n s p i ≡ true → isMarked (recordIn s t p i) ≡ true → recordIn s (markIn s t o j) p i ≡ recordIn s t p i
-  unfolding markIn candidate
+  mark-frame : (p i : ℕ) → instanceOk n s p i ≡ true → isMarked (recordIn s t p i) ≡ true → recordIn s (markedIn s t o j) p i ≡ recordIn s t p i
+  unfolding markedIn candidate
   mark-frame p i z m =
       put-other n s c t k o j (f .0) (marked (recordIn s t o j)) mark-held p i z
       (λ (x, y). let u : isMarked (recordIn s t o j) ≡ true = rw (x, y) m in tf _ u (not-true _ (three (isSettled n s (recordsIn s t) o j) (not (isMarked (recordIn s t o j))) _ (f .1) .1)))
 
   -- the hand-out goes on from there
-  pub next-table : (room : ℕ) → nextOut n s (recordsIn s t) ≡ At o j → handedTable (suc room) n s t ≡ handedTable room n s (markIn s t o j)
+  pub next-table : (room : ℕ) → nextOut n s (recordsIn s t) ≡ At o j → handedTable (suc room) n s t ≡ handedTable room n s (markedIn s t o j)
   unfolding handedTable
   next-table room e = rw e
 
-  pub next-codes : (room : ℕ) → nextOut n s (recordsIn s t) ≡ At o j → handedCodes (suc room) n s t ≡ codeOf o j ∷ handedCodes room n s (markIn s t o j)
+  pub next-codes : (room : ℕ) → nextOut n s (recordsIn s t) ≡ At o j → handedCodes (suc room) n s t ≡ codeOf o j ∷ handedCodes room n s (markedIn s t o j)
   unfolding handedCodes handOut
   next-codes room e =
-      rw e (ap (λ (l : List ℕ). codeOf o j ∷ l) (out-alike n s room (mark (recordsIn s t) o j) (recordsIn s (markIn s t o j)) mark-alike))
+      rw e (ap (λ (l : List ℕ). codeOf o j ∷ l) (out-alike n s room (mark (recordsIn s t) o j) (recordsIn s (markedIn s t o j)) mark-alike))
 
 -- it leaves a sound table, and the record of what is marked already
 pub record Left (n s c : ℕ) (t u : List ℕ) : Type 0 where
@@ -89,27 +89,27 @@ left zero n s c t k = record { kept = k; frame = λ p i z m. refl }
 left (suc room) n s c t k = go (nextOut n s (recordsIn s t)) (nextOut-found n s (recordsIn s t)) (λ u h. left room n s c u h)
   where
     go : (f : First) → Found n s (candidate n s (recordsIn s t)) f → ((u : List ℕ) → Kept n s c u → Left n s c u (handedTable room n s u))
-        → Left n s c t (found f t (λ o j. handedTable room n s (markIn s t o j)))
+        → Left n s c t (found f t (λ o j. handedTable room n s (markedIn s t o j)))
     go Nowhere f more = record { kept = k; frame = λ p i z m. refl }
     go (At o j) f more =
-        let h = more (markIn s t o j) (mark-kept n s c t k o j f) in
+        let h = more (markedIn s t o j) (mark-kept n s c t k o j f) in
         record {
           kept = h .kept;
           frame = λ p i z m.
               let e = mark-frame n s c t k o j f p i z m in
-              let v : isMarked (recordIn s (markIn s t o j) p i) ≡ true = rw e m in
+              let v : isMarked (recordIn s (markedIn s t o j) p i) ≡ true = rw e m in
               h .frame p i z v ∙ e;
         }
 
 -- it leaves every vote
 module _ (n s : ℕ) where
   mark-vote : (c : ℕ) (t : List ℕ) (k : Kept n s c t) (p q : ℕ) → Found n s (candidate n s (recordsIn s t)) (At p q) → (o j : ℕ) → instanceOk n s o j ≡ true
-      → recordIn s (markIn s t p q) o j .vote ≡ recordIn s t o j .vote
+      → recordIn s (markedIn s t p q) o j .vote ≡ recordIn s t o j .vote
   unfolding put
   mark-vote c t k p q f o j i =
       let u : Records = records n s t in
-      let a : recordIn s (markIn s t p q) o j ≡ cond (eqb o p && eqb j q) (marked (u p q)) (u o j) =
-      sym (at-range n s (markIn s t p q) o j i) ∙ ap (λ (v : Records). v o j) (mark-records n s c t k p q f) in
+      let a : recordIn s (markedIn s t p q) o j ≡ cond (eqb o p && eqb j q) (marked (u p q)) (u o j) =
+      sym (at-range n s (markedIn s t p q) o j i) ∙ ap (λ (v : Records). v o j) (mark-records n s c t k p q f) in
       ap (λ (r : Record). r .vote) a ∙ go u (eqb o p && eqb j q) refl ∙ ap (λ (r : Record). r .vote) (at-range n s t o j i)
     where
       go : (u : Records) (b : Bool) → (eqb o p && eqb j q) ≡ b → (cond b (marked (u p q)) (u o j)) .vote ≡ u o j .vote
@@ -123,16 +123,16 @@ module _ (n s : ℕ) where
     where
       go : (f : First) → Found n s (candidate n s (recordsIn s t)) f
           → ((u : List ℕ) → Kept n s c u → recordIn s (handedTable room n s u) o j .vote ≡ recordIn s u o j .vote)
-          → recordIn s (found f t (λ p q. handedTable room n s (markIn s t p q))) o j .vote ≡ recordIn s t o j .vote
+          → recordIn s (found f t (λ p q. handedTable room n s (markedIn s t p q))) o j .vote ≡ recordIn s t o j .vote
       go Nowhere f more = refl
-      go (At p q) f more = more (markIn s t p q) (mark-kept n s c t k p q f) ∙ mark-vote c t k p q f o j i
+      go (At p q) f more = more (markedIn s t p q) (mark-kept n s c t k p q f) ∙ mark-vote c t k p q f o j i
 
 -- the first mark of a hand-out, saved, is one mark of the saved table
 pub save-mark : (n s c : ℕ) (t : List ℕ) (k : Kept n s c t) (o j : ℕ) (f : Found n s (candidate n s (recordsIn s t)) (At o j)) (room : ℕ)
-    → nextOut n s (recordsIn s t) ≡ At o j → stored s t (saveOf n s c (handedTable (suc room) n s t) o j) ≡ markIn s t o j
-unfolding markIn
+    → nextOut n s (recordsIn s t) ≡ At o j → stored s t (saveOf n s c (handedTable (suc room) n s t) o j) ≡ markedIn s t o j
+unfolding markedIn
 save-mark n s c t k o j f room e =
-    let u : List ℕ = markIn s t o j in
+    let u : List ℕ = markedIn s t o j in
     let l = left room n s c u (mark-kept n s c t k o j f) in
     let here : recordIn s u o j ≡ marked (recordIn s t o j) = mark-here n s c t k o j f in
     let r : recordIn s (handedTable room n s u) o j ≡ marked (recordIn s t o j) = l .frame o j (f .0) (ap isMarked here) ∙ here in
@@ -158,7 +158,7 @@ unfolding handedTable handedCodes handOut
 all-saved n s t u l p e = go (p .room) (p .table) (sym e ∙ p .codes)
   where
     by : (room : ℕ) (f : First) → [] ≡ found f [] (λ o j. codeOf o j ∷ handOut room n s (mark (recordsIn s t) o j))
-        → found f t (λ o j. handedTable room n s (markIn s t o j)) ≡ t
+        → found f t (λ o j. handedTable room n s (markedIn s t o j)) ≡ t
     by room Nowhere z = refl
     by room (At o j) z = empty z
 
@@ -204,8 +204,8 @@ pub record Marked (n s c : ℕ) (t u : List ℕ) (code : ℕ) (rest : List ℕ) 
   pub next : nextOut n s (recordsIn s t) ≡ At owner number
   pub is-owner : instanceOf code .0 ≡ owner
   pub is-number : instanceOf code .1 ≡ number
-  pub saved : stored s t (saveOf n s c u owner number) ≡ markIn s t owner number
-  pub pending : Pending n s (markIn s t owner number) u rest
+  pub saved : stored s t (saveOf n s c u owner number) ≡ markedIn s t owner number
+  pub pending : Pending n s (markedIn s t owner number) u rest
 
 pub marked-next : (n s c : ℕ) (t u : List ℕ) (code : ℕ) (rest l : List ℕ) → Kept n s c t → Pending n s t u l → l ≡ code ∷ rest → Marked n s c t u code rest
 unfolding handedCodes handOut
@@ -215,7 +215,7 @@ marked-next n s c t u code rest l k p e = by (p .room) (p .table) (sym e ∙ p .
         → code ∷ rest ≡ handedCodes (suc room) n s t → Marked n s c t u code rest
     found-here room Nowhere g f x y = empty (sym (y ∙ rw g))
     found-here room (At o j) g f x y =
-        let z : code ∷ rest ≡ codeOf o j ∷ handedCodes room n s (markIn s t o j) = y ∙ next-codes n s c t k o j f room g in
+        let z : code ∷ rest ≡ codeOf o j ∷ handedCodes room n s (markedIn s t o j) = y ∙ next-codes n s c t k o j f room g in
         let q : code ≡ codeOf o j = ap (λ (l : List ℕ). getD l 0 0) z in
         let small : j < 256 = let a = names n s c t o j (k .setup) (f .0) in omega (arith, a .last, a .numbers) in
         record {

@@ -24,14 +24,14 @@ use Rattle.demand.proofs.Range.{SameVotes, open-alike}
 use Rattle.demand.proofs.Handing.{sound-judged}
 
 -- an answer of the settled call, as the rules have it: on a sound table only an instance out of range is refused
-abbrev pub told : Settling → rules.Settling
-told (Settled k) = rules.settled k
-told (Waits o j) = rules.waits o j
-told (Refused r) = rules.unknown
+abbrev pub answerOf : Settling → rules.Settling
+answerOf (Settled k) = rules.settled k
+answerOf (Waits o j) = rules.waits o j
+answerOf (Refused r) = rules.unknown
 
 abbrev pub heard : Happening Settling → Happening rules.Settling
 heard (requested o j k) = requested o j k
-heard (answered c o j a) = answered c o j (told a)
+heard (answered c o j a) = answered c o j (answerOf a)
 
 -- it is recorded at both alike
 pub recorded-heard : (l : List (Happening Settling)) (o j : ℕ) (call : Call) → recorded (map heard l) o j call ≡ map heard (recorded l o j call)
@@ -61,16 +61,16 @@ requested-heard (h ∷ l) o j k (List·Memᴰ·tail m) = List·Memᴰ·tail (req
 
 -- the call answers what the rules answer, from any table with the same votes
 pub settled-heard : (n s c : ℕ) (t : List ℕ) (u : Records) → Kept n s c t → SameVotes n s (recordsIn s t) u → (o j : ℕ)
-    → told (settled n s c t o j) ≡ rules.settling n s u o j
+    → answerOf (settled n s c t o j) ≡ rules.settling n s u o j
 unfolding settled settledOpen
 settled-heard n s c t u k same o j = rw (sound-judged n s c t k) (go (instanceOk n s o j) refl)
   where
-    by : (f : First) (a b : Command) → a ≡ b → told (found f (Settled a) Waits) ≡ found f (rules.settled b) rules.waits
+    by : (f : First) (a b : Command) → a ≡ b → answerOf (found f (Settled a) Waits) ≡ found f (rules.settled b) rules.waits
     by Nowhere a b e = ap rules.settled e
     by (At p i) a b e = refl
 
     go : (b : Bool) → instanceOk n s o j ≡ b
-        → told (cond (not b) (Refused why.Instance) (found (firstOpen n s (recordsIn s t) o j) (Settled (recordIn s t o j .vote .command)) Waits))
+        → answerOf (cond (not b) (Refused why.Instance) (found (firstOpen n s (recordsIn s t) o j) (Settled (recordIn s t o j .vote .command)) Waits))
         ≡ cond b (found (firstOpen n s u o j) (rules.settled (u o j .vote .command)) rules.waits) rules.unknown
     go false e = refl
     go true e =

@@ -146,7 +146,7 @@ module _ (n s c : ℕ) (t out : List ℕ) (k : Kept n s c t) (copy : c < n) (y :
       let j : ℕ = requestNumber s c (recordsIn s t) in
       let x : Step = onRequest n s c (recordsIn s t) v in
       let a = past _ why.Room t out _ _ (gate-is n s c t out (asked n s c t out v) k) h in
-      let d = past (ltb s j) why.Full t out (asked n s c t out v) (acted s t out c j x) refl (a .answered) in
+      let d = past (ltb s j) why.NoBlank t out (asked n s c t out v) (acted s t out c j x) refl (a .answered) in
       let small : j ≤ s = ltb-false s j (d .test) in
       let num : requestNumber s c (y .tables c) ≡ j = ap (requestNumber s c) at ∙ sym (number-alike n s (recordsIn s t) (records n s t) (alike n s t) c copy) in
       let same : onRequest n s c (y .tables c) v ≡ x = ap (λ (u : Records). onRequest n s c u v) at ∙ sym (request-alike n s (recordsIn s t) (records n s t) (alike n s t) c copy v) in
@@ -165,7 +165,7 @@ module _ (n s c : ℕ) (t out : List ℕ) (k : Kept n s c t) (copy : c < n) (y :
       let x : Step = onMessage n s c (recordsIn s t) m in
       let a = past _ why.Room t out _ _ (gate-is n s c t out (receiveOpen n s c t out b) k) h in
       let d = past (not (validBytes n s c b)) why.Message t out (receiveOpen n s c t out b) _ (receive-open n s c t out b setup) (a .answered) in
-      let e = past (refused10 (recordIn s t (m .owner) (m .number)) m) why.Differs t out _ (acted s t out (m .owner) (m .number) x) refl (d .answered) in
+      let e = past (refused10 (recordIn s t (m .owner) (m .number)) m) why.OtherCommit t out _ (acted s t out (m .owner) (m .number) x) refl (d .answered) in
       let v : valid n s c m ≡ true = and-true (framed b && opFits b) _ (not-false _ (d .test)) .1 in
       let i : instanceOk n s (m .owner) (m .number) ≡ true = valid-instance n s c m v in
       let same : onMessage n s c (y .tables c) m ≡ x = ap (λ (u : Records). onMessage n s c u m) at ∙ sym (message-alike n s (recordsIn s t) (records n s t) (alike n s t) c m i) in
@@ -184,8 +184,8 @@ module _ (n s c : ℕ) (t out : List ℕ) (k : Kept n s c t) (copy : c < n) (y :
       let r : Record = recordIn s t o j in
       let a = past _ why.Room t out _ _ (gate-is n s c t out (recoverOpen n s c t out o j) k) h in
       let b = past (not (instanceOk n s o j)) why.Instance t out (recoverOpen n s c t out o j) _ refl (a .answered) in
-      let d = past (isCommitted r) why.Committed t out _ (cond (outOfBallots r) (refuse why.Ballots t out) (acted s t out o j x)) refl (b .answered) in
-      let e = past (outOfBallots r) why.Ballots t out _ (acted s t out o j x) refl (d .answered) in
+      let d = past (isCommitted r) why.RecoverCommitted t out _ (cond (outOfBallots r) (refuse why.BallotsUsedUp t out) (acted s t out o j x)) refl (b .answered) in
+      let e = past (outOfBallots r) why.BallotsUsedUp t out _ (acted s t out o j x) refl (d .answered) in
       let i : instanceOk n s o j ≡ true = not-false _ (b .test) in
       let same : onRecover n c (y .tables c) o j ≡ x = ap (λ (u : Records). onRecover n c u o j) at ∙ sym (recover-alike n s (recordsIn s t) (records n s t) (alike n s t) c o j i) in
       record {
@@ -203,7 +203,7 @@ module _ (n s c : ℕ) (t out : List ℕ) (k : Kept n s c t) (copy : c < n) (y :
       let r : Record = recordIn s t o j in
       let a = past _ why.Room t out _ _ (gate-is n s c t out (nudgeOpen n s c t out o j) k) h in
       let b = past (not (instanceOk n s o j)) why.Instance t out (nudgeOpen n s c t out o j) _ refl (a .answered) in
-      let d = past (nothingToNudge r) why.Idle t out _ (acted s t out o j x) refl (b .answered) in
+      let d = past (nothingToNudge r) why.NudgeIdle t out _ (acted s t out o j x) refl (b .answered) in
       let i : instanceOk n s o j ≡ true = not-false _ (b .test) in
       let same : onNudge n c (y .tables c) o j ≡ x = ap (λ (u : Records). onNudge n c u o j) at ∙ sym (nudge-alike n s (recordsIn s t) (records n s t) (alike n s t) c o j i) in
       record {

@@ -18,7 +18,7 @@ use Rattle.paper.specs.declared.Message.{Message}
 use Rattle.rules.specs.declared.Step.{Step}
 use Rattle.rules.specs.Events.{addressed, messagesFrom, messages}
 use Rattle.wire.specs.Wire.{lengthOf, kindAt, headBytes, messageAt, messageBytes, validBytes}
-use Rattle.wire.specs.Calls.{received}
+use Rattle.wire.specs.Calls.{readMessage}
 use Rattle.wire.specs.declared.Received.{Received}
 use Rattle.wire.specs.declared.Reading.{Reading}
 use Rattle.wire.specs.declared.Reading.the-variants as reading
@@ -70,10 +70,10 @@ pub record Read (n s c : ℕ) (m : Message) : Type 0 where
   pub taken : validBytes n s c (messageBytes m) ≡ true
 
 pub reads : (n s c : ℕ) (m : Message) → MessageFits m → setupOk n s c ≡ true → valid n s c m ≡ true → Read n s c m
-unfolding received
+unfolding readMessage
 reads n s c m f p v = go (validBytes n s c (messageBytes m)) refl
   where
-    read : received n s c (messageBytes m) ≡ record { answer = reading.Valid; message = m }
+    read : readMessage n s c (messageBytes m) ≡ record { answer = reading.Valid; message = m }
     read = written-reads-back n s c m f p v
 
     number : Reading → ℕ

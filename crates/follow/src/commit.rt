@@ -6,14 +6,14 @@ use paper::Command;
 use paper::Message;
 use paper::Record;
 use rules::Step;
-use step::committing::committed_with;
+use step::committing::committed;
 use step::made::is_committed;
-use step::made::silently;
+use step::made::silent;
 ghost use mathlib.Core.Path.{_≡_};
 ghost use Rattle.rules.specs.Commit.{differs, commit};
 
 // Different from a stored commit: refusal 10.
-pub fn commit_differs(r: Record, m: Message, k: Command) -> bool
+pub fn differs(r: Record, m: Message, k: Command) -> bool
     ensures { λ x. ⌜ x ≡ differs r m k ⌝ }
 {
     let command = r.vote.command;
@@ -26,12 +26,12 @@ pub fn commit_differs(r: Record, m: Message, k: Command) -> bool
 }
 
 // Equal to a stored commit: nothing; else status 4.
-pub fn on_commit(r: Record, m: Message, k: Command) -> Step
+pub fn commit(r: Record, m: Message, k: Command) -> Step
     ensures { λ x. ⌜ x ≡ commit r m k ⌝ }
 {
     if is_committed(r) {
-        return silently(r);
+        return silent(r);
     }
     let deps = m.deps;
-    silently(committed_with(r, k, deps))
+    silent(committed(r, k, deps))
 }

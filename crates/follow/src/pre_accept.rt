@@ -1,5 +1,5 @@
 // "PreAccept b".
-use nouns::deps::join_of;
+use nouns::deps::join;
 use nouns::deps::same_deps;
 use nouns::logic::at_most;
 use nouns::logic::both;
@@ -13,12 +13,12 @@ use paper::Record;
 use paper::Vote;
 use rules::Step;
 use sets::only_of;
-use step::made::begun_at;
+use step::made::begun;
 use step::made::commit_back;
 use step::made::is_committed;
 use step::made::nack_back;
-use step::made::said;
-use step::made::silently;
+use step::made::say;
+use step::made::silent;
 ghost use mathlib.Core.Path.{_≡_};
 ghost use mathlib.Core.Bool.{cond};
 ghost use Prim.Native.Nat.{_<_};
@@ -38,7 +38,7 @@ fn pre_accept_ok(c: u8, o: u8, j: u16, m: Message, r: Record) -> Step
     ensures { λ x. ⌜ x ≡ preAcceptOk c o j m r ⌝ }
 {
     let deps = r.vote.deps;
-    let message = said(c, o, j, m.ballot, Body::PreAcceptOk, deps);
+    let message = say(c, o, j, m.ballot, Body::PreAcceptOk, deps);
     let to = only_of(m.from);
     Step {
         entry: r,
@@ -65,19 +65,11 @@ fn pre_accepted(r: Record, m: Message, k: Command, d: [u16; 7]) -> Record
         command: k,
         deps: d,
     };
-    begun_at(m.ballot, vote, r.mark, 0)
+    begun(m.ballot, vote, r.mark, 0)
 }
 
 // k is the command that m carries, seen its Seen.
-pub fn on_pre_accept(
-    c: u8,
-    o: u8,
-    j: u16,
-    r: Record,
-    m: Message,
-    k: Command,
-    seen: [u16; 7],
-) -> Step
+pub fn pre_accept(c: u8, o: u8, j: u16, r: Record, m: Message, k: Command, seen: [u16; 7]) -> Step
     requires { ⌜ m .from < 7 ⌝ }
     ensures { λ x. ⌜ x ≡ preAccept c o j r m k seen ⌝ }
 {
@@ -91,9 +83,9 @@ pub fn on_pre_accept(
         if r.vote.status <= 2 {
             return pre_accept_ok(c, o, j, m, r);
         }
-        return silently(r);
+        return silent(r);
     }
     let sent = m.deps;
-    let next = pre_accepted(r, m, k, join_of(sent, seen));
+    let next = pre_accepted(r, m, k, join(sent, seen));
     pre_accept_ok(c, o, j, m, next)
 }

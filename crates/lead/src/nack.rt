@@ -5,19 +5,19 @@ use nouns::logic::wide32;
 use paper::Message;
 use paper::Record;
 use rules::Step;
-use step::made::begun_at;
+use step::made::begun;
 use step::made::is_committed;
-use step::made::silently;
+use step::made::silent;
 ghost use mathlib.Core.Path.{_≡_};
 ghost use Rattle.rules.specs.Nack.{nack};
 
 // x is the Nack's joined ballot.
-pub fn on_nack(r: Record, m: Message, x: u32) -> Step
+pub fn nack(r: Record, m: Message, x: u32) -> Step
     ensures { λ y. ⌜ y ≡ nack r m x ⌝ }
 {
     if both(!is_committed(r), equal(wide32(r.joined), wide32(m.ballot))) {
         let vote = r.vote;
-        return silently(begun_at(x, vote, r.mark, 0));
+        return silent(begun(x, vote, r.mark, 0));
     }
-    silently(r)
+    silent(r)
 }

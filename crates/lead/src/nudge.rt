@@ -8,11 +8,11 @@ use nouns::logic::wide32;
 use paper::Body;
 use paper::Record;
 use rules::Step;
-use sets::absent_of;
-use sets::others_of;
+use sets::absent;
+use sets::others;
 use step::accepting::accepting_join;
 use step::made::is_committed;
-use step::made::said;
+use step::made::say;
 ghost use mathlib.Core.Path.{_≡_};
 ghost use Prim.Native.Nat.{_≤_};
 ghost use Rattle.rules.specs.Step.{sending, say};
@@ -23,8 +23,8 @@ ghost use Rattle.rules.specs.Nudge.{again, nudge};
 fn to_absent(n: usize, c: u8, o: u8, j: u16, r: Record, body: Body, d: [u16; 7]) -> Step
     ensures { λ x. ⌜ x ≡ sending r (absent n c (r .set)) (say c o j (r .joined) body d) ⌝ }
 {
-    let message = said(c, o, j, r.joined, body, d);
-    let to = absent_of(n, wide8(c), r.set);
+    let message = say(c, o, j, r.joined, body, d);
+    let to = absent(n, wide8(c), r.set);
     Step {
         entry: r,
         to,
@@ -33,7 +33,7 @@ fn to_absent(n: usize, c: u8, o: u8, j: u16, r: Record, body: Body, d: [u16; 7])
 }
 
 // The phase's message to those not yet replied.
-fn once_more(n: usize, c: u8, o: u8, j: u16, r: Record) -> Step
+fn again(n: usize, c: u8, o: u8, j: u16, r: Record) -> Step
     ensures { λ x. ⌜ x ≡ again n c o j r ⌝ }
 {
     let command = r.vote.command;
@@ -55,8 +55,8 @@ pub fn on_nudge(n: usize, c: u8, o: u8, j: u16, r: Record) -> Step
     if is_committed(r) {
         let command = r.vote.command;
         let deps = r.vote.deps;
-        let message = said(c, o, j, r.joined, Body::Commit(command), deps);
-        let to = others_of(n, wide8(c));
+        let message = say(c, o, j, r.joined, Body::Commit(command), deps);
+        let to = others(n, wide8(c));
         return Step {
             entry: r,
             to,
@@ -67,5 +67,5 @@ pub fn on_nudge(n: usize, c: u8, o: u8, j: u16, r: Record) -> Step
     if both(first, some_enough(n, r)) {
         return accepting_join(n, c, o, j, r);
     }
-    once_more(n, c, o, j, r)
+    again(n, c, o, j, r)
 }

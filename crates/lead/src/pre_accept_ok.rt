@@ -4,21 +4,21 @@ use nouns::logic::all_seven;
 use nouns::logic::at_most;
 use nouns::logic::both;
 use nouns::logic::either;
-use nouns::setup::faults_of;
-use nouns::vote::count_of;
-use nouns::vote::is_member;
-use nouns::vote::no_op;
+use nouns::setup::faults;
+use nouns::vote::count;
+use nouns::vote::member;
+use nouns::vote::noop;
 use paper::Message;
 use paper::Record;
 use paper::Vote;
 use rules::Step;
 use sets::bits_of;
 use step::accepting::accepting_join;
-use step::committing::committing_own;
-use step::made::collected;
-use step::made::is_awaited;
+use step::committing::committing;
+use step::made::awaited;
+use step::made::collect;
 use step::made::replies_of;
-use step::made::silently;
+use step::made::silent;
 ghost use mathlib.Core.Path.{_≡_};
 ghost use mathlib.Core.Bool.{_&&_, _||_, not};
 ghost use Prim.Native.Nat.{_<_, _≤_};
@@ -48,11 +48,11 @@ fn matches_sent(q: usize, set: u8, v: Vote, d: [u16; 7]) -> bool
     requires { ⌜ q < 8 ⌝ }
     ensures { λ x. ⌜ x ≡ (member q set && sameDeps (v .deps) d) ⌝ }
 {
-    both(is_member(q, set), same_added(v, d))
+    both(member(q, set), same_added(v, d))
 }
 
 // The replies equal to what was sent.
-fn matching_of(r: Record) -> u8
+fn matching(r: Record) -> u8
     ensures { λ x. ⌜ x ≡ matching r ⌝ }
 {
     let d = r.vote.deps;
@@ -72,10 +72,7 @@ fn agree(p: usize, q: usize, set: u8, v: Vote, w: Vote) -> bool
     ensures { λ x. ⌜ x ≡ (not (member p set && member q set) || sameDeps (v .deps) (w .deps)) ⌝ }
 {
     let d = w.deps;
-    either(
-        !both(is_member(p, set), is_member(q, set)),
-        same_added(v, d),
-    )
+    either(!both(member(p, set), member(q, set)), same_added(v, d))
 }
 
 // The reply v of copy p agrees with every other.
@@ -94,7 +91,7 @@ fn agrees(p: usize, set: u8, v: Vote, vs: [Vote; 7]) -> bool
 }
 
 // Two replies are different.
-fn are_different(r: Record) -> bool
+fn different(r: Record) -> bool
     ensures { λ x. ⌜ x ≡ different r ⌝ }
 {
     let vs = replies_of(r);
@@ -113,7 +110,7 @@ fn fast_enough(n: usize, r: Record) -> bool
     requires { ⌜ (3 ≤ n) × (n ≤ 7) ⌝ }
     ensures { λ x. ⌜ x ≡ fastEnough n r ⌝ }
 {
-    at_most(2 * faults_of(n) - 1, count_of(matching_of(r)))
+    at_most(2 * faults(n) - 1, count(matching(r)))
 }
 
 // At F or more replies, two of them different, or at all 2F.
@@ -121,10 +118,10 @@ fn slow_enough(n: usize, r: Record) -> bool
     requires { ⌜ (3 ≤ n) × (n ≤ 7) ⌝ }
     ensures { λ x. ⌜ x ≡ slowEnough n r ⌝ }
 {
-    let f = faults_of(n);
-    let replied = count_of(r.set);
+    let f = faults(n);
+    let replied = count(r.set);
     either(
-        both(at_most(f, replied), are_different(r)),
+        both(at_most(f, replied), different(r)),
         at_most(2 * f, replied),
     )
 }
@@ -134,7 +131,7 @@ pub fn some_enough(n: usize, r: Record) -> bool
     requires { ⌜ 3 ≤ n ⌝ }
     ensures { λ x. ⌜ x ≡ someEnough n r ⌝ }
 {
-    at_most(faults_of(n), count_of(r.set))
+    at_most(faults(n), count(r.set))
 }
 
 // With the reply collected.
@@ -144,23 +141,23 @@ fn pre_accepted_by(n: usize, c: u8, o: u8, j: u16, r: Record) -> Step
 {
     if r.joined == 0 {
         if fast_enough(n, r) {
-            return committing_own(n, c, o, j, r);
+            return committing(n, c, o, j, r);
         }
         if slow_enough(n, r) {
             return accepting_join(n, c, o, j, r);
         }
-        return silently(r);
+        return silent(r);
     }
     if some_enough(n, r) {
         return accepting_join(n, c, o, j, r);
     }
-    silently(r)
+    silent(r)
 }
 
 fn added_vote(d: [u16; 7]) -> Vote
     ensures { λ x. ⌜ x ≡ addedVote d ⌝ }
 {
-    let command = no_op();
+    let command = noop();
     Vote {
         voted: 0,
         status: 0,
@@ -173,10 +170,10 @@ pub fn on_pre_accept_ok(n: usize, c: u8, o: u8, j: u16, r: Record, m: Message) -
     requires { ⌜ (3 ≤ n) × (n ≤ 7) × (m .from < 7) × (r .set < 128) ⌝ }
     ensures { λ x. ⌜ x ≡ onPreAcceptOk n c o j r m ⌝ }
 {
-    if !is_awaited(2, r, m) {
-        return silently(r);
+    if !awaited(2, r, m) {
+        return silent(r);
     }
     let deps = m.deps;
     let v = added_vote(deps);
-    pre_accepted_by(n, c, o, j, collected(r, m.from, v))
+    pre_accepted_by(n, c, o, j, collect(r, m.from, v))
 }

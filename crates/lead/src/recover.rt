@@ -6,8 +6,8 @@ use paper::Body;
 use paper::Record;
 use rules::Step;
 use sets::only_of;
-use sets::others_of;
-use step::made::said;
+use sets::others;
+use step::made::say;
 ghost use mathlib.Core.Path.{_≡_};
 ghost use Prim.Native.Nat.{_<_};
 ghost use Rattle.rules.specs.Recover.{nextBallot, preparing, recover};
@@ -26,7 +26,7 @@ fn next_ballot(c: u8, b: u32) -> u32
 }
 
 // Phase 1, own reply collected.
-fn preparing_at(c: u8, r: Record) -> Record
+fn preparing(c: u8, r: Record) -> Record
     requires { ⌜ (r .joined < 4_294_967_288) × (c < 7) ⌝ }
     ensures { λ x. ⌜ x ≡ preparing c r ⌝ }
 {
@@ -52,8 +52,8 @@ pub fn on_recover(n: usize, c: u8, o: u8, j: u16, r: Record) -> Step
     requires { ⌜ (r .joined < 4_294_967_288) × (c < 7) ⌝ }
     ensures { λ x. ⌜ x ≡ recover n c o j r ⌝ }
 {
-    let entry = preparing_at(c, r);
-    let message = said(c, o, j, next_ballot(c, r.joined), Body::Prepare, no_deps());
-    let to = others_of(n, wide8(c));
+    let entry = preparing(c, r);
+    let message = say(c, o, j, next_ballot(c, r.joined), Body::Prepare, no_deps());
+    let to = others(n, wide8(c));
     Step { entry, to, message }
 }

@@ -93,15 +93,15 @@ setup-of n s c t h = and-true (setupOk n s c) _ h .0
 pub receive-open : (n s c : ℕ) (t out b : List ℕ) → setupOk n s c ≡ true
     → receiveOpen n s c t out b
     ≡ cond (not (validBytes n s c b)) (refuse why.Message t out)
-    (cond (refused10 (recordIn s t (messageAt b .owner) (messageAt b .number)) (messageAt b)) (refuse why.Differs t out)
+    (cond (refused10 (recordIn s t (messageAt b .owner) (messageAt b .number)) (messageAt b)) (refuse why.OtherCommit t out)
     (acted s t out (messageAt b .owner) (messageAt b .number) (onMessage n s c (recordsIn s t) (messageAt b))))
-unfolding receiveOpen heard wire.received
+unfolding receiveOpen heard wire.readMessage
 receive-open n s c t out b p = go (validBytes n s c b) refl
   where
     go : (v : Bool) → validBytes n s c b ≡ v
         → receiveOpen n s c t out b
         ≡ cond (not (validBytes n s c b)) (refuse why.Message t out)
-        (cond (refused10 (recordIn s t (messageAt b .owner) (messageAt b .number)) (messageAt b)) (refuse why.Differs t out)
+        (cond (refused10 (recordIn s t (messageAt b .owner) (messageAt b .number)) (messageAt b)) (refuse why.OtherCommit t out)
         (acted s t out (messageAt b .owner) (messageAt b .number) (onMessage n s c (recordsIn s t) (messageAt b))))
     go true e = rw (p, e)
     go false e = rw (p, e)

@@ -72,7 +72,7 @@ opTaken op = eqb op 1 || eqb op 2
 -- a request past that, of any command that is no no-op: 5, then the event
 unfoldable pub asked : ℕ → ℕ → ℕ → List ℕ → List ℕ → Command → Outcome
 asked n s c t out k =
-    cond (ltb s (requestNumber s c (recordsIn s t))) (refuse why.Full t out)
+    cond (ltb s (requestNumber s c (recordsIn s t))) (refuse why.NoBlank t out)
     (acted s t out c (requestNumber s c (recordsIn s t)) (onRequest n s c (recordsIn s t) k))
 
 -- Request: 4, then the rest
@@ -90,12 +90,12 @@ unlessRefused (reading.Refused r) t out rest = refuse r t out
 -- a message that the reader takes: 10
 unfoldable pub heard : ℕ → ℕ → ℕ → List ℕ → List ℕ → Message → Outcome
 heard n s c t out m =
-    cond (refused10 (recordIn s t (m .owner) (m .number)) m) (refuse why.Differs t out)
+    cond (refused10 (recordIn s t (m .owner) (m .number)) m) (refuse why.OtherCommit t out)
     (acted s t out (m .owner) (m .number) (onMessage n s c (recordsIn s t) m))
 
 -- a received message: what the reader says of it, then 10
 unfoldable pub receiveOpen : ℕ → ℕ → ℕ → List ℕ → List ℕ → List ℕ → Outcome
-receiveOpen n s c t out b = unlessRefused (wire.received n s c b .answer) t out (heard n s c t out (wire.received n s c b .message))
+receiveOpen n s c t out b = unlessRefused (wire.readMessage n s c b .answer) t out (heard n s c t out (wire.readMessage n s c b .message))
 
 abbrev pub received : ℕ → ℕ → ℕ → List ℕ → List ℕ → List ℕ → Outcome
 received n s c t out b = gated n s c t out (receiveOpen n s c t out b)
@@ -104,8 +104,8 @@ received n s c t out b = gated n s c t out (receiveOpen n s c t out b)
 unfoldable pub recoverOpen : ℕ → ℕ → ℕ → List ℕ → List ℕ → ℕ → ℕ → Outcome
 recoverOpen n s c t out o j =
     cond (not (instanceOk n s o j)) (refuse why.Instance t out)
-    (cond (isCommitted (recordIn s t o j)) (refuse why.Committed t out)
-    (cond (outOfBallots (recordIn s t o j)) (refuse why.Ballots t out) (acted s t out o j (onRecover n c (recordsIn s t) o j))))
+    (cond (isCommitted (recordIn s t o j)) (refuse why.RecoverCommitted t out)
+    (cond (outOfBallots (recordIn s t o j)) (refuse why.BallotsUsedUp t out) (acted s t out o j (onRecover n c (recordsIn s t) o j))))
 
 abbrev pub recovered : ℕ → ℕ → ℕ → List ℕ → List ℕ → ℕ → ℕ → Outcome
 recovered n s c t out o j = gated n s c t out (recoverOpen n s c t out o j)
@@ -114,7 +114,7 @@ recovered n s c t out o j = gated n s c t out (recoverOpen n s c t out o j)
 unfoldable pub nudgeOpen : ℕ → ℕ → ℕ → List ℕ → List ℕ → ℕ → ℕ → Outcome
 nudgeOpen n s c t out o j =
     cond (not (instanceOk n s o j)) (refuse why.Instance t out)
-    (cond (nothingToNudge (recordIn s t o j)) (refuse why.Idle t out) (acted s t out o j (onNudge n c (recordsIn s t) o j)))
+    (cond (nothingToNudge (recordIn s t o j)) (refuse why.NudgeIdle t out) (acted s t out o j (onNudge n c (recordsIn s t) o j)))
 
 abbrev pub nudged : ℕ → ℕ → ℕ → List ℕ → List ℕ → ℕ → ℕ → Outcome
 nudged n s c t out o j = gated n s c t out (nudgeOpen n s c t out o j)

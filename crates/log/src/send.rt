@@ -1,7 +1,7 @@
 // What an event sends: its message to each copy of a set, by rising number.
 use nouns::logic::wide8;
 use nouns::message::kind_of;
-use nouns::vote::is_member;
+use nouns::vote::member;
 use paper::Message;
 use wire::encode;
 use wire::length_of;
@@ -23,7 +23,7 @@ fn small(q: usize) -> u8
     q as u8
 }
 
-fn addressed_to(m: Message, q: usize) -> Message
+fn addressed(m: Message, q: usize) -> Message
     requires { ⌜ q < 7 ⌝ }
     ensures { λ x. ⌜ x ≡ addressed m q ⌝ }
 {
@@ -55,10 +55,10 @@ fn send_one(out: &mut [u8], at: usize, q: usize, to: u8, m: Message) -> usize
     ensures room { λ _.
         ⌜ now (out .exit) ≡ cond (member q to) (splice (now (out .entry)) at (messageBytes (addressed m q))) (now (out .entry)) ⌝ }
 {
-    if !is_member(q, to) {
+    if !member(q, to) {
         return at;
     }
-    encode(out, at, addressed_to(m, q));
+    encode(out, at, addressed(m, q));
     at + size_of(m)
 }
 

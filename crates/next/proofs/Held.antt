@@ -14,21 +14,21 @@ use Rattle.rules.specs.Order.{everywhere}
 use Rattle.reach.specs.High.{Inst}
 use Rattle.reach.proofs.Tests.{tf, and-l, and-r, or-cases, not-true, not-not, eqb-eq, eqb-same, eqb-ne, eqb-false, leb-le, leb-in}
 use Rattle.reach.proofs.Instances.{every-at, every-in}
-use Rattle.rows.specs.Rows.{slotOf, markIn}
+use Rattle.rows.specs.Rows.{slotOf, markAt}
 use Rattle.next.specs.Slots.{lets, readyIn, passesAt, Lists, Ahead, Below, Known, Going, Seeking, Span, Stops, Sought, Held, Waiting, Freed}
 
 leb-not : (a b : ℕ) → b < a → leb a b ≡ false
 leb-not a b l = not-true (leb a b) (λ e. absurd (omega (arith, leb-le a b e)))
 
 -- what is not reached lets out
-lets-out : (h st : List ℕ) (p k o j : ℕ) → markIn h (slotOf p k) o < j → lets h st p k o j ≡ true
+lets-out : (h st : List ℕ) (p k o j : ℕ) → markAt h (slotOf p k) o < j → lets h st p k o j ≡ true
 unfolding lets
-lets-out h st p k o j l = rw (leb-not j (markIn h (slotOf p k) o) l)
+lets-out h st p k o j l = rw (leb-not j (markAt h (slotOf p k) o) l)
 
 -- what is reached lets out where it passes
-lets-in : (h st : List ℕ) (p k o j : ℕ) → j ≤ markIn h (slotOf p k) o → lets h st p k o j ≡ passesAt h st p k (slotOf o j)
+lets-in : (h st : List ℕ) (p k o j : ℕ) → j ≤ markAt h (slotOf p k) o → lets h st p k o j ≡ passesAt h st p k (slotOf o j)
 unfolding lets passesAt
-lets-in h st p k o j l = rw (leb-in j (markIn h (slotOf p k) o) l) (turn (leb k (markIn h (slotOf o j) p)) (eqb (getD st (slotOf o j) 0) 2))
+lets-in h st p k o j l = rw (leb-in j (markAt h (slotOf p k) o) l) (turn (leb k (markAt h (slotOf o j) p)) (eqb (getD st (slotOf o j) 0) 2))
   where
     turn : (a b : Bool) → (not (not a) || b) ≡ (b || a)
     turn true true = refl
@@ -40,34 +40,34 @@ passes-two : (h st : List ℕ) (p k y : ℕ) → getD st y 0 ≡ 2 → passesAt 
 unfolding passesAt
 passes-two h st p k y e = rw (eqb-same (getD st y 0) 2 e)
 
-passes-back : (h st : List ℕ) (p k y : ℕ) → k ≤ markIn h y p → passesAt h st p k y ≡ true
+passes-back : (h st : List ℕ) (p k y : ℕ) → k ≤ markAt h y p → passesAt h st p k y ≡ true
 unfolding passesAt
-passes-back h st p k y e = rw (leb-in k (markIn h y p) e) (last (eqb (getD st y 0) 2))
+passes-back h st p k y e = rw (leb-in k (markAt h y p) e) (last (eqb (getD st y 0) 2))
   where
     last : (a : Bool) → (a || true) ≡ true
     last true = refl
     last false = refl
 
-passes-or : (h st : List ℕ) (p k y : ℕ) → passesAt h st p k y ≡ true → (getD st y 0 ≡ 2 → ⊥) → k ≤ markIn h y p
+passes-or : (h st : List ℕ) (p k y : ℕ) → passesAt h st p k y ≡ true → (getD st y 0 ≡ 2 → ⊥) → k ≤ markAt h y p
 unfolding passesAt
 passes-or h st p k y e d = ⊎-elim
     (λ a. absurd (d (eqb-eq (getD st y 0) 2 a)))
-    (λ b. leb-le k (markIn h y p) b)
-    (or-cases (eqb (getD st y 0) 2) (leb k (markIn h y p)) e)
+    (λ b. leb-le k (markAt h y p) b)
+    (or-cases (eqb (getD st y 0) 2) (leb k (markAt h y p)) e)
 
 -- what does not pass was not handed out, and does not reach back
-passes-not : (h st : List ℕ) (p k y : ℕ) → (getD st y 0 ≡ 2 → ⊥) → markIn h y p < k → passesAt h st p k y ≡ false
+passes-not : (h st : List ℕ) (p k y : ℕ) → (getD st y 0 ≡ 2 → ⊥) → markAt h y p < k → passesAt h st p k y ≡ false
 unfolding passesAt
-passes-not h st p k y d l = rw (eqb-false (getD st y 0) 2 d, leb-not k (markIn h y p) l)
+passes-not h st p k y d l = rw (eqb-false (getD st y 0) 2 d, leb-not k (markAt h y p) l)
 
-not-passes : (h st : List ℕ) (p k y : ℕ) → passesAt h st p k y ≡ false → markIn h y p < k
-not-passes h st p k y e = go (decLt (markIn h y p) k)
+not-passes : (h st : List ℕ) (p k y : ℕ) → passesAt h st p k y ≡ false → markAt h y p < k
+not-passes h st p k y e = go (decLt (markAt h y p) k)
   where
-    go : Dec (markIn h y p < k) → markIn h y p < k
+    go : Dec (markAt h y p < k) → markAt h y p < k
     go (yes l) = l
     go (no l) = tf (passesAt h st p k y) (passes-back h st p k y (omega arith)) e
 
-pub passes-is : (h st : List ℕ) (p k y : ℕ) {u w : ℕ} {a b r : Bool} → u ≡ getD st y 0 → a ≡ eqb u 2 → w ≡ markIn h y p
+pub passes-is : (h st : List ℕ) (p k y : ℕ) {u w : ℕ} {a b r : Bool} → u ≡ getD st y 0 → a ≡ eqb u 2 → w ≡ markAt h y p
     → b ≡ leb k w → r ≡ (a || b)
     → r ≡ passesAt h st p k y
 unfolding passesAt
@@ -102,17 +102,17 @@ module _ (h st : List ℕ) (p k q from : ℕ) where
   sought-none top i c l = record { none = λ u j a b. c j a (omega arith); some = λ u. absurd (omega arith) }
 
 -- the mark that is asked, as it is read
-module _ (h st past : List ℕ) (p k q : ℕ) {x top : ℕ} (ex : x ≡ slotOf p k) (et : top ≡ markIn h x q) where
-  pub top-is : markIn h (slotOf p k) q ≡ top
-  top-is = sym (et ∙ ap (λ (z : ℕ). markIn h z q) ex)
+module _ (h st past : List ℕ) (p k q : ℕ) {x top : ℕ} (ex : x ≡ slotOf p k) (et : top ≡ markAt h x q) where
+  pub top-is : markAt h (slotOf p k) q ≡ top
+  top-is = sym (et ∙ ap (λ (z : ℕ). markAt h z q) ex)
 
   pub freed-at : {from : ℕ} {know know₁ : List ℕ} → from ≡ getD past q 0 → Freed st q from top know know₁
-      → Freed st q (getD past q 0) (markIn h (slotOf p k) q) know know₁
+      → Freed st q (getD past q 0) (markAt h (slotOf p k) q) know know₁
   freed-at ef w = rw (← ef, top-is) w
 
 pub row-span : (n s : ℕ) (h st : List ℕ) (p k : ℕ) → Lists n s h st → Inst n s p k → (q : ℕ) → q < n → {x top : ℕ}
     → x ≡ slotOf p k
-    → top ≡ markIn h x q → Span h st p q top
+    → top ≡ markAt h x q → Span h st p q top
 row-span n s h st p k g i q l ex et = record {
   marks = g .marks;
   states = g .states;
@@ -129,13 +129,13 @@ module _ (n s : ℕ) (h st past : List ℕ) (p k from : ℕ) (g : Seeking n s h 
   pub lets-start : Lets n s h st p k (from / 64)
   lets-start o j i l = g .below o j i (omega (arith, i .first, i .last, g .lists .numbers))
 
-  module _ (q y x start top z : ℕ) (lq : q < n) (ex : x ≡ slotOf p k) (et : top ≡ markIn h x q) (ez : z ≡ getD past q 0)
+  module _ (q y x start top z : ℕ) (lq : q < n) (ex : x ≡ slotOf p k) (et : top ≡ markAt h x q) (ez : z ≡ getD past q 0)
       (es : start ≡ max z (from - 64 * q)) (w : Sought h st p k q start top y) where
     -- what is before the start lets out
     early : (j : ℕ) → Inst n s q j → j ≤ start → lets h st p k q j ≡ true
-    early j i l = go (decLt z j) (decLt (markIn h (slotOf p k) q) j)
+    early j i l = go (decLt z j) (decLt (markAt h (slotOf p k) q) j)
       where
-        go : Dec (z < j) → Dec (markIn h (slotOf p k) q < j) → lets h st p k q j ≡ true
+        go : Dec (z < j) → Dec (markAt h (slotOf p k) q < j) → lets h st p k q j ≡ true
         go (yes a) b = g .below q j i (omega (arith, i .first))
         go (no a) (yes b) = lets-out h st p k q j b
         go (no a) (no b) =
@@ -164,7 +164,7 @@ module _ (n s : ℕ) (h st past : List ℕ) (p k from : ℕ) (g : Seeking n s h 
         last = omega (arith, v .last, g .lists .few p k (g .inst) q lq, top-is h st past p k q ex et);
       }
 
-      mark : v .number ≤ markIn h (slotOf p k) q
+      mark : v .number ≤ markAt h (slotOf p k) q
       mark = omega (arith, v .last, top-is h st past p k q ex et)
 
       ahead : Ahead n s h p k y
@@ -269,20 +269,20 @@ module _ (n s : ℕ) (h st know past : List ℕ) (g : Going n s h st know past) 
 
     module _ (r : everywhere n s (lets h st p k) ≡ true) where
       -- what is reached and was not handed out reaches back: so whoever it waits for, p.k waits for
-      ready-too : (q i : ℕ) → Inst n s q i → i ≤ markIn h (slotOf p k) q → (getD st (slotOf q i) 0 ≡ 2 → ⊥)
+      ready-too : (q i : ℕ) → Inst n s q i → i ≤ markAt h (slotOf p k) q → (getD st (slotOf q i) 0 ≡ 2 → ⊥)
           → everywhere n s (lets h st q i) ≡ true
       ready-too q i iq m d = every-in n s (lets h st q i) (λ o j a b c. one o j (record { owner = a; first = b; last = c }))
         where
           let-by : (o j : ℕ) → Inst n s o j → lets h st p k o j ≡ true
           let-by o j io = every-at n s (lets h st p k) r o j (io .owner) (io .first) (io .last)
 
-          back : k ≤ markIn h (slotOf q i) p
+          back : k ≤ markAt h (slotOf q i) p
           back = passes-or h st p k (slotOf q i) (sym (lets-in h st p k q i m) ∙ let-by q i iq) d
 
           one : (o j : ℕ) → Inst n s o j → lets h st q i o j ≡ true
-          one o j io = go (decLt (markIn h (slotOf q i) o) j) (decLt (markIn h (slotOf o j) p) k) (ℕ-discrete (getD st (slotOf o j) 0) 2)
+          one o j io = go (decLt (markAt h (slotOf q i) o) j) (decLt (markAt h (slotOf o j) p) k) (ℕ-discrete (getD st (slotOf o j) 0) 2)
             where
-              go : Dec (markIn h (slotOf q i) o < j) → Dec (markIn h (slotOf o j) p < k) → Dec (getD st (slotOf o j) 0 ≡ 2)
+              go : Dec (markAt h (slotOf q i) o < j) → Dec (markAt h (slotOf o j) p < k) → Dec (getD st (slotOf o j) 0 ≡ 2)
                   → lets h st q i o j ≡ true
               go (yes a) b e = lets-out h st q i o j a
               go (no a) b (yes e) = lets-in h st q i o j (omega arith) ∙ passes-two h st q i (slotOf o j) e
@@ -290,17 +290,17 @@ module _ (n s : ℕ) (h st know past : List ℕ) (g : Going n s h st know past) 
                   lets-in h st q i o j (omega arith)
                   ∙ passes-back h st q i (slotOf o j) (omega (arith, g .lists .closed o j io p k ip (omega arith) q (iq .owner)))
               go (no a) (yes b) (no e) =
-                  let l : j ≤ markIn h (slotOf p k) o = omega (arith, g .lists .closed p k ip q i iq m o (io .owner)) in
+                  let l : j ≤ markAt h (slotOf p k) o = omega (arith, g .lists .closed p k ip q i iq m o (io .owner)) in
                   absurd (omega (arith, passes-or h st p k (slotOf o j) (sym (lets-in h st p k o j l) ∙ let-by o j io) e))
 
-      pub known-freed : (q : ℕ) (know₁ : List ℕ) → q < n → Freed st q (getD past q 0) (markIn h (slotOf p k) q) know know₁
+      pub known-freed : (q : ℕ) (know₁ : List ℕ) → q < n → Freed st q (getD past q 0) (markAt h (slotOf p k) q) know know₁
           → Going n s h st know₁ past
       known-freed q know₁ lq f = record { lists = g .lists; long = f .long ∙ g .long; known = each; passed = g .passed }
         where
           each : (o j : ℕ) → Inst n s o j → Known n s h st o j (getD know₁ (slotOf o j) 0)
           each o j i = ⊎-elim
               (λ (e : getD know₁ (slotOf o j) 0 ≡ getD know (slotOf o j) 0). rw e (g .known o j i))
-              (λ (e : (getD know₁ (slotOf o j) 0 ≡ 1) × Waiting st q (getD past q 0) (markIn h (slotOf p k) q) (slotOf o j)).
+              (λ (e : (getD know₁ (slotOf o j) 0 ≡ 1) × Waiting st q (getD past q 0) (markAt h (slotOf p k) q) (slotOf o j)).
               let w = e .1 in
               let iq : Inst n s q (w .number) = record { owner = lq; first = omega (arith, w .after); last = omega (arith, w .last, g .lists .few p k ip q lq) } in
               let z = slot-same n s q (w .number) o j (g .lists .numbers) iq i (w .place) in

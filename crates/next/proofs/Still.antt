@@ -11,7 +11,7 @@ use Rattle.paper.specs.Logic.{implies}
 use Rattle.paper.proofs.Laws.{allBelow-at}
 use Rattle.rules.specs.Order.{everywhere}
 use Rattle.reach.proofs.Instances.{all-in, every-at, every-in}
-use Rattle.rows.specs.Rows.{slotOf, markIn}
+use Rattle.rows.specs.Rows.{slotOf, markAt}
 use Rattle.next.specs.Slots.{lets, noneAt, Past, Going}
 
 module _ (st : List ℕ) (x : ℕ) (inside : x < length st) where
@@ -26,8 +26,8 @@ module _ (st : List ℕ) (x : ℕ) (inside : x < length st) where
   lets-still : (h : List ℕ) (p k q i : ℕ) → lets h st p k q i ≡ true → lets h (set st x 2) p k q i ≡ true
   unfolding lets
   lets-still h p k q i e =
-      by (λ z. implies (leb i (markIn h (slotOf p k) q) && not (leb k (markIn h (slotOf q i) p))) (eqb z 2) ≡ true) (slotOf q i) e
-      (all (leb i (markIn h (slotOf p k) q) && not (leb k (markIn h (slotOf q i) p))))
+      by (λ z. implies (leb i (markAt h (slotOf p k) q) && not (leb k (markAt h (slotOf q i) p))) (eqb z 2) ≡ true) (slotOf q i) e
+      (all (leb i (markAt h (slotOf p k) q) && not (leb k (markAt h (slotOf q i) p))))
     where
       all : (a : Bool) → implies a true ≡ true
       all true = refl

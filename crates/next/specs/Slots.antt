@@ -11,12 +11,12 @@ use Rattle.paper.specs.Logic.{implies, allBelow}
 use Rattle.rules.specs.declared.First.{First}
 use Rattle.rules.specs.Order.{everywhere, first}
 use Rattle.reach.specs.High.{Inst}
-use Rattle.rows.specs.Rows.{slotOf, markIn}
+use Rattle.rows.specs.Rows.{slotOf, markAt}
 
 -- o.j lets p.k out: where p.k reaches it and it does not reach back, it was handed out
 unfoldable pub lets : List ℕ → List ℕ → ℕ → ℕ → ℕ → ℕ → Bool
 lets h st p k o j =
-    implies (leb j (markIn h (slotOf p k) o) && not (leb k (markIn h (slotOf o j) p))) (eqb (getD st (slotOf o j) 0) 2)
+    implies (leb j (markAt h (slotOf p k) o) && not (leb k (markAt h (slotOf o j) p))) (eqb (getD st (slotOf o j) 0) 2)
 
 unfoldable pub readyIn : ℕ → ℕ → List ℕ → List ℕ → ℕ → ℕ → Bool
 readyIn n s h st p k = eqb (getD st (slotOf p k) 0) 1 && everywhere n s (lets h st p k)
@@ -30,10 +30,10 @@ pub record Lists (n s : ℕ) (h st : List ℕ) : Type 0 where
   pub numbers : s ≤ 64
   pub marks : length h ≡ 6272
   pub states : length st ≡ 448
-  pub few : (p k : ℕ) → Inst n s p k → (q : ℕ) → q < n → markIn h (slotOf p k) q ≤ s
+  pub few : (p k : ℕ) → Inst n s p k → (q : ℕ) → q < n → markAt h (slotOf p k) q ≤ s
   -- whoever is marked at p.k brings its own marks
-  pub closed : (p k : ℕ) → Inst n s p k → (q i : ℕ) → Inst n s q i → i ≤ markIn h (slotOf p k) q → (o : ℕ) → o < n
-      → markIn h (slotOf q i) o ≤ markIn h (slotOf p k) o
+  pub closed : (p k : ℕ) → Inst n s p k → (q i : ℕ) → Inst n s q i → i ≤ markAt h (slotOf p k) q → (o : ℕ) → o < n
+      → markAt h (slotOf q i) o ≤ markAt h (slotOf p k) o
 
 -- the first z of owner q's row were handed out
 pub record Out (s : ℕ) (st : List ℕ) (q z : ℕ) : Type 0 where
@@ -64,8 +64,8 @@ pub record Ahead (n s : ℕ) (h : List ℕ) (p k y : ℕ) : Type 0 where
   pub number : ℕ
   pub inst : Inst n s owner number
   pub place : y ≡ slotOf owner number
-  pub reached : number ≤ markIn h (slotOf p k) owner
-  pub apart : markIn h y p < k
+  pub reached : number ≤ markAt h (slotOf p k) owner
+  pub apart : markAt h y p < k
 
 -- all at the places below y let p.k out
 abbrev pub Below : ℕ → ℕ → List ℕ → List ℕ → ℕ → ℕ → ℕ → Type 0
@@ -96,7 +96,7 @@ pub record Seeking (n s : ℕ) (h st past : List ℕ) (p k from : ℕ) : Type 0 
 
 -- the one at y was handed out, or reaches p.k
 unfoldable pub passesAt : List ℕ → List ℕ → ℕ → ℕ → ℕ → Bool
-passesAt h st p k y = eqb (getD st y 0) 2 || leb k (markIn h y p)
+passesAt h st p k y = eqb (getD st y 0) 2 || leb k (markAt h y p)
 
 -- part of owner q's row
 pub record Span (h st : List ℕ) (p q top : ℕ) : Type 0 where

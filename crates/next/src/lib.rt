@@ -6,7 +6,7 @@ use nouns::logic::either;
 use nouns::logic::equal;
 use nouns::logic::wide8;
 use nouns::logic::wide16;
-use rows::mark_of;
+use rows::mark_at;
 use rows::slot_of;
 use rules::First;
 ghost use mathlib.Core.Path.{_≡_};
@@ -91,7 +91,7 @@ fn passes(h: &[u8], st: &[u8], p: usize, k: usize, y: usize) -> bool
     requires { ⌜ (length (now h) ≡ 6272) × (length (now st) ≡ 448) × (p < 7) × (y < 448) ⌝ }
     ensures { λ r. ⌜ r ≡ passesAt (now (h .entry)) (now (st .entry)) p k y ⌝ }
 {
-    either(equal(wide8(st[y]), 2), at_most(k, mark_of(h, y, p)))
+    either(equal(wide8(st[y]), 2), at_most(k, mark_at(h, y, p)))
 }
 
 // The place of the first in owner q's row, past `from` and up to `top`, that does not; 448 where all do.
@@ -142,7 +142,7 @@ fn holder(
     let first = from / 64;
     for q in first..n {
         let start = start_of(wide8(past[q]), q, from);
-        let y = row_holder(h, st, p, k, q, start, mark_of(h, x, q));
+        let y = row_holder(h, st, p, k, q, start, mark_at(h, x, q));
         if y < 448 {
             return y;
         }
@@ -171,7 +171,7 @@ fn free(n: usize, s: usize, h: &[u8], st: &[u8], know: &mut [u16], past: &[u8], 
     let x = slot_of(p, k);
     know[x] = 1;
     for q in 0..n {
-        free_row(st, &mut *know, q, wide8(past[q]), mark_of(h, x, q));
+        free_row(st, &mut *know, q, wide8(past[q]), mark_at(h, x, q));
     }
 }
 

@@ -15,7 +15,7 @@ pub fn ballot_ok(n: usize, b: u32) -> bool
     both(at_most(8, x), below(x % 8, n))
 }
 
-pub fn lead_of(o: usize, b: u32) -> usize
+pub fn lead(o: usize, b: u32) -> usize
     ensures { λ r. ⌜ r ≡ lead o b ⌝ }
 {
     let x = wide32(b);

@@ -1,7 +1,7 @@
 use crate::logic::both;
 use crate::logic::equal;
 use crate::logic::equal64;
-use crate::logic::implied;
+use crate::logic::implies;
 use crate::logic::wide32;
 use paper::Command;
 use paper::Op;
@@ -39,10 +39,10 @@ pub fn command_ok(c: Command) -> bool
     ensures { λ r. ⌜ r ≡ commandOk c ⌝ }
 {
     let zero = both(equal(wide32(c.key), 0), equal64(c.edit, 0));
-    implied(is_noop(c), zero)
+    implies(is_noop(c), zero)
 }
 
-pub fn interferes(a: Command, b: Command) -> bool
+pub fn interfere(a: Command, b: Command) -> bool
     ensures { λ r. ⌜ r ≡ interfere a b ⌝ }
 {
     let neither = both(!is_noop(a), !is_noop(b));

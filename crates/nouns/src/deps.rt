@@ -55,22 +55,22 @@ pub fn no_deps() -> [u16; 7]
     [0u16; 7]
 }
 
-fn larger_of(a: u16, b: u16) -> u16
+fn larger(a: u16, b: u16) -> u16
     ensures { λ r. ⌜ r ≡ larger a b ⌝ }
 {
     if a < b { b } else { a }
 }
 
 // The larger entry at each place.
-pub fn join_of(a: [u16; 7], b: [u16; 7]) -> [u16; 7]
+pub fn join(a: [u16; 7], b: [u16; 7]) -> [u16; 7]
     ensures { λ r. ⌜ r ≡ join a b ⌝ }
 {
-    let d0 = larger_of(a[0], b[0]);
-    let d1 = larger_of(a[1], b[1]);
-    let d2 = larger_of(a[2], b[2]);
-    let d3 = larger_of(a[3], b[3]);
-    let d4 = larger_of(a[4], b[4]);
-    let d5 = larger_of(a[5], b[5]);
-    let d6 = larger_of(a[6], b[6]);
+    let d0 = larger(a[0], b[0]);
+    let d1 = larger(a[1], b[1]);
+    let d2 = larger(a[2], b[2]);
+    let d3 = larger(a[3], b[3]);
+    let d4 = larger(a[4], b[4]);
+    let d5 = larger(a[5], b[5]);
+    let d6 = larger(a[6], b[6]);
     [d0, d1, d2, d3, d4, d5, d6]
 }

@@ -17,7 +17,7 @@ pub fn either(a: bool, b: bool) -> bool
     if a { true } else { b }
 }
 
-pub fn implied(a: bool, b: bool) -> bool
+pub fn implies(a: bool, b: bool) -> bool
     ensures { λ r. ⌜ r ≡ implies a b ⌝ }
 {
     if a { b } else { true }

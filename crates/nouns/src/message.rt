@@ -1,6 +1,6 @@
 // The table of bodies, a row for each kind, and beside it all that goes by a body's cases.
 use crate::logic::wide8;
-use crate::vote::no_op;
+use crate::vote::noop;
 use paper::Ballots;
 use paper::Body;
 use paper::Carried;
@@ -172,7 +172,7 @@ fn command_carried(command: Command) -> Carried
 fn joined_carried(joined: u32) -> Carried
     ensures { λ r. ⌜ r ≡ joinedCarried joined ⌝ }
 {
-    let command = no_op();
+    let command = noop();
     Carried {
         voted: 0,
         status: 0,

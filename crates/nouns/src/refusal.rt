@@ -13,10 +13,10 @@ pub fn number_of(why: Refusal) -> u32
         Refusal::Message => 3,
         Refusal::Op => 4,
         Refusal::Instance => 6,
-        Refusal::Committed => 8,
-        Refusal::Idle => 9,
-        Refusal::Ballots => 7,
-        Refusal::Full => 5,
-        Refusal::Differs => 10,
+        Refusal::RecoverCommitted => 8,
+        Refusal::NudgeIdle => 9,
+        Refusal::BallotsUsedUp => 7,
+        Refusal::NoBlank => 5,
+        Refusal::OtherCommit => 10,
     }
 }

@@ -26,7 +26,7 @@ pub fn instance_ok(n: usize, s: usize, o: usize, j: usize) -> bool
 }
 
 // F.
-pub fn faults_of(n: usize) -> usize
+pub fn faults(n: usize) -> usize
     requires { ⌜ 1 ≤ n ⌝ }
     ensures { λ r. ⌜ r ≡ faults n ⌝ }
 {

@@ -19,7 +19,7 @@ ghost use Prim.Native.Nat.{_<_};
 ghost use Rattle.paper.specs.Command.{noop};
 ghost use Rattle.paper.specs.Vote.{noVote, sameVote, noneIsBlank, voteOk, toldOk, addedOk, member, count};
 
-pub fn no_op() -> Command
+pub fn noop() -> Command
     ensures { λ r. ⌜ r ≡ noop ⌝ }
 {
     Command {
@@ -32,7 +32,7 @@ pub fn no_op() -> Command
 pub fn no_vote() -> Vote
     ensures { λ r. ⌜ r ≡ noVote ⌝ }
 {
-    let command = no_op();
+    let command = noop();
     let deps = no_deps();
     Vote {
         voted: 0,
@@ -90,12 +90,12 @@ pub fn added_ok(n: usize, s: usize, v: Vote) -> bool
     let deps = v.deps;
     let voted = equal(wide32(v.voted), 0);
     let status = equal(wide8(v.status), 0);
-    let command = same_command(v.command, no_op());
+    let command = same_command(v.command, noop());
     both(both(both(voted, status), command), deps_ok(n, s, deps))
 }
 
 // Copy q is in the set m.
-pub fn is_member(q: usize, m: u8) -> bool
+pub fn member(q: usize, m: u8) -> bool
     requires { ⌜ q < 8 ⌝ }
     ensures { λ r. ⌜ r ≡ member q m ⌝ }
 {
@@ -103,7 +103,7 @@ pub fn is_member(q: usize, m: u8) -> bool
 }
 
 // How many copies are in the set m.
-pub fn count_of(m: u8) -> usize
+pub fn count(m: u8) -> usize
     ensures { λ r. ⌜ r ≡ count m ⌝ }
 {
     wide32(u8::count_ones(m))

@@ -24,7 +24,7 @@ module _ (n s c : ℕ) (t out : List ℕ) (o j : ℕ) where
   unfolding nudgeOpen
   nudge-6 p = rw p
 
-  pub nudge-9 : instanceOk n s o j ≡ true → nothingToNudge (recordIn s t o j) ≡ true → refuse why.Idle t out ≡ nudgeOpen n s c t out o j
+  pub nudge-9 : instanceOk n s o j ≡ true → nothingToNudge (recordIn s t o j) ≡ true → refuse why.NudgeIdle t out ≡ nudgeOpen n s c t out o j
   unfolding nudgeOpen
   nudge-9 p q = rw (p, q)
 

@@ -37,7 +37,7 @@ fn nudge_open(
     }
     let r = load(&*t, n, s, o, j);
     if both(!is_committed(r), equal(wide8(r.phase), 0)) {
-        return Answer::Refused(Refusal::Idle);
+        return Answer::Refused(Refusal::NudgeIdle);
     }
     let x = on_nudge(n, byte(c), byte(o), short(j), r);
     act(t, out, n, s, o, j, x)

@@ -19,11 +19,11 @@ use Rattle.seen.specs.Records.{recordsIn}
 use Rattle.reach.specs.High.{Explored}
 use Rattle.reach.proofs.High.{explored-highs}
 use Rattle.search.specs.Searching.{Searching, Searched}
-use Rattle.order.specs.Passed.{Passed}
+use Rattle.table.specs.Table.{Judged}
 use Rattle.order.specs.Calls.{settledOpen, settled}
 use Rattle.order.specs.declared.Settling.{Settling}
 use Rattle.order.specs.declared.Settling.the-variants.{Settled, Waits, Refused}
-use Rattle.order.proofs.Passed.{passed-fit, passed-long}
+use Rattle.order.proofs.Judged.{passed-fit, passed-long}
 
 pub no-mark : (k i : ℕ) → getD {A = ℕ} (replicate k 0) i 0 ≡ 0
 no-mark zero i = refl
@@ -32,7 +32,7 @@ no-mark (suc k) (suc i) = no-mark k i
 
 module _ (n s c : ℕ) (t : List ℕ) (o j : ℕ) where
   -- the search that is made, and what it leaves
-  pub searching : Passed n s c t → instanceOk n s o j ≡ true → Searching n s t o j (replicate 7 0)
+  pub searching : Judged n s c t → instanceOk n s o j ≡ true → Searching n s t o j (replicate 7 0)
   searching h i = record {
     names = names n s c t o j (h .setup) i;
     long = passed-long n s c t h;
@@ -41,7 +41,7 @@ module _ (n s c : ℕ) (t : List ℕ) (o j : ℕ) where
     few = λ q l. rw (no-mark 7 q) (omega arith);
   }
 
-  pub searched : Passed n s c t → (m : List ℕ) → Explored n s (recordsIn s t) o j n (replicate 7 0) m → Searched n s t o j m
+  pub searched : Judged n s c t → (m : List ℕ) → Explored n s (recordsIn s t) o j n (replicate 7 0) m → Searched n s t o j m
   searched h m e =
       let z = sizes n s c t (h .setup) in
       record {

@@ -15,19 +15,19 @@ use Rattle.table.proofs.Laws.{sizes}
 use Rattle.table.proofs.Round.{record-whole}
 use Rattle.seen.specs.Records.{recordsIn}
 use Rattle.reach.specs.High.{Inst}
-use Rattle.rows.specs.Rows.{rowOf, markIn}
+use Rattle.rows.specs.Rows.{rowOf, markAt}
 use Rattle.sweep.specs.Sweeping.{Sized, Charting, Charted}
 use Rattle.next.specs.Slots.{Past, Known}
-use Rattle.order.specs.Passed.{Passed}
+use Rattle.table.specs.Table.{Judged}
 use Rattle.order.specs.States.{Stating, Stated, Listing}
 use Rattle.order.specs.Calls.{handedTable, handedCodes, handedOpen, handed}
 use Rattle.order.specs.declared.Handing.{Handing}
 use Rattle.order.specs.declared.Handing.the-variants.{Codes, Refused}
-use Rattle.order.proofs.Passed.{passed-names, passed-fit}
+use Rattle.order.proofs.Judged.{passed-names, passed-fit}
 use Rattle.order.proofs.Asked.{no-mark}
 
 -- lists of zeros: no marks, nothing known, nothing past
-no-marks : (k x i : ℕ) → markIn (replicate k 0) x i ≡ 0
+no-marks : (k x i : ℕ) → markAt (replicate k 0) x i ≡ 0
 unfolding depsAt
 no-marks k x i = ap (λ (r : List ℕ). getD r i 0) row ∙ no-mark 7 i
   where
@@ -47,7 +47,7 @@ no-past n s k st ln ls lt e = record {
 none-known : (n s k : ℕ) (h st : List ℕ) (p j x : ℕ) → Known n s h st p j (getD (replicate k 0) x 0)
 none-known n s k h st p j x = rw (no-mark k x) (record { ready = λ e. absurd (omega arith); held = λ l. absurd (omega arith); below = λ o i a l. absurd (omega arith) })
 
-module _ (n s c : ℕ) (t : List ℕ) (g : Passed n s c t) where
+module _ (n s c : ℕ) (t : List ℕ) (g : Judged n s c t) where
   sized : Sized n s t
   sized =
       let z = sizes n s c t (g .setup) in

@@ -1,4 +1,4 @@
-pub mod Passed
+pub mod Judged
 pub mod Asked
 pub mod Stated
 pub mod Marked

@@ -19,10 +19,10 @@ use Rattle.reach.specs.High.{Inst, itself}
 use Rattle.reach.proofs.Tests.{tf, bool, and-l, and-r, and-in, eqb-eq, eqb-same, not-true}
 use Rattle.reach.proofs.First.{first-same, every-same, first-passes}
 use Rattle.reach.proofs.Same.{handOut-same}
-use Rattle.rows.specs.Rows.{slotOf, markIn as markAt}
+use Rattle.rows.specs.Rows.{slotOf, markAt}
 use Rattle.sweep.specs.Sweeping.{Charted}
 use Rattle.next.specs.Slots.{lets, readyIn, nextIn, Going}
-use Rattle.order.specs.Calls.{markIn, handedTable, handedCodes}
+use Rattle.order.specs.Calls.{markedIn, handedTable, handedCodes}
 use Rattle.order.specs.States.{Stated, Listing}
 use Rattle.order.proofs.Marked.{alike, listing-on}
 
@@ -86,15 +86,15 @@ table-none zero n s t e = refl
 table-none (suc room) n s t e = rw e
 
 table-one : (room room′ n s : ℕ) (t : List ℕ) (o j : ℕ) → room ≡ suc room′ → nextOut n s (recordsIn s t) ≡ At o j
-    → handedTable room n s t ≡ handedTable room′ n s (markIn s t o j)
+    → handedTable room n s t ≡ handedTable room′ n s (markedIn s t o j)
 unfolding handedTable
 table-one room room′ n s t o j e f = rw (e, f)
 
 codes-one : (room room′ n s : ℕ) (t h st know past : List ℕ) (o j : ℕ) → Listing n s t h st know past → Inst n s o j → room ≡ suc room′ → nextOut n s (recordsIn s t) ≡ At o j
-    → handedCodes room n s t ≡ codeOf o j ∷ handedCodes room′ n s (markIn s t o j)
+    → handedCodes room n s t ≡ codeOf o j ∷ handedCodes room′ n s (markedIn s t o j)
 unfolding handedCodes handOut
 codes-one room room′ n s t h st know past o j g i e f =
-    rw (e, f, handOut-same room′ n s (mark (recordsIn s t) o j) (recordsIn s (markIn s t o j)) (alike n s t h st know past g o j i))
+    rw (e, f, handOut-same room′ n s (mark (recordsIn s t) o j) (recordsIn s (markedIn s t o j)) (alike n s t h st know past g o j i))
 
 -- `count` codes are listed, and their instances are marked in t
 pub record Listed (n s : ℕ) (t₀ list₀ h t st know past list : List ℕ) (count : ℕ) : Type 0 where
@@ -125,7 +125,7 @@ module _ (n s : ℕ) (t₀ list₀ h t st know past list : List ℕ) (count : �
   unfolding nextOut
   found-inst o j e = first-passes n s (candidate n s (recordsIn s t)) o j (sym (e ∙ found-is)) .0
 
-  pub listed-on : (o j x code : ℕ) (t₁ know₁ past₁ : List ℕ) → At o j ≡ nextIn n s h st → count < length list → x ≡ slotOf o j → Going n s h st know₁ past₁ → t₁ ≡ markIn s t o j
+  pub listed-on : (o j x code : ℕ) (t₁ know₁ past₁ : List ℕ) → At o j ≡ nextIn n s h st → count < length list → x ≡ slotOf o j → Going n s h st know₁ past₁ → t₁ ≡ markedIn s t o j
       → code ≡ codeOf o j → Listed n s t₀ list₀ h t₁ (set st x 2) know₁ past₁ (set list count code) (count + 1)
   listed-on o j x code t₁ know₁ past₁ e r ex f et ec =
       let i = found-inst o j e in
@@ -144,7 +144,7 @@ module _ (n s : ℕ) (t₀ list₀ h t st know past list : List ℕ) (count : �
               tk,
               et,
               ec,
-              append-snoc (take count list) (codeOf o j) (handedCodes (length list₀ - (count + 1)) n s (markIn s t o j)),
+              append-snoc (take count list) (codeOf o j) (handedCodes (length list₀ - (count + 1)) n s (markedIn s t o j)),
             );
         table = l .table ∙ rw et (table-one (length list₀ - count) (length list₀ - (count + 1)) n s t o j (omega arith) z);
         rest = dr ∙ dd;

@@ -19,9 +19,9 @@ use Rattle.seen.specs.Records.{recordsIn}
 use Rattle.reach.specs.High.{Inst, itself}
 use Rattle.reach.proofs.Tests.{tf, bool, and-l, and-r, not-true, not-not, eqb-eq, eqb-same, leb-le, leb-in}
 use Rattle.reach.proofs.Instances.{all-in, every-at, every-in}
-use Rattle.rows.specs.Rows.{slotOf, markIn, Within}
+use Rattle.rows.specs.Rows.{slotOf, markAt, Within}
 use Rattle.sweep.specs.Sweeping.{Sized, Row}
-use Rattle.order.specs.States.{Lead, Leads, behindNone, State, States, Stated, Asking}
+use Rattle.order.specs.States.{Prefix, Prefixes, behindNone, State, States, Stated, Asking}
 
 sized-names : (n s : ℕ) (t : List ℕ) → Sized n s t → (o j : ℕ) → Inst n s o j → Names n s o j
 sized-names n s t g o j i = record { copies = g .copies; numbers = g .numbers; owner = i .owner; first = i .first; last = i .last }
@@ -37,53 +37,53 @@ module _ (s : ℕ) (u : Records) (q : ℕ) where
   pub all-more : (z : ℕ) → All z → isCommitted (u q (z + 1)) ≡ true → All (z + 1)
   all-more z a e j l m = ⊎-elim (λ (w : j ≡ z + 1). rw w e) (λ (w : j < z + 1). a j l (omega arith)) (eq-or-lt-of-le m)
 
-  pub lead-here : (z : ℕ) → z < s → All z → isCommitted (u q (z + 1)) ≡ false → Lead s u q z
-  lead-here z l a e = record { few = omega arith; all = a; stops = λ m. e }
+  pub prefix-here : (z : ℕ) → z < s → All z → isCommitted (u q (z + 1)) ≡ false → Prefix s u q z
+  prefix-here z l a e = record { few = omega arith; all = a; stops = λ m. e }
 
-  pub lead-whole : (z : ℕ) → z ≤ s → s ≤ z → All z → Lead s u q z
-  lead-whole z l m a = record { few = l; all = a; stops = λ k. absurd (omega arith) }
+  pub prefix-whole : (z : ℕ) → z ≤ s → s ≤ z → All z → Prefix s u q z
+  prefix-whole z l m a = record { few = l; all = a; stops = λ k. absurd (omega arith) }
 
 abbrev Led : ℕ → Records → List ℕ → ℕ → Type 0
-Led s u lead o = (q : ℕ) → q < o → Lead s u q (getD lead q 0)
+Led s u lead o = (q : ℕ) → q < o → Prefix s u q (getD lead q 0)
 
-pub led-more : (s : ℕ) (u : Records) (lead : List ℕ) (o z : ℕ) → Led s u lead o → o < length lead → Lead s u o z
+pub led-more : (s : ℕ) (u : Records) (lead : List ℕ) (o z : ℕ) → Led s u lead o → o < length lead → Prefix s u o z
     → Led s u (set lead o z) (o + 1)
 led-more s u lead o z c l d q m = go (ℕ-discrete q o)
   where
-    go : Dec (q ≡ o) → Lead s u q (getD (set lead o z) q 0)
+    go : Dec (q ≡ o) → Prefix s u q (getD (set lead o z) q 0)
     go (yes e) = rw (e, getD-set-same lead o z 0 l) d
     go (no e) = rw (getD-set-other lead o q z 0 e) (c q (omega arith))
 
 -- marks up to an owner, within the leads
 abbrev Within-to : ℕ → List ℕ → ℕ → List ℕ → Type 0
-Within-to o h x lead = (q : ℕ) → q < o → markIn h x q ≤ getD lead q 0
+Within-to o h x lead = (q : ℕ) → q < o → markAt h x q ≤ getD lead q 0
 
 module _ (n : ℕ) (h : List ℕ) (x : ℕ) (lead : List ℕ) where
-  pub within-more : (o : ℕ) → Within-to o h x lead → markIn h x o ≤ getD lead o 0 → Within-to (o + 1) h x lead
+  pub within-more : (o : ℕ) → Within-to o h x lead → markAt h x o ≤ getD lead o 0 → Within-to (o + 1) h x lead
   within-more o c l q m = ⊎-elim (λ (e : q ≡ o). rw e l) (λ (e : q < o). c q e) (eq-or-lt-of-le {n = q} {m = o} (omega arith))
 
-  pub behind-no : (o : ℕ) → o < n → getD lead o 0 < markIn h x o → false ≡ behindNone n h x lead
+  pub behind-no : (o : ℕ) → o < n → getD lead o 0 < markAt h x o → false ≡ behindNone n h x lead
   unfolding behindNone
   behind-no o l m = sym (not-true _
-      (λ e. absurd (omega (arith, leb-le (markIn h x o) (getD lead o 0) (allBelow-at n (λ q. leb (markIn h x q) (getD lead q 0)) e o l)))))
+      (λ e. absurd (omega (arith, leb-le (markAt h x o) (getD lead o 0) (allBelow-at n (λ q. leb (markAt h x q) (getD lead q 0)) e o l)))))
 
   pub behind-none : (o : ℕ) → Within-to o h x lead → n ≤ o → true ≡ behindNone n h x lead
   unfolding behindNone
-  behind-none o c l = sym (all-in n (λ q. leb (markIn h x q) (getD lead q 0)) (λ q m. leb-in (markIn h x q) (getD lead q 0) (c q (omega arith))))
+  behind-none o c l = sym (all-in n (λ q. leb (markAt h x q) (getD lead q 0)) (λ q m. leb-in (markAt h x q) (getD lead q 0) (c q (omega arith))))
 
   within-of : behindNone n h x lead ≡ true → Within-to n h x lead
   unfolding behindNone
-  within-of e q l = leb-le (markIn h x q) (getD lead q 0) (allBelow-at n (λ q. leb (markIn h x q) (getD lead q 0)) e q l)
+  within-of e q l = leb-le (markAt h x q) (getD lead q 0) (allBelow-at n (λ q. leb (markAt h x q) (getD lead q 0)) e q l)
 
 -- settled: committed, and whatever is marked is among the commits that its owner's row begins with
 module _ (n s : ℕ) (u : Records) (h : List ℕ) (p k : ℕ) (i : Inst n s p k) (r : Row n s u h p k) where
   waits-is : (o j : ℕ) → Inst n s o j
-      → waitsFor n s u p k o j ≡ ((itself p k o j || leb j (markIn h (slotOf p k) o)) && not (isCommitted (u o j)))
+      → waitsFor n s u p k o j ≡ ((itself p k o j || leb j (markAt h (slotOf p k) o)) && not (isCommitted (u o j)))
   unfolding waitsFor
   waits-is o j io = ap (λ (b : Bool). b && not (isCommitted (u o j))) (r .highs o j io)
 
   -- an uncommitted one that is marked, or the instance itself
-  open-one : (o j : ℕ) → Inst n s o j → (itself p k o j || leb j (markIn h (slotOf p k) o)) ≡ true
+  open-one : (o j : ℕ) → Inst n s o j → (itself p k o j || leb j (markAt h (slotOf p k) o)) ≡ true
       → isCommitted (u o j) ≡ false → isSettled n s u p k ≡ false
   unfolding isSettled
   open-one o j io m c = not-true _
@@ -99,12 +99,12 @@ module _ (n s : ℕ) (u : Records) (h : List ℕ) (p k : ℕ) (i : Inst n s p k)
   open-itself : isCommitted (u p k) ≡ false → isSettled n s u p k ≡ false
   open-itself c = open-one p k i (first-true (itself p k p k) _ (rw (eqb-same p p refl, eqb-same k k refl))) c
 
-  module _ (lead : List ℕ) (l : Leads n s u lead) where
-    behind : (q : ℕ) → q < n → getD lead q 0 < markIn h (slotOf p k) q → isSettled n s u p k ≡ false
+  module _ (lead : List ℕ) (l : Prefixes n s u lead) where
+    behind : (q : ℕ) → q < n → getD lead q 0 < markAt h (slotOf p k) q → isSettled n s u p k ≡ false
     behind q lq m =
         let a : getD lead q 0 < s = omega (arith, r .few q lq) in
         open-one q (getD lead q 0 + 1) (record { owner = lq; first = omega arith; last = omega arith })
-        (second-true (itself p k q (getD lead q 0 + 1)) _ (leb-in (getD lead q 0 + 1) (markIn h (slotOf p k) q) (omega arith)))
+        (second-true (itself p k q (getD lead q 0 + 1)) _ (leb-in (getD lead q 0 + 1) (markAt h (slotOf p k) q) (omega arith)))
         (l .each q lq .stops a)
 
     open-behind : behindNone n h (slotOf p k) lead ≡ false → isSettled n s u p k ≡ false
@@ -112,9 +112,9 @@ module _ (n s : ℕ) (u : Records) (h : List ℕ) (p k : ℕ) (i : Inst n s p k)
         (λ z. tf (behindNone n h (slotOf p k) lead) (sym (behind-none n h (slotOf p k) lead n (within z) (omega arith))) e)
       where
         within : isSettled n s u p k ≡ true → Within-to n h (slotOf p k) lead
-        within z q lq = go (decLt (getD lead q 0) (markIn h (slotOf p k) q))
+        within z q lq = go (decLt (getD lead q 0) (markAt h (slotOf p k) q))
           where
-            go : Dec (getD lead q 0 < markIn h (slotOf p k) q) → markIn h (slotOf p k) q ≤ getD lead q 0
+            go : Dec (getD lead q 0 < markAt h (slotOf p k) q) → markAt h (slotOf p k) q ≤ getD lead q 0
             go (yes m) = tf (isSettled n s u p k) z (behind q lq m)
             go (no m) = omega arith
 
@@ -123,24 +123,24 @@ module _ (n s : ℕ) (u : Records) (h : List ℕ) (p k : ℕ) (i : Inst n s p k)
     settled-all c e = every-in n s (λ o j. not (waitsFor n s u p k o j)) (λ o j a b d. one o j (record { owner = a; first = b; last = d }))
       where
         one : (o j : ℕ) → Inst n s o j → not (waitsFor n s u p k o j) ≡ true
-        one o j io = rw (waits-is o j io) (go (bool (itself p k o j)) (bool (leb j (markIn h (slotOf p k) o))))
+        one o j io = rw (waits-is o j io) (go (bool (itself p k o j)) (bool (leb j (markAt h (slotOf p k) o))))
           where
             none : (a : Bool) → not (a && false) ≡ true
             none true = refl
             none false = refl
 
             go : (itself p k o j ≡ true) ⊎ (itself p k o j ≡ false)
-                → (leb j (markIn h (slotOf p k) o) ≡ true) ⊎ (leb j (markIn h (slotOf p k) o) ≡ false)
-                → not ((itself p k o j || leb j (markIn h (slotOf p k) o)) && not (isCommitted (u o j))) ≡ true
+                → (leb j (markAt h (slotOf p k) o) ≡ true) ⊎ (leb j (markAt h (slotOf p k) o) ≡ false)
+                → not ((itself p k o j || leb j (markAt h (slotOf p k) o)) && not (isCommitted (u o j))) ≡ true
             go (inl x) y =
                 let eo = eqb-eq o p (and-l (eqb o p) (eqb j k) x) in
                 let ej = eqb-eq j k (and-r (eqb o p) (eqb j k) x) in
                 let w : isCommitted (u o j) ≡ true = rw (eo, ej) c in
-                rw w (none (itself p k o j || leb j (markIn h (slotOf p k) o)))
+                rw w (none (itself p k o j || leb j (markAt h (slotOf p k) o)))
             go (inr x) (inl y) =
-                let m = leb-le j (markIn h (slotOf p k) o) y in
+                let m = leb-le j (markAt h (slotOf p k) o) y in
                 let w : isCommitted (u o j) ≡ true = l .each o (io .owner) .all j (io .first) (omega (arith, within-of n h (slotOf p k) lead e o (io .owner))) in
-                rw w (none (itself p k o j || leb j (markIn h (slotOf p k) o)))
+                rw w (none (itself p k o j || leb j (markAt h (slotOf p k) o)))
             go (inr x) (inr y) = rw (x, y)
 
 -- the state of one instance
@@ -168,10 +168,10 @@ module _ (n s : ℕ) (t h lead : List ℕ) (p k : ℕ) (a : Asking n s t h lead 
 
     pub state-settled : isMarked (recordsIn s t p k) ≡ false → isCommitted (recordsIn s t p k) ≡ true
         → behindNone n h x lead ≡ true → State n s (recordsIn s t) p k 1
-    state-settled m c e = record { out = sym m; ready = rw (m, settled-all n s (recordsIn s t) h p k (a .inst) row lead (a .seen .leads) c (rw ex at e)) }
+    state-settled m c e = record { out = sym m; ready = rw (m, settled-all n s (recordsIn s t) h p k (a .inst) row lead (a .seen .prefixes) c (rw ex at e)) }
 
     pub state-behind : isMarked (recordsIn s t p k) ≡ false → behindNone n h x lead ≡ false → State n s (recordsIn s t) p k 0
-    state-behind m e = state-waits m (open-behind n s (recordsIn s t) h p k (a .inst) row lead (a .seen .leads) (rw ex at e))
+    state-behind m e = state-waits m (open-behind n s (recordsIn s t) h p k (a .inst) row lead (a .seen .prefixes) (rw ex at e))
 
 -- place by place
 pub states-start : (n s : ℕ) (u : Records) (st : List ℕ) → length st ≡ 448 → States n s u (64 * 0) st

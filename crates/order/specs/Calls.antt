@@ -34,13 +34,13 @@ unfoldable pub settled : ℕ → ℕ → ℕ → List ℕ → ℕ → ℕ → Se
 settled n s c t o j = settledThrough (judged n s c t) (settledOpen n s t o j)
 
 -- the table with a mark at o.j
-unfoldable pub markIn : ℕ → List ℕ → ℕ → ℕ → List ℕ
-markIn s t o j = putRecord s t o j (marked (recordIn s t o j))
+unfoldable pub markedIn : ℕ → List ℕ → ℕ → ℕ → List ℕ
+markedIn s t o j = putRecord s t o j (marked (recordIn s t o j))
 
 -- the table with the marks of a hand-out of so many places
 unfoldable pub handedTable : ℕ → ℕ → ℕ → List ℕ → List ℕ
 handedTable zero n s t = t
-handedTable (suc room) n s t = found (nextOut n s (recordsIn s t)) t (λ o j. handedTable room n s (markIn s t o j))
+handedTable (suc room) n s t = found (nextOut n s (recordsIn s t)) t (λ o j. handedTable room n s (markedIn s t o j))
 
 -- its codes
 unfoldable pub handedCodes : ℕ → ℕ → ℕ → List ℕ → List ℕ

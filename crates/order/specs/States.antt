@@ -15,23 +15,23 @@ use Rattle.rules.specs.Step.{isCommitted}
 use Rattle.rules.specs.Order.{isMarked, isSettled}
 use Rattle.seen.specs.Records.{recordsIn}
 use Rattle.reach.specs.High.{Inst}
-use Rattle.rows.specs.Rows.{slotOf, markIn}
+use Rattle.rows.specs.Rows.{slotOf, markAt}
 use Rattle.sweep.specs.Sweeping.{Sized, Charted}
 use Rattle.next.specs.Slots.{Going}
 
 -- owner q's row begins with z committed instances
-pub record Lead (s : ℕ) (u : Records) (q z : ℕ) : Type 0 where
+pub record Prefix (s : ℕ) (u : Records) (q z : ℕ) : Type 0 where
   pub few : z ≤ s
   pub all : (j : ℕ) → 1 ≤ j → j ≤ z → isCommitted (u q j) ≡ true
   pub stops : z < s → isCommitted (u q (z + 1)) ≡ false
 
-pub record Leads (n s : ℕ) (u : Records) (lead : List ℕ) : Type 0 where
+pub record Prefixes (n s : ℕ) (u : Records) (lead : List ℕ) : Type 0 where
   pub seven : length lead ≡ 7
-  pub each : (q : ℕ) → q < n → Lead s u q (getD lead q 0)
+  pub each : (q : ℕ) → q < n → Prefix s u q (getD lead q 0)
 
 -- no mark at place x is above its owner's lead
 unfoldable pub behindNone : ℕ → List ℕ → ℕ → List ℕ → Bool
-behindNone n h x lead = allBelow n (λ q. leb (markIn h x q) (getD lead q 0))
+behindNone n h x lead = allBelow n (λ q. leb (markAt h x q) (getD lead q 0))
 
 -- x is the state of p.k: 2 handed out, 1 settled and not handed out
 pub record State (n s : ℕ) (u : Records) (p k x : ℕ) : Type 0 where
@@ -56,7 +56,7 @@ pub record Stating (n s : ℕ) (t h st : List ℕ) : Type 0 where
 pub record Seen (n s : ℕ) (t h lead : List ℕ) : Type 0 where
   pub sized : Sized n s t
   pub charted : Charted n s (recordsIn s t) h
-  pub leads : Leads n s (recordsIn s t) lead
+  pub prefixes : Prefixes n s (recordsIn s t) lead
 
 pub record Asking (n s : ℕ) (t h lead : List ℕ) (p k : ℕ) : Type 0 where
   pub seen : Seen n s t h lead

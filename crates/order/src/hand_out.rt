@@ -13,14 +13,14 @@ ghost use mathlib.Core.Path.{_≡_};
 ghost use Prim.Native.Nat.{_+_, _<_};
 ghost use lib.ListN.{length};
 ghost use Rattle.num.specs.Num.{splice};
-ghost use Rattle.order.specs.Passed.{Passed};
+ghost use Rattle.table.specs.Table.{Judged};
 ghost use Rattle.order.specs.States.{Marking, Listing};
-ghost use Rattle.order.specs.Calls.{markIn, handedTable, handedCodes, handedOpen, handed};
+ghost use Rattle.order.specs.Calls.{markedIn, handedTable, handedCodes, handedOpen, handed};
 
 // The mark is one byte of the record: the rest of the table stays.
-fn set_mark(t: &mut [u8], n: usize, s: usize, o: usize, j: usize)
+fn marked_in(t: &mut [u8], n: usize, s: usize, o: usize, j: usize)
     requires { ⌜ Marking n s (now t) o j ⌝ }
-    ensures { λ _. ⌜ now (t .exit) ≡ markIn s (now (t .entry)) o j ⌝ }
+    ensures { λ _. ⌜ now (t .exit) ≡ markedIn s (now (t .entry)) o j ⌝ }
 {
     put_mark(t, n, s, o, j);
 }
@@ -49,7 +49,7 @@ fn list_all(
         };
         let x = slot_of(owner, number);
         st[x] = 2;
-        set_mark(&mut *t, n, s, owner, number);
+        marked_in(&mut *t, n, s, owner, number);
         list[count] = code_of(owner, number);
         count += 1;
     }
@@ -58,7 +58,7 @@ fn list_all(
 
 // Past 1 and 11.
 fn hand_out_open(t: &mut [u8], n: usize, s: usize, c: usize, list: &mut [u16]) -> Handing
-    requires { ⌜ Passed n s c (now t) ⌝ }
+    requires { ⌜ Judged n s c (now t) ⌝ }
     ensures answers { λ r. ⌜ r ≡ handedOpen n s (now (t .entry)) (now (list .entry)) .answer ⌝ }
     ensures table { λ _. ⌜ now (t .exit) ≡ handedOpen n s (now (t .entry)) (now (list .entry)) .table ⌝ }
     ensures list { λ _. ⌜ now (list .exit) ≡ handedOpen n s (now (t .entry)) (now (list .entry)) .list ⌝ }

@@ -9,12 +9,12 @@ use table::Judging;
 use table::judge_table;
 use table::records::load;
 ghost use mathlib.Core.Path.{_≡_};
-ghost use Rattle.order.specs.Passed.{Passed};
+ghost use Rattle.table.specs.Table.{Judged};
 ghost use Rattle.order.specs.Calls.{settledOpen, settled};
 
 // Past 1 and 11.
 fn settled_open(t: &[u8], n: usize, s: usize, c: usize, o: usize, j: usize) -> Settling
-    requires { ⌜ Passed n s c (now t) ⌝ }
+    requires { ⌜ Judged n s c (now t) ⌝ }
     ensures { λ r. ⌜ r ≡ settledOpen n s (now (t .entry)) o j ⌝ }
 {
     if !instance_ok(n, s, o, j) {

@@ -1,7 +1,7 @@
 // Whether each instance waits, is settled or was handed out, worked out once for a hand-out: dependencies and commits stay.
 use nouns::logic::equal;
 use nouns::logic::wide8;
-use rows::mark_of;
+use rows::mark_at;
 use rows::slot_of;
 use search::committed_of;
 ghost use mathlib.Core.Path.{_≡_};
@@ -12,12 +12,12 @@ ghost use Rattle.rules.specs.Order.{isMarked};
 ghost use Rattle.seen.specs.Records.{recordsIn};
 ghost use Rattle.rows.specs.Rows.{Within};
 ghost use Rattle.sweep.specs.Sweeping.{Sized};
-ghost use Rattle.order.specs.States.{Lead, Leads, behindNone, Asking, Stating, RowStating, State, States, Stated};
+ghost use Rattle.order.specs.States.{Prefix, Prefixes, behindNone, Asking, Stating, RowStating, State, States, Stated};
 
 // How many of owner q's first instances are committed.
-fn lead_of(t: &[u8], n: usize, s: usize, q: usize) -> usize
+fn prefix_of(t: &[u8], n: usize, s: usize, q: usize) -> usize
     requires { ⌜ Sized n s (now t) × (q < n) ⌝ }
-    ensures { λ r. ⌜ Lead s (recordsIn s (now (t .entry))) q r ⌝ }
+    ensures { λ r. ⌜ Prefix s (recordsIn s (now (t .entry))) q r ⌝ }
 {
     let mut j = 0;
     while j < s {
@@ -29,23 +29,23 @@ fn lead_of(t: &[u8], n: usize, s: usize, q: usize) -> usize
     j
 }
 
-fn lead_all(t: &[u8], n: usize, s: usize, lead: &mut [u8])
+fn prefix_all(t: &[u8], n: usize, s: usize, lead: &mut [u8])
     requires { ⌜ Sized n s (now t) × (length (now lead) ≡ 7) ⌝ }
-    ensures { λ _. ⌜ Leads n s (recordsIn s (now (t .entry))) (now (lead .exit)) ⌝ }
+    ensures { λ _. ⌜ Prefixes n s (recordsIn s (now (t .entry))) (now (lead .exit)) ⌝ }
 {
     for q in 0..n {
-        let z = lead_of(t, n, s, q);
+        let z = prefix_of(t, n, s, q);
         lead[q] = z as u8;
     }
 }
 
 // No mark at a place is above what its owner's row begins with.
-fn none_behind(n: usize, h: &[u8], x: usize, lead: &[u8]) -> bool
+fn behind_none(n: usize, h: &[u8], x: usize, lead: &[u8]) -> bool
     requires { ⌜ (n ≤ 7) × Within (now h) x × (length (now lead) ≡ 7) ⌝ }
     ensures { λ r. ⌜ r ≡ behindNone n (now (h .entry)) x (now (lead .entry)) ⌝ }
 {
     for q in 0..n {
-        if wide8(lead[q]) < mark_of(h, x, q) {
+        if wide8(lead[q]) < mark_at(h, x, q) {
             return false;
         }
     }
@@ -71,7 +71,7 @@ fn state_of(t: &[u8], n: usize, s: usize, h: &[u8], lead: &[u8], p: usize, k: us
     if !committed_of(t, n, s, p, k) {
         return 0;
     }
-    if none_behind(n, h, slot_of(p, k), lead) {
+    if behind_none(n, h, slot_of(p, k), lead) {
         return 1;
     }
     0
@@ -88,7 +88,7 @@ fn settle_row(t: &[u8], n: usize, s: usize, h: &[u8], lead: &[u8], st: &mut [u8]
 }
 
 fn settle_rows(t: &[u8], n: usize, s: usize, h: &[u8], lead: &[u8], st: &mut [u8])
-    requires { ⌜ Stating n s (now t) (now h) (now st) × Leads n s (recordsIn s (now t)) (now lead) ⌝ }
+    requires { ⌜ Stating n s (now t) (now h) (now st) × Prefixes n s (recordsIn s (now t)) (now lead) ⌝ }
     ensures { λ _. ⌜ Stated n s (recordsIn s (now (t .entry))) (now (st .exit)) ⌝ }
 {
     for o in 0..n {
@@ -101,6 +101,6 @@ pub fn settle_all(t: &[u8], n: usize, s: usize, h: &[u8], st: &mut [u8])
     ensures { λ _. ⌜ Stated n s (recordsIn s (now (t .entry))) (now (st .exit)) ⌝ }
 {
     let mut lead = [0u8; 7];
-    lead_all(t, n, s, &mut lead);
+    prefix_all(t, n, s, &mut lead);
     settle_rows(t, n, s, h, &lead, st);
 }

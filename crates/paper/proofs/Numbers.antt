@@ -6,7 +6,7 @@ use native.Mathlib.Omega.{arith}
 use lib.Dec.{eqb}
 use Rattle.paper.specs.Refusal.{numberOf}
 use Rattle.paper.specs.declared.Refusal.{Refusal}
-use Rattle.paper.specs.declared.Refusal.the-variants.{Setup, Unsound, Room, Message, Op, Instance, Committed, Idle, Ballots, Full, Differs}
+use Rattle.paper.specs.declared.Refusal.the-variants.{Setup, Unsound, Room, Message, Op, Instance, RecoverCommitted, NudgeIdle, BallotsUsedUp, NoBlank, OtherCommit}
 
 -- the refusal of a number
 refusalOf : ℕ → Refusal
@@ -16,7 +16,7 @@ refusalOf k =
     (cond (eqb k 2) Room
     (cond (eqb k 3) Message
     (cond (eqb k 4) Op
-    (cond (eqb k 6) Instance (cond (eqb k 8) Committed (cond (eqb k 9) Idle (cond (eqb k 7) Ballots (cond (eqb k 5) Full Differs)))))))))
+    (cond (eqb k 6) Instance (cond (eqb k 8) RecoverCommitted (cond (eqb k 9) NudgeIdle (cond (eqb k 7) BallotsUsedUp (cond (eqb k 5) NoBlank OtherCommit)))))))))
 
 back : (r : Refusal) → refusalOf (numberOf r) ≡ r
 unfolding refusalOf
@@ -26,11 +26,11 @@ back Room = refl
 back Message = refl
 back Op = refl
 back Instance = refl
-back Committed = refl
-back Idle = refl
-back Ballots = refl
-back Full = refl
-back Differs = refl
+back RecoverCommitted = refl
+back NudgeIdle = refl
+back BallotsUsedUp = refl
+back NoBlank = refl
+back OtherCommit = refl
 
 pub numberOf-apart : (a b : Refusal) → numberOf a ≡ numberOf b → a ≡ b
 numberOf-apart a b e = sym (back a) ∙ ap refusalOf e ∙ back b
@@ -42,8 +42,8 @@ numberOf-pos Room = omega arith
 numberOf-pos Message = omega arith
 numberOf-pos Op = omega arith
 numberOf-pos Instance = omega arith
-numberOf-pos Committed = omega arith
-numberOf-pos Idle = omega arith
-numberOf-pos Ballots = omega arith
-numberOf-pos Full = omega arith
-numberOf-pos Differs = omega arith
+numberOf-pos RecoverCommitted = omega arith
+numberOf-pos NudgeIdle = omega arith
+numberOf-pos BallotsUsedUp = omega arith
+numberOf-pos NoBlank = omega arith
+numberOf-pos OtherCommit = omega arith

@@ -5,7 +5,7 @@ use nouns::refusal::number_of;
 use wire::Reading;
 use wire::Writing;
 ghost use mathlib.Core.Path.{_≡_};
-ghost use Rattle.wire.specs.Calls.{received, wrote, readingNumber, writingNumber, writingCount};
+ghost use Rattle.wire.specs.Calls.{readMessage, wrote, readingNumber, writingNumber, writingCount};
 ghost use Rattle.pumxaqert.specs.Fields.{readValues, messageOf};
 
 #[no_mangle]
@@ -16,8 +16,8 @@ pub extern "C" fn pumxaqert_read_message(
     bytes: &[u8],
     fields: &mut [u64; 18],
 ) -> u32
-    ensures number { λ r. ⌜ r ≡ readingNumber (received n s c (now (bytes .entry)) .answer) ⌝ }
-    ensures fields { λ _. ⌜ now (fields .exit) ≡ readValues (received n s c (now (bytes .entry)) .answer) (received n s c (now (bytes .entry)) .message) ⌝ }
+    ensures number { λ r. ⌜ r ≡ readingNumber (readMessage n s c (now (bytes .entry)) .answer) ⌝ }
+    ensures fields { λ _. ⌜ now (fields .exit) ≡ readValues (readMessage n s c (now (bytes .entry)) .answer) (readMessage n s c (now (bytes .entry)) .message) ⌝ }
 {
     let x = wire::read_message(n, s, c, bytes);
     let answer = x.answer;

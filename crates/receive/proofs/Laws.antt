@@ -21,7 +21,7 @@ use Rattle.rules.specs.declared.Step.{Step}
 use Rattle.rules.specs.Step.{silent, collect, awaited}
 use Rattle.rules.specs.Commit.{differs}
 use Rattle.rules.specs.PrepareOk.{afreshCommand, decide, quorum, preparedBy, onPrepareOk}
-use Rattle.rules.specs.Received.{conflict, refused10, received}
+use Rattle.rules.specs.Received.{conflict, refused10, receive}
 use Rattle.rules.specs.Events.{onMessage}
 use Rattle.rules.specs.Seen.{seen}
 use Rattle.num.specs.Num.{Bytes}
@@ -121,7 +121,7 @@ module _ (n s c : ℕ) (t : List ℕ) (room : ℕ) (m : Message) (h : specs.Hear
 -- outcomes
 module _ (n s c : ℕ) (t out : List ℕ) where
   pub heard-10 : (m : Message) {o j : ℕ} {r : Record} → o ≡ m .owner → j ≡ m .number → r ≡ recordIn s t o j
-      → refused10 r m ≡ true → refuse why.Differs t out ≡ events.heard n s c t out m
+      → refused10 r m ≡ true → refuse why.OtherCommit t out ≡ events.heard n s c t out m
   unfolding events.heard
   heard-10 m {r = r} eo ej er e =
       let q : r ≡ recordIn s t (m .owner) (m .number) = rw (er, eo, ej) in
@@ -138,18 +138,18 @@ module _ (n s c : ℕ) (t out : List ℕ) where
 
   -- the step that was taken is the rule's
   pub message-step : (m : Message) {o j : ℕ} {r : Record} {x : Step} → o ≡ m .owner → j ≡ m .number → r ≡ recordIn s t o j
-      → x ≡ received n c (seen n s (recordsIn s t) (m .owner) (m .number)) r m → x ≡ onMessage n s c (recordsIn s t) m
+      → x ≡ receive n c (seen n s (recordsIn s t) (m .owner) (m .number)) r m → x ≡ onMessage n s c (recordsIn s t) m
   unfolding onMessage
   message-step m eo ej er ex = rw (ex, er, eo, ej)
 
   -- a reading that was refused, and one that was not
-  module _ (b : List ℕ) {x : Received} (e : x ≡ calls.received n s c b) (setup : setupOk n s c ≡ true) where
+  module _ (b : List ℕ) {x : Received} (e : x ≡ calls.readMessage n s c b) (setup : setupOk n s c ≡ true) where
     pub unread : (r : Refusal) → x .answer ≡ reading.Refused r → refuse r t out ≡ receiveOpen n s c t out b
     unfolding receiveOpen
-    unread r f = let g : calls.received n s c b .answer ≡ reading.Refused r = ap (λ (z : Received). z .answer) (sym e) ∙ f in rw g
+    unread r f = let g : calls.readMessage n s c b .answer ≡ reading.Refused r = ap (λ (z : Received). z .answer) (sym e) ∙ f in rw g
 
     pub read : x .answer ≡ reading.Valid → (validBytes n s c b ≡ true) × (x .message ≡ messageAt b)
-    unfolding calls.received
+    unfolding calls.readMessage
     read f = go (validBytes n s c b) refl
       where
         go : (v : Bool) → validBytes n s c b ≡ v → (validBytes n s c b ≡ true) × (x .message ≡ messageAt b)

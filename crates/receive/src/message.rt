@@ -1,6 +1,6 @@
 // The call: refusals in the paper's order, then the message's kind.
-use crate::by_kind::is_refused10;
-use crate::by_kind::received_as;
+use crate::by_kind::receive;
+use crate::by_kind::refused10;
 use log::Answer;
 use log::Gate;
 use log::act::act;
@@ -27,10 +27,10 @@ fn hear(t: &mut [u8], out: &mut [u8], n: usize, s: usize, c: usize, m: Message) 
     let o = wide8(m.owner);
     let j = wide16(m.number);
     let r = load(&*t, n, s, o, j);
-    if is_refused10(r, m) {
-        return Answer::Refused(Refusal::Differs);
+    if refused10(r, m) {
+        return Answer::Refused(Refusal::OtherCommit);
     }
-    let x = received_as(&*t, n, s, c, r, m);
+    let x = receive(&*t, n, s, c, r, m);
     act(t, out, n, s, o, j, x)
 }
 

@@ -14,7 +14,7 @@ use crate::places::VOTE;
 use nouns::deps::deps_ok;
 use nouns::logic::at_most;
 use nouns::logic::wide8;
-use nouns::vote::is_member;
+use nouns::vote::member;
 use nouns::vote::no_vote;
 use nouns::vote::none_is_blank;
 use nouns::vote::same_vote;
@@ -213,7 +213,7 @@ fn reply_ok(b: &[u8], n: usize, s: usize, c: usize, q: usize) -> bool
     }
     let v = codec::read_vote(b, at);
     let set = num::get_u8(b, SET);
-    if is_member(q, set) {
+    if member(q, set) {
         let joined = num::get_u32(b, JOINED);
         let own = codec::read_vote(b, VOTE);
         let phase = num::get_u8(b, PHASE);

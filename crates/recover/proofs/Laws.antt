@@ -25,12 +25,12 @@ module _ (n s c : ℕ) (t out : List ℕ) (o j : ℕ) where
   unfolding recoverOpen
   recover-6 p = rw p
 
-  pub recover-8 : instanceOk n s o j ≡ true → isCommitted (recordIn s t o j) ≡ true → refuse why.Committed t out ≡ recoverOpen n s c t out o j
+  pub recover-8 : instanceOk n s o j ≡ true → isCommitted (recordIn s t o j) ≡ true → refuse why.RecoverCommitted t out ≡ recoverOpen n s c t out o j
   unfolding recoverOpen
   recover-8 p q = rw (p, q)
 
   pub recover-7 : instanceOk n s o j ≡ true → isCommitted (recordIn s t o j) ≡ false → outOfBallots (recordIn s t o j) ≡ true
-      → refuse why.Ballots t out ≡ recoverOpen n s c t out o j
+      → refuse why.BallotsUsedUp t out ≡ recoverOpen n s c t out o j
   unfolding recoverOpen
   recover-7 p q r = rw (p, q, r)
 

@@ -34,10 +34,10 @@ fn recover_open(
     }
     let r = load(&*t, n, s, o, j);
     if is_committed(r) {
-        return Answer::Refused(Refusal::Committed);
+        return Answer::Refused(Refusal::RecoverCommitted);
     }
     if 4_294_967_288 <= r.joined {
-        return Answer::Refused(Refusal::Ballots);
+        return Answer::Refused(Refusal::BallotsUsedUp);
     }
     let x = on_recover(n, byte(c), byte(o), short(j), r);
     act(t, out, n, s, o, j, x)

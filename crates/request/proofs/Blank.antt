@@ -25,7 +25,8 @@ use Rattle.closed.proofs.Laws.{both, all-in, imp-at, three, four}
 use Rattle.closed.proofs.Sets.{member-none}
 use Rattle.closed.proofs.Sound.{Sound, sound-is}
 use Rattle.closed.proofs.Shapes.{unmarked}
-use Rattle.request.specs.Request.{Judged, isUntouched}
+use Rattle.request.specs.Request.{isUntouched}
+use Rattle.table.specs.Table.{Judged}
 
 -- status 0 of a sound record is no vote
 none-voted : (n s : ℕ) (v : Vote) → voteOk n s 4 v ≡ true → noneIsBlank v ≡ true → v .status ≡ 0 → sameVote v noVote ≡ true

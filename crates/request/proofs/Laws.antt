@@ -36,7 +36,7 @@ unfolding onRequest request
 request-step n s c t k ej eq ei er ed = rw (ed, er, eq, ei, ej)
 
 module _ (n s c : ℕ) (t out : List ℕ) where
-  pub asked-5 : (k : Command) {j : ℕ} → j ≡ requestNumber s c (recordsIn s t) → s < j → refuse why.Full t out ≡ asked n s c t out k
+  pub asked-5 : (k : Command) {j : ℕ} → j ≡ requestNumber s c (recordsIn s t) → s < j → refuse why.NoBlank t out ≡ asked n s c t out k
   unfolding asked
   asked-5 k {j} e l = let p = lt-ltb s j l in rw (← e, p)
 

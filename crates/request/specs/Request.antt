@@ -16,11 +16,6 @@ use Rattle.log.specs.Events.{Passed}
 unfoldable pub isUntouched : Record → Bool
 isUntouched r = eqb (r .joined) 0 && eqb (r .vote .status) 0 && eqb (r .phase) 0
 
--- a table that was not refused
-pub record Judged (n s c : ℕ) (t : List ℕ) : Type 0 where
-  pub setup : fits n s c t ≡ true
-  pub sound : soundTable n s c t ≡ true
-
 pub record Asking (n s c : ℕ) (t : List ℕ) (room : ℕ) (k : Command) : Type 0 where
   pub passed : Passed n s c t room
   pub ok : commandOk k ≡ true

@@ -1,5 +1,5 @@
 // The call: refusals in the paper's order, then the step.
-use crate::lowest::lowest_blank;
+use crate::lowest::request_number;
 use codec::op_of;
 use log::Answer;
 use log::Gate;
@@ -14,9 +14,9 @@ use paper::Command;
 use paper::Record;
 use paper::Refusal;
 use rules::Step;
-use seen::seen_of;
-use step::afresh::afresh_with;
-use step::made::begun_at;
+use seen::seen;
+use step::afresh::afresh;
+use step::made::begun;
 ghost use mathlib.Core.Path.{_≡_};
 ghost use Prim.Native.Nat.{_≤_};
 ghost use lib.ListN.{length};
@@ -27,19 +27,19 @@ ghost use Rattle.seen.specs.Records.{recordsIn};
 ghost use Rattle.log.specs.Events.{Passed, asked, requestOpen, requested};
 ghost use Rattle.request.specs.Request.{Asking};
 
-fn blank_record() -> Record
+fn blank() -> Record
     ensures { λ r. ⌜ r ≡ blank ⌝ }
 {
-    begun_at(0, no_vote(), 0, 0)
+    begun(0, no_vote(), 0, 0)
 }
 
-fn request_at(t: &[u8], n: usize, s: usize, c: usize, j: usize, k: Command) -> Step
+fn on_request(t: &[u8], n: usize, s: usize, c: usize, j: usize, k: Command) -> Step
     requires { ⌜ Sizes n s c (now t) × (j ≤ s) × (j ≡ requestNumber s c (recordsIn s (now t))) ⌝ }
     ensures { λ x. ⌜ x ≡ onRequest n s c (recordsIn s (now (t .entry))) k ⌝ }
 {
-    let seen = seen_of(t, n, s, c, c, j, k);
+    let seen = seen(t, n, s, c, c, j, k);
     let own = byte(c);
-    afresh_with(n, own, own, short(j), blank_record(), k, seen)
+    afresh(n, own, own, short(j), blank(), k, seen)
 }
 
 // A command that is taken: 5, then the step.
@@ -49,11 +49,11 @@ fn ask(t: &mut [u8], out: &mut [u8], n: usize, s: usize, c: usize, k: Command) -
     ensures table { λ _. ⌜ now (t .exit) ≡ asked n s c (now (t .entry)) (now (out .entry)) k .table ⌝ }
     ensures room { λ _. ⌜ now (out .exit) ≡ asked n s c (now (t .entry)) (now (out .entry)) k .out ⌝ }
 {
-    let j = lowest_blank(&*t, n, s, c);
+    let j = request_number(&*t, n, s, c);
     if s < j {
-        return Answer::Refused(Refusal::Full);
+        return Answer::Refused(Refusal::NoBlank);
     }
-    let x = request_at(&*t, n, s, c, j, k);
+    let x = on_request(&*t, n, s, c, j, k);
     act(t, out, n, s, c, j, x)
 }
 

@@ -11,7 +11,8 @@ ghost use Prim.Native.Nat.{_≤_};
 ghost use Rattle.rules.specs.Events.{requestNumber};
 ghost use Rattle.seen.specs.Records.{recordsIn};
 ghost use Rattle.table.specs.Sizes.{Has};
-ghost use Rattle.request.specs.Request.{Judged, isUntouched};
+ghost use Rattle.request.specs.Request.{isUntouched};
+ghost use Rattle.table.specs.Table.{Judged};
 
 // No ballot joined, no vote, no phase: in a sound table that is a blank record.
 fn is_untouched(t: &[u8], n: usize, s: usize, o: usize, j: usize) -> bool
@@ -25,7 +26,7 @@ fn is_untouched(t: &[u8], n: usize, s: usize, o: usize, j: usize) -> bool
 }
 
 // The lowest blank own number; above S where none is blank.
-pub fn lowest_blank(t: &[u8], n: usize, s: usize, c: usize) -> usize
+pub fn request_number(t: &[u8], n: usize, s: usize, c: usize) -> usize
     requires { ⌜ Judged n s c (now t) ⌝ }
     ensures { λ r. ⌜ (r ≡ requestNumber s c (recordsIn s (now (t .entry)))) × (1 ≤ r) ⌝ }
 {

@@ -12,10 +12,10 @@ use Rattle.num.proofs.Fields.{fieldsAt-fieldsBytes}
 use Rattle.codec.specs.Parts.{depsAt, depsBytes, depsWidths, depsNumbers}
 use Rattle.codec.proofs.Laws.{deps-are, depsAt-fits}
 use Rattle.paper.specs.Fits.{DepsFit}
-use Rattle.rows.specs.Rows.{rowOf, markIn, putRow, Within}
+use Rattle.rows.specs.Rows.{rowOf, markAt, putRow, Within}
 
 -- one mark alone
-pub mark-is : (h : List ℕ) (x o : ℕ) → o < 7 → markIn h x o ≡ numAt 2 h (14 * x + 2 * o)
+pub mark-is : (h : List ℕ) (x o : ℕ) → o < 7 → markAt h x o ≡ numAt 2 h (14 * x + 2 * o)
 unfolding depsAt
 mark-is h x zero l = ap (numAt 2 h) (omega arith)
 mark-is h x (suc zero) l = ap (numAt 2 h) (omega arith)

@@ -15,8 +15,8 @@ slotOf o j = 64 * o + (j - 1)
 abbrev pub rowOf : List ℕ → ℕ → List ℕ
 rowOf h x = depsAt h (14 * x)
 
-abbrev pub markIn : List ℕ → ℕ → ℕ → ℕ
-markIn h x o = getD (rowOf h x) o 0
+abbrev pub markAt : List ℕ → ℕ → ℕ → ℕ
+markAt h x o = getD (rowOf h x) o 0
 
 unfoldable pub putRow : List ℕ → ℕ → List ℕ → List ℕ
 putRow h x d = splice h (14 * x) (depsBytes d)

@@ -2,7 +2,7 @@
 use nouns::logic::wide16;
 ghost use mathlib.Core.Path.{_≡_};
 ghost use Prim.Native.Nat.{_≤_, _<_};
-ghost use Rattle.rows.specs.Rows.{slotOf, rowOf, markIn, putRow, Within};
+ghost use Rattle.rows.specs.Rows.{slotOf, rowOf, markAt, putRow, Within};
 
 // The place of o.j: 64 to an owner.
 pub fn slot_of(o: usize, j: usize) -> usize
@@ -20,9 +20,9 @@ pub fn row_of(h: &[u8], x: usize) -> [u16; 7]
 }
 
 // The mark of owner o at a place: its row up to there is reached.
-pub fn mark_of(h: &[u8], x: usize, o: usize) -> usize
+pub fn mark_at(h: &[u8], x: usize, o: usize) -> usize
     requires { ⌜ Within (now h) x × (o < 7) ⌝ }
-    ensures { λ r. ⌜ r ≡ markIn (now (h .entry)) x o ⌝ }
+    ensures { λ r. ⌜ r ≡ markAt (now (h .entry)) x o ⌝ }
 {
     wide16(num::get_u16(h, 14 * x + 2 * o))
 }

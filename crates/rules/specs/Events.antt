@@ -10,7 +10,7 @@ use Rattle.paper.specs.declared.Message.{Message}
 use Rattle.rules.specs.declared.Step.{Step}
 use Rattle.rules.specs.Seen.{Records, seen}
 use Rattle.rules.specs.Request.{lowestBlank, request}
-use Rattle.rules.specs.Received.{received}
+use Rattle.rules.specs.Received.{receive}
 use Rattle.rules.specs.Recover.{recover}
 use Rattle.rules.specs.Nudge.{nudge}
 
@@ -26,7 +26,7 @@ unfoldable pub onRequest : ℕ → ℕ → ℕ → Records → Command → Step
 onRequest n s c t k = request n c (requestNumber s c t) k (seen n s t c (requestNumber s c t) k)
 
 unfoldable pub onMessage : ℕ → ℕ → ℕ → Records → Message → Step
-onMessage n s c t m = received n c (seen n s t (m .owner) (m .number)) (t (m .owner) (m .number)) m
+onMessage n s c t m = receive n c (seen n s t (m .owner) (m .number)) (t (m .owner) (m .number)) m
 
 unfoldable pub onRecover : ℕ → ℕ → Records → ℕ → ℕ → Step
 onRecover n c t o j = recover n c o j (t o j)

@@ -54,8 +54,8 @@ abbrev pub joinedAt : ℕ → Record
 joinedAt b = record { joined = b; vote = noVote; mark = 0; phase = 0; set = 0; replies = replicate 7 noVote }
 
 -- what a copy told: status t at ballot b
-abbrev pub told : ℕ → ℕ → ℕ → Vote
-told b t e = record { voted = b; status = t; command = write e; deps = noDeps }
+abbrev pub toldVote : ℕ → ℕ → ℕ → Vote
+toldVote b t e = record { voted = b; status = t; command = write e; deps = noDeps }
 
 -- what a copy added
 abbrev pub added : List ℕ → Vote
@@ -82,7 +82,7 @@ preAcceptTo q = record { from = 0; to = q; owner = 0; number = 1; ballot = 0; bo
 
 -- the vote of a pre-accept at ballot 0, as received
 abbrev pub voted : Record
-voted = record { joined = 10; vote = told 0 2 100; mark = 0; phase = 0; set = 0; replies = replicate 7 noVote }
+voted = record { joined = 10; vote = toldVote 0 2 100; mark = 0; phase = 0; set = 0; replies = replicate 7 noVote }
 
 abbrev pub prepare : Message
 prepare = record { from = 2; to = 1; owner = 0; number = 1; ballot = 18; body = Prepare; deps = noDeps }
@@ -92,7 +92,7 @@ abbrev pub agreed : Record
 agreed =
     record {
       joined = 0;
-      vote = told 0 2 100;
+      vote = toldVote 0 2 100;
       mark = 0;
       phase = 2;
       set = 6;
@@ -118,11 +118,11 @@ pub record Worked : Type 0 where
   pub W5-last : outOfBallots (joinedAt 4_294_967_288) ≡ true
   -- N=5, owner absent, three replies, two of status 2 at ballot 0: accept; one of status 2, one of 1: pre-accept afresh;
   -- owner present: afresh
-  pub W6-accept : decide 5 2 0 1 (preparing 14 (votes noVote (told 0 2 1) noVote (told 0 2 1) noVote)) noDeps .entry .phase ≡ 3
-  pub W6-afresh : decide 5 2 0 1 (preparing 14 (votes noVote (told 0 2 1) noVote (told 0 1 1) noVote)) noDeps .entry .phase ≡ 2
-  pub W6-owner : decide 5 2 0 1 (preparing 7 (votes (told 0 2 1) (told 0 2 1) noVote noVote noVote)) noDeps .entry .phase ≡ 2
+  pub W6-accept : decide 5 2 0 1 (preparing 14 (votes noVote (toldVote 0 2 1) noVote (toldVote 0 2 1) noVote)) noDeps .entry .phase ≡ 3
+  pub W6-afresh : decide 5 2 0 1 (preparing 14 (votes noVote (toldVote 0 2 1) noVote (toldVote 0 1 1) noVote)) noDeps .entry .phase ≡ 2
+  pub W6-owner : decide 5 2 0 1 (preparing 7 (votes (toldVote 0 2 1) (toldVote 0 2 1) noVote noVote noVote)) noDeps .entry .phase ≡ 2
   -- status 3 voted at 10 and at 17: the one at 17
-  pub W7 : decide 5 2 0 1 (preparing 14 (votes noVote (told 10 3 1) noVote (told 17 3 2) noVote)) noDeps .entry .vote .command ≡ write 2
+  pub W7 : decide 5 2 0 1 (preparing 14 (votes noVote (toldVote 10 3 1) noVote (toldVote 17 3 2) noVote)) noDeps .entry .vote .command ≡ write 2
   -- 0.1 (0,1,0) and 1.1 (1,0,0), both committed: codes 1, 257
   pub W8 : handOut 4 3 4 cycle ≡ 1 ∷ 257 ∷ []
   -- 0.1 (0,0,1), 2.1 (0,0,0): codes 513, 1

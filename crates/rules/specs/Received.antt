@@ -28,8 +28,8 @@ byKind n c o j seen r m (PrepareOk v t k) = onPrepareOk n c o j r m seen
 byKind n c o j seen r m (Nack x) = nack r m x
 
 -- what a valid message does to its instance's record; seen: Seen of a command for that instance
-abbrev pub received : ℕ → ℕ → (Command → List ℕ) → Record → Message → Step
-received n c seen r m = byKind n c (m .owner) (m .number) seen r m (m .body)
+abbrev pub receive : ℕ → ℕ → (Command → List ℕ) → Record → Message → Step
+receive n c seen r m = byKind n c (m .owner) (m .number) seen r m (m .body)
 
 unfoldable pub conflict : Record → Message → Body → Bool
 conflict r m (PreAccept k) = false

@@ -2,7 +2,7 @@
 use crate::value::put_proposal;
 use nouns::logic::wide8;
 use nouns::logic::wide32;
-use nouns::vote::is_member;
+use nouns::vote::member;
 use paper::Record;
 use paper::Vote;
 use record::places::LENGTH;
@@ -16,7 +16,7 @@ fn put_member(out: Text, q: usize, set: u8) -> Text {
     if 6 < q {
         return out;
     }
-    if is_member(q, set) {
+    if member(q, set) {
         return put_number(out, q);
     }
     out

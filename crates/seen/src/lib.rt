@@ -1,5 +1,5 @@
 // "Seen(c, I)" over the table's bytes.
-use nouns::command::interferes;
+use nouns::command::interfere;
 use nouns::logic::at_most;
 use nouns::logic::both;
 use nouns::logic::equal;
@@ -24,7 +24,7 @@ fn meets(t: &[u8], n: usize, s: usize, p: usize, i: usize, k: Command) -> bool
 {
     let v = vote_of(t, n, s, p, i);
     let command = v.command;
-    both(at_most(1, wide8(v.status)), interferes(k, command))
+    both(at_most(1, wide8(v.status)), interfere(k, command))
 }
 
 fn another(o: usize, j: usize, p: usize, i: usize) -> bool
@@ -66,7 +66,7 @@ fn small(x: usize) -> u16
 }
 
 // Entry p: zero from copy N on.
-fn entry_seen(
+fn seen_entry(
     t: &[u8],
     n: usize,
     s: usize,
@@ -86,16 +86,16 @@ fn entry_seen(
 }
 
 // For each owner, the highest number of a record other than o.j with status >= 1 whose command interferes with k.
-pub fn seen_of(t: &[u8], n: usize, s: usize, c: usize, o: usize, j: usize, k: Command) -> [u16; 7]
+pub fn seen(t: &[u8], n: usize, s: usize, c: usize, o: usize, j: usize, k: Command) -> [u16; 7]
     requires { ⌜ Sizes n s c (now t) ⌝ }
     ensures { λ r. ⌜ r ≡ seen n s (recordsIn s (now (t .entry))) o j k ⌝ }
 {
-    let d0 = entry_seen(t, n, s, c, o, j, k, 0);
-    let d1 = entry_seen(t, n, s, c, o, j, k, 1);
-    let d2 = entry_seen(t, n, s, c, o, j, k, 2);
-    let d3 = entry_seen(t, n, s, c, o, j, k, 3);
-    let d4 = entry_seen(t, n, s, c, o, j, k, 4);
-    let d5 = entry_seen(t, n, s, c, o, j, k, 5);
-    let d6 = entry_seen(t, n, s, c, o, j, k, 6);
+    let d0 = seen_entry(t, n, s, c, o, j, k, 0);
+    let d1 = seen_entry(t, n, s, c, o, j, k, 1);
+    let d2 = seen_entry(t, n, s, c, o, j, k, 2);
+    let d3 = seen_entry(t, n, s, c, o, j, k, 3);
+    let d4 = seen_entry(t, n, s, c, o, j, k, 4);
+    let d5 = seen_entry(t, n, s, c, o, j, k, 5);
+    let d6 = seen_entry(t, n, s, c, o, j, k, 6);
     [d0, d1, d2, d3, d4, d5, d6]
 }

@@ -2,7 +2,7 @@
 use nouns::logic::below;
 use nouns::logic::both;
 use nouns::logic::equal;
-use nouns::vote::is_member;
+use nouns::vote::member;
 ghost use mathlib.Core.Path.{_≡_};
 ghost use mathlib.Core.Bool.{cond, not, _&&_};
 ghost use lib.Dec.{ltb, eqb};
@@ -50,16 +50,16 @@ pub fn lowest_of(a: bool, b: bool, c: bool, d: bool, e: bool, f: bool, g: bool) 
 }
 
 // The lowest member of a set, 7 where there is none.
-pub fn lowest_in(m: u8) -> usize
+pub fn lowest(m: u8) -> usize
     ensures { λ r. ⌜ r ≡ lowest (λ q. member q m) ⌝ }
 {
-    let q0 = is_member(0, m);
-    let q1 = is_member(1, m);
-    let q2 = is_member(2, m);
-    let q3 = is_member(3, m);
-    let q4 = is_member(4, m);
-    let q5 = is_member(5, m);
-    let q6 = is_member(6, m);
+    let q0 = member(0, m);
+    let q1 = member(1, m);
+    let q2 = member(2, m);
+    let q3 = member(3, m);
+    let q4 = member(4, m);
+    let q5 = member(5, m);
+    let q6 = member(6, m);
     lowest_of(q0, q1, q2, q3, q4, q5, q6)
 }
 
@@ -72,7 +72,7 @@ pub fn only_of(q: u8) -> u8
 }
 
 // The set m, which copy q has joined.
-pub fn with_of(m: u8, q: u8) -> u8
+pub fn with(m: u8, q: u8) -> u8
     requires { ⌜ (q < 7) × (m < 128) ⌝ }
     ensures { λ r. ⌜ r ≡ with m q ⌝ }
 {
@@ -86,7 +86,7 @@ fn other(n: usize, c: usize, q: usize) -> bool
 }
 
 // All copies but this one.
-pub fn others_of(n: usize, c: usize) -> u8
+pub fn others(n: usize, c: usize) -> u8
     ensures { λ r. ⌜ r ≡ others n c ⌝ }
 {
     let q0 = other(n, c, 0);
@@ -103,11 +103,11 @@ fn missing(n: usize, c: usize, m: u8, q: usize) -> bool
     requires { ⌜ q < 8 ⌝ }
     ensures { λ r. ⌜ r ≡ (ltb q n && not (eqb q c) && not (member q m)) ⌝ }
 {
-    both(other(n, c, q), !is_member(q, m))
+    both(other(n, c, q), !member(q, m))
 }
 
 // All copies but this one and those in m.
-pub fn absent_of(n: usize, c: usize, m: u8) -> u8
+pub fn absent(n: usize, c: usize, m: u8) -> u8
     ensures { λ r. ⌜ r ≡ absent n c m ⌝ }
 {
     let q0 = missing(n, c, m, 0);

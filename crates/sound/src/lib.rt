@@ -1,20 +1,20 @@
 // Whether a record is sound, by value and a part at a time: each line is a clause of the paper, in the order of paper/specs/Sound.
 // Ranges and votes are asked field by field, as specs/Asked has them.
 use nouns::ballot::ballot_ok;
-use nouns::ballot::lead_of;
+use nouns::ballot::lead;
 use nouns::command::is_noop;
 use nouns::logic::at_most;
 use nouns::logic::below;
 use nouns::logic::both;
 use nouns::logic::either;
 use nouns::logic::equal;
-use nouns::logic::implied;
+use nouns::logic::implies;
 use nouns::logic::wide8;
 use nouns::logic::wide32;
-use nouns::setup::faults_of;
+use nouns::setup::faults;
 use nouns::vote::added_ok;
-use nouns::vote::count_of;
-use nouns::vote::is_member;
+use nouns::vote::count;
+use nouns::vote::member;
 use nouns::vote::no_vote;
 use nouns::vote::same_vote;
 use nouns::vote::told_ok;
@@ -74,10 +74,10 @@ fn preparing_ok(n: usize, c: usize, joined: u32, v: Vote, phase: u8, set: u8) ->
     ensures { λ r. ⌜ r ≡ preparingOk n c (front joined v 0 phase set) ⌝ }
 {
     let now = equal(wide8(phase), 1);
-    let ballot = implied(now, at_most(8, wide32(joined)));
-    let voted = implied(now, below(wide32(v.voted), wide32(joined)));
-    let own = implied(now, is_member(c, set));
-    let few = implied(now, at_most(count_of(set), faults_of(n)));
+    let ballot = implies(now, at_most(8, wide32(joined)));
+    let voted = implies(now, below(wide32(v.voted), wide32(joined)));
+    let own = implies(now, member(c, set));
+    let few = implies(now, at_most(count(set), faults(n)));
     both(both(both(ballot, voted), own), few)
 }
 
@@ -85,7 +85,7 @@ fn status_fits(v: Vote, phase: u8) -> bool
     ensures { λ r. ⌜ r ≡ (preacceptingStatus (front 0 v 0 phase 0)) ⌝ }
 {
     let status = wide8(v.status);
-    implied(
+    implies(
         equal(wide8(phase), 2),
         either(equal(status, 1), equal(status, 2)),
     )
@@ -95,8 +95,8 @@ fn op_fits(joined: u32, v: Vote, phase: u8) -> bool
     ensures { λ r. ⌜ r ≡ (preacceptingOp (front joined v 0 phase 0)) ⌝ }
 {
     let command = v.command;
-    let first = implied(equal(wide32(joined), 0), !is_noop(command));
-    implied(equal(wide8(phase), 2), first)
+    let first = implies(equal(wide32(joined), 0), !is_noop(command));
+    implies(equal(wide8(phase), 2), first)
 }
 
 fn proposing_ok(c: usize, joined: u32, v: Vote, phase: u8, set: u8) -> bool
@@ -104,9 +104,9 @@ fn proposing_ok(c: usize, joined: u32, v: Vote, phase: u8, set: u8) -> bool
     ensures { λ r. ⌜ r ≡ proposingOk c (front joined v 0 phase set) ⌝ }
 {
     let p = wide8(phase);
-    let accepting = implied(equal(p, 3), equal(wide8(v.status), 3));
-    let voted = implied(at_most(2, p), equal(wide32(v.voted), wide32(joined)));
-    let own = implied(at_most(2, p), !is_member(c, set));
+    let accepting = implies(equal(p, 3), equal(wide8(v.status), 3));
+    let voted = implies(at_most(2, p), equal(wide32(v.voted), wide32(joined)));
+    let own = implies(at_most(2, p), !member(c, set));
     let statuses = both(
         both(status_fits(v, phase), op_fits(joined, v, phase)),
         accepting,
@@ -118,9 +118,9 @@ fn busy_ok(c: usize, o: usize, joined: u32, v: Vote, phase: u8, set: u8) -> bool
     ensures { λ r. ⌜ r ≡ busyOk c o (front joined v 0 phase set) ⌝ }
 {
     let p = wide8(phase);
-    let empty = implied(equal(p, 0), equal(wide8(set), 0));
-    let open = implied(at_most(1, p), below(wide8(v.status), 4));
-    let leads = implied(at_most(1, p), equal(lead_of(o, joined), c));
+    let empty = implies(equal(p, 0), equal(wide8(set), 0));
+    let open = implies(at_most(1, p), below(wide8(v.status), 4));
+    let leads = implies(at_most(1, p), equal(lead(o, joined), c));
     both(both(empty, open), leads)
 }
 

@@ -1,14 +1,14 @@
 // "Accepting".
-use crate::made::begun_at;
-use crate::made::said;
-use nouns::deps::join_of;
+use crate::made::begun;
+use crate::made::say;
+use nouns::deps::join;
 use nouns::logic::wide8;
 use paper::Body;
 use paper::Command;
 use paper::Record;
 use paper::Vote;
 use rules::Step;
-use sets::others_of;
+use sets::others;
 ghost use mathlib.Core.Path.{_≡_};
 ghost use Rattle.paper.specs.Deps.{join};
 ghost use Rattle.rules.specs.Accepting.{joinAll, accepting, acceptingJoin};
@@ -17,7 +17,7 @@ fn join_vote(d: [u16; 7], v: Vote) -> [u16; 7]
     ensures { λ x. ⌜ x ≡ join d (v .deps) ⌝ }
 {
     let deps = v.deps;
-    join_of(d, deps)
+    join(d, deps)
 }
 
 // The join of these dependencies and all replies'.
@@ -34,7 +34,7 @@ fn join_all(d: [u16; 7], vs: [Vote; 7]) -> [u16; 7]
 }
 
 // Status 3, voted = joined, phase 3, nothing collected; Accept to all others.
-pub fn accepting_with(n: usize, c: u8, o: u8, j: u16, r: Record, k: Command, d: [u16; 7]) -> Step
+pub fn accepting(n: usize, c: u8, o: u8, j: u16, r: Record, k: Command, d: [u16; 7]) -> Step
     ensures { λ x. ⌜ x ≡ accepting n c o j r k d ⌝ }
 {
     let vote = Vote {
@@ -43,9 +43,9 @@ pub fn accepting_with(n: usize, c: u8, o: u8, j: u16, r: Record, k: Command, d: 
         command: k,
         deps: d,
     };
-    let entry = begun_at(r.joined, vote, r.mark, 3);
-    let message = said(c, o, j, r.joined, Body::Accept(k), d);
-    let to = others_of(n, wide8(c));
+    let entry = begun(r.joined, vote, r.mark, 3);
+    let message = say(c, o, j, r.joined, Body::Accept(k), d);
+    let to = others(n, wide8(c));
     Step { entry, to, message }
 }
 
@@ -56,5 +56,5 @@ pub fn accepting_join(n: usize, c: u8, o: u8, j: u16, r: Record) -> Step
     let command = r.vote.command;
     let deps = r.vote.deps;
     let replies = r.replies;
-    accepting_with(n, c, o, j, r, command, join_all(deps, replies))
+    accepting(n, c, o, j, r, command, join_all(deps, replies))
 }

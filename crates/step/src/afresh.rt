@@ -1,18 +1,18 @@
 // "Afresh": pre-accepting at the joined ballot.
-use crate::made::begun_at;
-use crate::made::said;
+use crate::made::begun;
+use crate::made::say;
 use nouns::logic::wide8;
 use paper::Body;
 use paper::Command;
 use paper::Record;
 use paper::Vote;
 use rules::Step;
-use sets::others_of;
+use sets::others;
 ghost use mathlib.Core.Path.{_≡_};
 ghost use Rattle.rules.specs.Afresh.{afresh};
 
 // The dependencies d (Seen's), status 2, voted = joined, phase 2, nothing collected; PreAccept to all others.
-pub fn afresh_with(n: usize, c: u8, o: u8, j: u16, r: Record, k: Command, d: [u16; 7]) -> Step
+pub fn afresh(n: usize, c: u8, o: u8, j: u16, r: Record, k: Command, d: [u16; 7]) -> Step
     ensures { λ x. ⌜ x ≡ afresh n c o j r k d ⌝ }
 {
     let vote = Vote {
@@ -21,8 +21,8 @@ pub fn afresh_with(n: usize, c: u8, o: u8, j: u16, r: Record, k: Command, d: [u1
         command: k,
         deps: d,
     };
-    let entry = begun_at(r.joined, vote, r.mark, 2);
-    let message = said(c, o, j, r.joined, Body::PreAccept(k), d);
-    let to = others_of(n, wide8(c));
+    let entry = begun(r.joined, vote, r.mark, 2);
+    let message = say(c, o, j, r.joined, Body::PreAccept(k), d);
+    let to = others(n, wide8(c));
     Step { entry, to, message }
 }

@@ -1,17 +1,17 @@
 // Committing keeps both ballots; phase 0, nothing collected.
-use crate::made::begun_at;
-use crate::made::said;
+use crate::made::begun;
+use crate::made::say;
 use nouns::logic::wide8;
 use paper::Body;
 use paper::Command;
 use paper::Record;
 use paper::Vote;
 use rules::Step;
-use sets::others_of;
+use sets::others;
 ghost use mathlib.Core.Path.{_≡_};
 ghost use Rattle.rules.specs.Committing.{committed, committing};
 
-pub fn committed_with(r: Record, k: Command, d: [u16; 7]) -> Record
+pub fn committed(r: Record, k: Command, d: [u16; 7]) -> Record
     ensures { λ x. ⌜ x ≡ committed r k d ⌝ }
 {
     let vote = Vote {
@@ -20,17 +20,17 @@ pub fn committed_with(r: Record, k: Command, d: [u16; 7]) -> Record
         command: k,
         deps: d,
     };
-    begun_at(r.joined, vote, r.mark, 0)
+    begun(r.joined, vote, r.mark, 0)
 }
 
 // A lead that commits what it holds sends Commit to all others.
-pub fn committing_own(n: usize, c: u8, o: u8, j: u16, r: Record) -> Step
+pub fn committing(n: usize, c: u8, o: u8, j: u16, r: Record) -> Step
     ensures { λ x. ⌜ x ≡ committing n c o j r ⌝ }
 {
     let command = r.vote.command;
     let deps = r.vote.deps;
-    let entry = committed_with(r, command, deps);
-    let message = said(c, o, j, r.joined, Body::Commit(command), deps);
-    let to = others_of(n, wide8(c));
+    let entry = committed(r, command, deps);
+    let message = say(c, o, j, r.joined, Body::Commit(command), deps);
+    let to = others(n, wide8(c));
     Step { entry, to, message }
 }

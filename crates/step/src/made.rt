@@ -4,7 +4,7 @@ use nouns::logic::both;
 use nouns::logic::equal;
 use nouns::logic::wide8;
 use nouns::logic::wide32;
-use nouns::vote::is_member;
+use nouns::vote::member;
 use nouns::vote::no_vote;
 use paper::Body;
 use paper::Message;
@@ -12,7 +12,7 @@ use paper::Record;
 use paper::Vote;
 use rules::Step;
 use sets::only_of;
-use sets::with_of;
+use sets::with;
 ghost use mathlib.Core.Path.{_≡_};
 ghost use Prim.Native.Nat.{_<_};
 ghost use lib.ListN.{length};
@@ -25,7 +25,7 @@ pub fn is_committed(r: Record) -> bool
     equal(wide8(r.vote.status), 4)
 }
 
-pub fn said(c: u8, o: u8, j: u16, b: u32, body: Body, d: [u16; 7]) -> Message
+pub fn say(c: u8, o: u8, j: u16, b: u32, body: Body, d: [u16; 7]) -> Message
     ensures { λ x. ⌜ x ≡ say c o j b body d ⌝ }
 {
     Message {
@@ -55,7 +55,7 @@ pub fn no_message() -> Message
 }
 
 // Nothing is sent.
-pub fn silently(r: Record) -> Step
+pub fn silent(r: Record) -> Step
     ensures { λ x. ⌜ x ≡ silent r ⌝ }
 {
     let message = no_message();
@@ -67,7 +67,7 @@ pub fn silently(r: Record) -> Step
 }
 
 // A record in phase p with nothing collected.
-pub fn begun_at(b: u32, v: Vote, k: u8, p: u8) -> Record
+pub fn begun(b: u32, v: Vote, k: u8, p: u8) -> Record
     ensures { λ x. ⌜ x ≡ begun b v k p ⌝ }
 {
     let none = no_vote();
@@ -83,7 +83,7 @@ pub fn begun_at(b: u32, v: Vote, k: u8, p: u8) -> Record
 }
 
 // Whether a reply is looked at: its phase, its ballot, and once from each copy.
-pub fn is_awaited(p: usize, r: Record, m: Message) -> bool
+pub fn awaited(p: usize, r: Record, m: Message) -> bool
     requires { ⌜ m .from < 7 ⌝ }
     ensures { λ x. ⌜ x ≡ awaited p r m ⌝ }
 {
@@ -91,11 +91,11 @@ pub fn is_awaited(p: usize, r: Record, m: Message) -> bool
         equal(wide8(r.phase), p),
         equal(wide32(r.joined), wide32(m.ballot)),
     );
-    both(now, !is_member(wide8(m.from), r.set))
+    both(now, !member(wide8(m.from), r.set))
 }
 
 // The record with the reply v of copy q collected.
-pub fn collected(r: Record, q: u8, v: Vote) -> Record
+pub fn collect(r: Record, q: u8, v: Vote) -> Record
     requires { ⌜ (q < 7) × (r .set < 128) ⌝ }
     ensures { λ x. ⌜ x ≡ collect r q v ⌝ }
 {
@@ -103,7 +103,7 @@ pub fn collected(r: Record, q: u8, v: Vote) -> Record
     let at = wide8(q);
     replies[at] = v;
     let vote = r.vote;
-    let set = with_of(r.set, q);
+    let set = with(r.set, q);
     Record {
         joined: r.joined,
         vote,
@@ -121,7 +121,7 @@ pub fn commit_back(c: u8, o: u8, j: u16, r: Record, q: u8) -> Step
 {
     let command = r.vote.command;
     let deps = r.vote.deps;
-    let message = said(c, o, j, r.joined, Body::Commit(command), deps);
+    let message = say(c, o, j, r.joined, Body::Commit(command), deps);
     let to = only_of(q);
     Step {
         entry: r,
@@ -135,7 +135,7 @@ pub fn nack_back(c: u8, o: u8, j: u16, r: Record, m: Message) -> Step
     requires { ⌜ m .from < 7 ⌝ }
     ensures { λ x. ⌜ x ≡ nackBack c o j r m ⌝ }
 {
-    let message = said(c, o, j, m.ballot, Body::Nack(r.joined), no_deps());
+    let message = say(c, o, j, m.ballot, Body::Nack(r.joined), no_deps());
     let to = only_of(m.from);
     Step {
         entry: r,

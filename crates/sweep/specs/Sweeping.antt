@@ -12,7 +12,7 @@ use Rattle.table.specs.Place.{tableLength}
 use Rattle.rules.specs.Seen.{Records}
 use Rattle.seen.specs.Records.{recordsIn}
 use Rattle.reach.specs.High.{Inst, entryOf, Fit, Comes, Highs, Marks, From, Holds}
-use Rattle.rows.specs.Rows.{slotOf, rowOf, markIn}
+use Rattle.rows.specs.Rows.{slotOf, rowOf, markAt}
 
 -- a table of the setup, whose dependencies name instances
 pub record Sized (n s : ℕ) (t : List ℕ) : Type 0 where
@@ -23,10 +23,10 @@ pub record Sized (n s : ℕ) (t : List ℕ) : Type 0 where
 
 -- the marks at p.k's place are those of p.k
 pub record Row (n s : ℕ) (u : Records) (h : List ℕ) (p k : ℕ) : Type 0 where
-  pub few : (q : ℕ) → q < n → markIn h (slotOf p k) q ≤ s
-  pub highs : Highs n s u p k (λ o. markIn h (slotOf p k) o)
+  pub few : (q : ℕ) → q < n → markAt h (slotOf p k) q ≤ s
+  pub highs : Highs n s u p k (λ o. markAt h (slotOf p k) o)
   -- whoever is marked there brings its own marks
-  pub closed : (q i : ℕ) → Inst n s q i → i ≤ markIn h (slotOf p k) q → (o : ℕ) → o < n → markIn h (slotOf q i) o ≤ markIn h (slotOf p k) o
+  pub closed : (q i : ℕ) → Inst n s q i → i ≤ markAt h (slotOf p k) q → (o : ℕ) → o < n → markAt h (slotOf q i) o ≤ markAt h (slotOf p k) o
 
 pub record Charted (n s : ℕ) (u : Records) (h : List ℕ) : Type 0 where
   pub long : length h ≡ 6272
@@ -37,7 +37,7 @@ pub record Charting (n s : ℕ) (t g h : List ℕ) : Type 0 where
   pub sized : Sized n s t
   pub rows : length g ≡ 6272
   pub long : length h ≡ 6272
-  pub blank : (x i : ℕ) → markIn g x i ≡ 0
+  pub blank : (x i : ℕ) → markAt g x i ≡ 0
 
 -- a row takes in that of the beginning of owner q's row which an entry names
 unfoldable pub withNamed : ℕ → List ℕ → ℕ → ℕ → List ℕ → List ℕ
@@ -53,7 +53,7 @@ unfoldable pub beforeIn : List ℕ → ℕ → ℕ → List ℕ
 beforeIn g o j = cond (leb j 1) noDeps (rowOf g (slotOf o (j - 1)))
 
 abbrev pub marksOf : List ℕ → Marks
-marksOf g q i o = markIn g (slotOf q i) o
+marksOf g q i o = markAt g (slotOf q i) o
 
 -- the rows of beginnings at any time: they mark nothing but what is reached
 pub record Rows (n s : ℕ) (u : Records) (g : List ℕ) : Type 0 where

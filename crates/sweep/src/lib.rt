@@ -1,10 +1,10 @@
 // What every instance reaches, found for all at once. A beginning of an owner's row reaches what its instances reach: a row of
 // marks for each. A sweep up and a sweep down over all instances raise these rows. Then the row of each instance begins with
 // its entries and takes in the beginnings that it names, until nothing changes.
-use nouns::deps::join_of;
+use nouns::deps::join;
 use nouns::deps::no_deps;
 use nouns::deps::same_deps;
-use rows::mark_of;
+use rows::mark_at;
 use rows::put_row;
 use rows::row_of;
 use rows::slot_of;
@@ -15,7 +15,7 @@ ghost use lib.ListN.{length};
 ghost use Rattle.seen.specs.Records.{recordsIn};
 ghost use Rattle.reach.specs.High.{Inst};
 ghost use Rattle.paper.specs.Deps.{join};
-ghost use Rattle.rows.specs.Rows.{slotOf, rowOf, markIn, Within};
+ghost use Rattle.rows.specs.Rows.{slotOf, rowOf, markAt, Within};
 ghost use Rattle.sweep.specs.Sweeping.{Charting, Charted, withNamed, beyondIn, beforeIn, turned, Raised, Numbered, Swept};
 ghost use Rattle.sweep.specs.Sweeping.{Sweeping, Naming, Taking, Opened, Closed, Wrote, Closing, Reaching};
 
@@ -25,17 +25,17 @@ fn take_row(g: &[u8], y: usize, h: &mut [u8], x: usize)
     ensures row { λ _. ⌜ rowOf (now (h .exit)) x ≡ join (rowOf (now (h .entry)) x) (rowOf (now (g .entry)) y) ⌝ }
     ensures wrote { λ _. ⌜ Wrote (now (h .entry)) (now (h .exit)) x ⌝ }
 {
-    let row = join_of(row_of(&*h, x), row_of(g, y));
+    let row = join(row_of(&*h, x), row_of(g, y));
     put_row(h, x, row);
 }
 
 // It takes in that of the beginning of owner q's row which its own mark names.
 fn take_named(n: usize, g: &[u8], h: &mut [u8], x: usize, q: usize)
-    requires { ⌜ Naming n (now g) q (markIn (now h) x q) × Within (now h) x ⌝ }
-    ensures row { λ _. ⌜ rowOf (now (h .exit)) x ≡ withNamed n (now (g .entry)) q (markIn (now (h .entry)) x q) (rowOf (now (h .entry)) x) ⌝ }
+    requires { ⌜ Naming n (now g) q (markAt (now h) x q) × Within (now h) x ⌝ }
+    ensures row { λ _. ⌜ rowOf (now (h .exit)) x ≡ withNamed n (now (g .entry)) q (markAt (now (h .entry)) x q) (rowOf (now (h .entry)) x) ⌝ }
     ensures wrote { λ _. ⌜ Wrote (now (h .entry)) (now (h .exit)) x ⌝ }
 {
-    let entry = mark_of(&*h, x, q);
+    let entry = mark_at(&*h, x, q);
     if entry == 0 {
         return;
     }
@@ -73,8 +73,8 @@ fn raise(t: &[u8], n: usize, s: usize, g: &mut [u8], h: &mut [u8], o: usize, j: 
     let x = slot_of(o, j);
     put_row(&mut *h, x, deps_of(t, n, s, o, j));
     beyond(n, s, &*g, &mut *h, x);
-    let with_last = join_of(row_of(&*g, x), row_of(&*h, x));
-    let row = join_of(with_last, before(&*g, o, j));
+    let with_last = join(row_of(&*g, x), row_of(&*h, x));
+    let row = join(with_last, before(&*g, o, j));
     put_row(g, x, row);
 }
 

@@ -24,7 +24,7 @@ use Rattle.record.specs.Part.{soundPart}
 use Rattle.record.proofs.Round.{recordAt-recordBytes}
 use Rattle.record.proofs.Written.{Are, append, written-bytes, all-in, written-sound, blank-bytes}
 use Rattle.table.specs.Place.{headLength, tableLength, placeAt, placeOf, partAt}
-use Rattle.table.specs.Table.{fits, headOk, soundRow, soundTable, blankTable, recordIn, putRecord, Whole, Kept}
+use Rattle.table.specs.Table.{fits, headIs, soundRow, soundTable, blankTable, recordIn, putRecord, Whole, Kept}
 use Rattle.table.specs.Calls.{partOf, partStart, putPart}
 use Rattle.table.specs.Sizes.{Names}
 use Rattle.table.proofs.Laws.{sizes, names, place-end, setup-bounds}
@@ -50,7 +50,7 @@ both : (a b : Bool) → a ≡ true → b ≡ true → (a && b) ≡ true
 both a b e f = rw (e, f)
 
 -- a table's soundness from that of its parts
-sound-in : (n s c : ℕ) (t : List ℕ) → headOk n s c t ≡ true
+sound-in : (n s c : ℕ) (t : List ℕ) → headIs n s c t ≡ true
     → ((o j : ℕ) → o < n → 1 ≤ j → j ≤ s → soundPart n s c o (partAt t (placeOf s o j)) ≡ true) → soundTable n s c t ≡ true
 unfolding soundTable soundRow
 sound-in n s c t h each =
@@ -72,8 +72,8 @@ module _ (n s c : ℕ) (t : List ℕ) (k : Kept n s c t) (o j : ℕ) (i : instan
       let a : Names n s p q = record { copies = here .copies; numbers = here .numbers; owner = lp; first = l1; last = ls } in
       rw (put-part n s t long o j here r (f .seven) p q a ne) (sound-at n s c t (k .sound) p q a)
 
-  head-stays : headOk n s c (putRecord s t o j r) ≡ headOk n s c t
-  unfolding headOk placeAt
+  head-stays : headIs n s c (putRecord s t o j r) ≡ headIs n s c t
+  unfolding headIs placeAt
   head-stays =
       let l = place-end n s o j here in
       let g : (i : ℕ) → i < headLength → getD (putRecord s t o j r) i 0 ≡ getD t i 0 =
@@ -153,8 +153,8 @@ module _ (n s c : ℕ) where
   unfolding fits
   fit h = both _ _ h (eq-eqb _ _ blank-long)
 
-  heads : headOk n s c (blankTable n s c) ≡ true
-  unfolding headOk blankTable
+  heads : headIs n s c (blankTable n s c) ≡ true
+  unfolding headIs blankTable
   heads =
       let z : (x : ℕ) → eqb (x + 256 * 0) x ≡ true = λ x. eq-eqb (x + 256 * 0) x (omega arith) in
       both _ _ (both _ _ (z n) (z s)) (z c)

@@ -25,7 +25,7 @@ use Rattle.record.proofs.Written as written
 use Rattle.record.proofs.Written.{recordAt-fits}
 use Rattle.paper.specs.Fits.{RecordFits}
 use Rattle.table.specs.Place.{tableLength, placeAt, placeOf, partAt}
-use Rattle.table.specs.Table.{headOk, soundRow, soundTable, recordIn, putRecord, Whole, Kept}
+use Rattle.table.specs.Table.{headIs, soundRow, soundTable, recordIn, putRecord, Whole, Kept}
 use Rattle.table.specs.Sizes.{Names}
 use Rattle.table.proofs.Laws.{sizes, place-end}
 use Rattle.record.specs.Layout.{recordLength}
@@ -120,7 +120,7 @@ module _ (n s : ℕ) (t : List ℕ) (long : length t ≡ tableLength n s) (o j :
 pub sound-at : (n s c : ℕ) (t : List ℕ) → soundTable n s c t ≡ true → (o j : ℕ) → Names n s o j → soundPart n s c o (partAt t (placeOf s o j)) ≡ true
 unfolding soundTable soundRow
 sound-at n s c t h o j a =
-    let rows = and-true (headOk n s c t) (allBelow n (soundRow n s c t)) h .1 in
+    let rows = and-true (headIs n s c t) (allBelow n (soundRow n s c t)) h .1 in
     let row = allBelow-at n (soundRow n s c t) rows o (a .owner) in
     allBelow-at s (λ i. soundPart n s c o (partAt t (placeAt s o i))) row (j - 1) (omega (arith, a .first, a .last))
 

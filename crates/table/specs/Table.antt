@@ -19,8 +19,8 @@ unfoldable pub fits : ℕ → ℕ → ℕ → List ℕ → Bool
 fits n s c t = setupOk n s c && eqb (length t) (tableLength n s)
 
 -- setup and copy number are the caller's
-unfoldable pub headOk : ℕ → ℕ → ℕ → List ℕ → Bool
-headOk n s c t = eqb (numAt 1 t 0) n && eqb (numAt 1 t 1) s && eqb (numAt 1 t 2) c
+unfoldable pub headIs : ℕ → ℕ → ℕ → List ℕ → Bool
+headIs n s c t = eqb (numAt 1 t 0) n && eqb (numAt 1 t 1) s && eqb (numAt 1 t 2) c
 
 -- what is left of the first k records of a row when those at their end that are idle and right are passed over
 unfoldable pub pastIdle : ℕ → ℕ → List ℕ → ℕ → ℕ → ℕ
@@ -32,7 +32,7 @@ unfoldable pub soundRow : ℕ → ℕ → ℕ → List ℕ → ℕ → Bool
 soundRow n s c t o = allBelow s (λ i. soundPart n s c o (partAt t (placeAt s o i)))
 
 unfoldable pub soundTable : ℕ → ℕ → ℕ → List ℕ → Bool
-soundTable n s c t = headOk n s c t && allBelow n (soundRow n s c t)
+soundTable n s c t = headIs n s c t && allBelow n (soundRow n s c t)
 
 -- the head and blank records
 unfoldable pub blankTable : ℕ → ℕ → ℕ → List ℕ
@@ -50,6 +50,11 @@ unfoldable pub Whole : ℕ → List ℕ → ℕ → ℕ → Type 0
 Whole s t o j = recordBytes (recordIn s t o j) ≡ partAt t (placeOf s o j)
 
 -- a table that neither 1 nor 11 refuses
+pub record Judged (n s c : ℕ) (t : List ℕ) : Type 0 where
+  pub setup : fits n s c t ≡ true
+  pub sound : soundTable n s c t ≡ true
+
+-- and whose bytes are bytes
 pub record Kept (n s c : ℕ) (t : List ℕ) : Type 0 where
   pub bytes : Bytes t
   pub setup : fits n s c t ≡ true

@@ -15,7 +15,7 @@ ghost use Rattle.paper.specs.Logic.{allBelow};
 ghost use Rattle.record.specs.Layout.{recordLength};
 ghost use Rattle.record.specs.Part.{soundPart};
 ghost use Rattle.table.specs.Place.{headLength, tableLength, placeOf, partAt};
-ghost use Rattle.table.specs.Table.{fits, headOk, pastIdle, soundRow, soundTable, blankTable};
+ghost use Rattle.table.specs.Table.{fits, headIs, pastIdle, soundRow, soundTable, blankTable};
 ghost use Rattle.table.specs.Calls.{blanked, blankedTable, judged, partOf, partStart, partLength, lengthOf};
 ghost use Rattle.table.specs.Sizes.{Sizes, Row, Names, Has};
 
@@ -68,7 +68,7 @@ pub fn length_of(n: usize, s: usize) -> usize
 }
 
 // What refusal 1 asks.
-pub fn fits_setup(t: &[u8], n: usize, s: usize, c: usize) -> bool
+pub fn fits(t: &[u8], n: usize, s: usize, c: usize) -> bool
     ensures { λ r. ⌜ r ≡ fits n s c (now (t .entry)) ⌝ }
 {
     if !setup_ok(n, s, c) {
@@ -96,9 +96,9 @@ fn part(t: &[u8], n: usize, s: usize, o: usize, j: usize) -> &[u8]
     &t[at..end]
 }
 
-fn head_ok(t: &[u8], n: usize, s: usize, c: usize) -> bool
+fn head_is(t: &[u8], n: usize, s: usize, c: usize) -> bool
     requires { ⌜ headLength ≤ length (now t) ⌝ }
-    ensures { λ r. ⌜ r ≡ headOk n s c (now (t .entry)) ⌝ }
+    ensures { λ r. ⌜ r ≡ headIs n s c (now (t .entry)) ⌝ }
 {
     let copies = equal(wide8(num::get_u8(t, COPIES)), n);
     let numbers = equal(wide8(num::get_u8(t, NUMBERS)), s);
@@ -132,7 +132,7 @@ fn record_sound(t: &[u8], n: usize, s: usize, c: usize, o: usize, j: usize) -> b
 }
 
 // Every record of owner o's row is sound; the row is walked from its end.
-fn row_sound(t: &[u8], n: usize, s: usize, c: usize, o: usize) -> bool
+fn sound_row(t: &[u8], n: usize, s: usize, c: usize, o: usize) -> bool
     requires { ⌜ Row n s c o (now t) ⌝ }
     ensures { λ r. ⌜ r ≡ soundRow n s c (now (t .entry)) o ⌝ }
 {
@@ -157,7 +157,7 @@ fn rows_sound(t: &[u8], n: usize, s: usize, c: usize) -> bool
     let mut left = n;
     while 0 < left {
         left -= 1;
-        if !row_sound(t, n, s, c, left) {
+        if !sound_row(t, n, s, c, left) {
             return false;
         }
     }
@@ -165,21 +165,21 @@ fn rows_sound(t: &[u8], n: usize, s: usize, c: usize) -> bool
 }
 
 // The table is sound; its setup and length were asked before.
-pub fn is_sound(t: &[u8], n: usize, s: usize, c: usize) -> bool
+pub fn sound_table(t: &[u8], n: usize, s: usize, c: usize) -> bool
     requires { ⌜ Sizes n s c (now t) ⌝ }
     ensures { λ r. ⌜ r ≡ soundTable n s c (now (t .entry)) ⌝ }
 {
-    both(head_ok(t, n, s, c), rows_sound(t, n, s, c))
+    both(head_is(t, n, s, c), rows_sound(t, n, s, c))
 }
 
 // Judges a table: 1, then 11.
 pub fn judge_table(t: &[u8], n: usize, s: usize, c: usize) -> Judging
     ensures { λ r. ⌜ r ≡ judged n s c (now (t .entry)) ⌝ }
 {
-    if !fits_setup(t, n, s, c) {
+    if !fits(t, n, s, c) {
         return Judging::Refused(Refusal::Setup);
     }
-    if !is_sound(t, n, s, c) {
+    if !sound_table(t, n, s, c) {
         return Judging::Refused(Refusal::Unsound);
     }
     Judging::Sound
@@ -218,7 +218,7 @@ pub fn blank_table(t: &mut [u8], n: usize, s: usize, c: usize) -> Blanking
     ensures answers { λ r. ⌜ r ≡ blanked n s c (now (t .entry)) ⌝ }
     ensures table { λ _. ⌜ now (t .exit) ≡ blankedTable n s c (now (t .entry)) ⌝ }
 {
-    if !fits_setup(&*t, n, s, c) {
+    if !fits(&*t, n, s, c) {
         return Blanking::Refused(Refusal::Setup);
     }
     put_blank(t, n, s, c);
@@ -228,7 +228,7 @@ pub fn blank_table(t: &mut [u8], n: usize, s: usize, c: usize) -> Blanking
 fn has_part(t: &[u8], n: usize, s: usize, c: usize, o: usize, j: usize) -> bool
     ensures { λ r. ⌜ r ≡ (fits n s c (now (t .entry)) && instanceOk n s o j) ⌝ }
 {
-    both(fits_setup(t, n, s, c), instance_ok(n, s, o, j))
+    both(fits(t, n, s, c), instance_ok(n, s, o, j))
 }
 
 // The part of the table that holds the record of o.j, for saving; empty for a bad instance or where 1 would be refused.

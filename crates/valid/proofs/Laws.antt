@@ -12,16 +12,16 @@ use Rattle.paper.specs.declared.Row.{Row}
 use Rattle.paper.specs.declared.Message.{Message}
 use Rattle.paper.proofs.Laws.{and-true}
 use Rattle.paper.proofs.Valid.{Clauses, clauses-of, valid-of}
-use Rattle.valid.specs.Groups.{headOk, wayOk, told, bodyOk}
+use Rattle.valid.specs.Groups.{headOk, wayOk, toldAll, bodyOk}
 
 module _ (w : Row) (m : Message) where
   pub not-carried : {r : Bool} → w .parts .deps ≡ false → r ≡ sameDeps (m .deps) noDeps → r ≡ depsCarried w m
   not-carried h d = d ∙ rw h
 
-  pub untold : (v : Vote) → w .parts .told ≡ false → true ≡ told w m v
+  pub untold : (v : Vote) → w .parts .told ≡ false → true ≡ toldAll w m v
   untold v h = rw h
 
-  pub told-all : (v : Vote) {r : Bool} → w .parts .told ≡ true → r ≡ (votedBelow (m .ballot) v && noneIsBlank v) → r ≡ told w m v
+  pub told-all : (v : Vote) {r : Bool} → w .parts .told ≡ true → r ≡ (votedBelow (m .ballot) v && noneIsBlank v) → r ≡ toldAll w m v
   told-all v h d = d ∙ rw h
 
 module _ (n s c : ℕ) (w : Row) (m : Message) (v : Vote) (j : ℕ) where
@@ -38,10 +38,10 @@ module _ (n s c : ℕ) (w : Row) (m : Message) (v : Vote) (j : ℕ) where
       let (w3, reply) = and-true (toHere c m && fromAnother c m && fromLead w m) _ way in
       let (w2, lead) = and-true (toHere c m && fromAnother c m) _ w3 in
       let (here, another) = and-true (toHere c m) _ w2 in
-      let (b5, deps) = and-true (voteOk n s 3 v && told w m v && freshOp w m v && joinedRange n j && joinedAbove w m j) _ b in
-      let (b4, above) = and-true (voteOk n s 3 v && told w m v && freshOp w m v && joinedRange n j) _ b5 in
-      let (b3, joined) = and-true (voteOk n s 3 v && told w m v && freshOp w m v) _ b4 in
-      let (b2, fresh) = and-true (voteOk n s 3 v && told w m v) _ b3 in
+      let (b5, deps) = and-true (voteOk n s 3 v && toldAll w m v && freshOp w m v && joinedRange n j && joinedAbove w m j) _ b in
+      let (b4, above) = and-true (voteOk n s 3 v && toldAll w m v && freshOp w m v && joinedRange n j) _ b5 in
+      let (b3, joined) = and-true (voteOk n s 3 v && toldAll w m v && freshOp w m v) _ b4 in
+      let (b2, fresh) = and-true (voteOk n s 3 v && toldAll w m v) _ b3 in
       let (vote, told) = and-true (voteOk n s 3 v) _ b2 in
       let (below, blank) = parted (w .parts .told) _ _ told in
       record {

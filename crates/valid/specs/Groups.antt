@@ -17,8 +17,8 @@ unfoldable pub wayOk : ℕ → Row → Message → Bool
 wayOk c w m = toHere c m && fromAnother c m && fromLead w m && toLead w m
 
 -- what is told, at once
-abbrev pub told : Row → Message → Vote → Bool
-told w m v = implies (w .parts .told) (votedBelow (m .ballot) v && noneIsBlank v)
+abbrev pub toldAll : Row → Message → Vote → Bool
+toldAll w m v = implies (w .parts .told) (votedBelow (m .ballot) v && noneIsBlank v)
 
 unfoldable pub bodyOk : ℕ → ℕ → Row → Message → Vote → ℕ → Bool
-bodyOk n s w m v j = voteOk n s 3 v && told w m v && freshOp w m v && joinedRange n j && joinedAbove w m j && depsCarried w m
+bodyOk n s w m v j = voteOk n s 3 v && toldAll w m v && freshOp w m v && joinedRange n j && joinedAbove w m j && depsCarried w m

@@ -1,7 +1,7 @@
 // Whether a message is valid, by value: a function for each clause of the paper, under the clause's name; those of the vote
 // that it carries are asked at once, as of a record.
 use nouns::ballot::ballot_ok;
-use nouns::ballot::lead_of;
+use nouns::ballot::lead;
 use nouns::command::is_noop;
 use nouns::deps::no_deps;
 use nouns::deps::same_deps;
@@ -9,7 +9,7 @@ use nouns::logic::at_most;
 use nouns::logic::below;
 use nouns::logic::both;
 use nouns::logic::equal;
-use nouns::logic::implied;
+use nouns::logic::implies;
 use nouns::logic::wide8;
 use nouns::logic::wide16;
 use nouns::logic::wide32;
@@ -44,12 +44,12 @@ ghost use Rattle.paper.specs.Valid.{
   depsCarried,
   valid,
 };
-ghost use Rattle.valid.specs.Groups.{headOk, wayOk, told, bodyOk};
+ghost use Rattle.valid.specs.Groups.{headOk, wayOk, toldAll, bodyOk};
 
 fn lead_in(m: Message) -> usize
     ensures { λ r. ⌜ r ≡ leadOf m ⌝ }
 {
-    lead_of(wide8(m.owner), m.ballot)
+    lead(wide8(m.owner), m.ballot)
 }
 
 fn from_range(n: usize, m: Message) -> bool
@@ -86,7 +86,7 @@ fn recovery_ballot(w: Row, m: Message) -> bool
     ensures { λ r. ⌜ r ≡ recoveryBallot w m ⌝ }
 {
     let ballots = w.ballots;
-    implied(is_recovery(ballots), at_most(8, wide32(m.ballot)))
+    implies(is_recovery(ballots), at_most(8, wide32(m.ballot)))
 }
 
 fn to_here(c: usize, m: Message) -> bool
@@ -105,18 +105,18 @@ fn from_lead(w: Row, m: Message) -> bool
     ensures { λ r. ⌜ r ≡ fromLead w m ⌝ }
 {
     let role = w.role;
-    implied(is_word(role), equal(wide8(m.from), lead_in(m)))
+    implies(is_word(role), equal(wide8(m.from), lead_in(m)))
 }
 
 fn to_lead(w: Row, m: Message) -> bool
     ensures { λ r. ⌜ r ≡ toLead w m ⌝ }
 {
     let role = w.role;
-    implied(is_reply(role), equal(wide8(m.to), lead_in(m)))
+    implies(is_reply(role), equal(wide8(m.to), lead_in(m)))
 }
 
-fn told_right(w: Row, m: Message, v: Vote) -> bool
-    ensures { λ r. ⌜ r ≡ told w m v ⌝ }
+fn told_all(w: Row, m: Message, v: Vote) -> bool
+    ensures { λ r. ⌜ r ≡ toldAll w m v ⌝ }
 {
     let parts = w.parts;
     if !parts.told {
@@ -130,7 +130,7 @@ fn fresh_op(w: Row, m: Message, v: Vote) -> bool
 {
     let ballots = w.ballots;
     let fresh = both(is_fresh(ballots), equal(wide32(m.ballot), 0));
-    implied(fresh, !is_noop(v.command))
+    implies(fresh, !is_noop(v.command))
 }
 
 fn joined_range(n: usize, j: u32) -> bool
@@ -143,7 +143,7 @@ fn joined_above(w: Row, m: Message, j: u32) -> bool
     ensures { λ r. ⌜ r ≡ joinedAbove w m j ⌝ }
 {
     let parts = w.parts;
-    implied(parts.joined, below(wide32(m.ballot), wide32(j)))
+    implies(parts.joined, below(wide32(m.ballot), wide32(j)))
 }
 
 fn deps_carried(w: Row, m: Message) -> bool
@@ -175,7 +175,7 @@ fn way_ok(c: usize, w: Row, m: Message) -> bool
 fn body_ok(n: usize, s: usize, w: Row, m: Message, v: Vote, j: u32) -> bool
     ensures { λ r. ⌜ r ≡ bodyOk n s w m v j ⌝ }
 {
-    let vote = both(vote_ok(n, s, 3, v), told_right(w, m, v));
+    let vote = both(vote_ok(n, s, 3, v), told_all(w, m, v));
     let joined = both(both(vote, fresh_op(w, m, v)), joined_range(n, j));
     both(both(joined, joined_above(w, m, j)), deps_carried(w, m))
 }

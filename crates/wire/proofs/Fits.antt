@@ -15,7 +15,7 @@ use Rattle.paper.specs.Message.{rowOf, partsOf, carriedIn, kept}
 use Rattle.paper.proofs.Bodies.{carried-is, kept-kept}
 use Rattle.paper.proofs.Deps.{none-fits}
 use Rattle.paper.specs.declared.Parts.{Parts}
-use Rattle.wire.specs.Wire.{commandPlace, depsPlace, carriedAt, bodyAt, besideAt, kindAt, messageAt}
+use Rattle.wire.specs.Wire.{commandStart, depsStart, carriedAt, bodyAt, besideAt, kindAt, messageAt}
 use Rattle.wire.proofs.Laws.{Framed}
 
 -- what is read of a body, and of the dependencies beside it, fits, whatever parts are there
@@ -34,7 +34,7 @@ carriedAt-fits p b h =
       joined = read-fits (p .joined) _ _ (n 4 _) (omega arith);
     }
   where
-    command : (t : Bool) → CommandFits (cond t (commandAt b (commandPlace p 10)) noop)
+    command : (t : Bool) → CommandFits (cond t (commandAt b (commandStart p 10)) noop)
     command true = record { key = numAt-small 4 b _ h; edit = numAt-small 8 b _ h }
     command false = record { key = omega arith; edit = omega arith }
 
@@ -48,7 +48,7 @@ beside-fits : (p : Parts) (b : List ℕ) → Bytes b → DepsFit (besideAt p b)
 unfolding besideAt
 beside-fits p b h = go (p .deps)
   where
-    go : (t : Bool) → DepsFit (cond t (depsAt b (depsPlace p 10)) noDeps)
+    go : (t : Bool) → DepsFit (cond t (depsAt b (depsStart p 10)) noDeps)
     go true = depsAt-fits b _ h
     go false = none-fits
 

@@ -21,8 +21,8 @@ use Rattle.paper.specs.declared.Message.{Message}
 use Rattle.wire.specs.declared.Reading.the-variants as reading
 use Rattle.wire.specs.declared.Writing.the-variants as writing
 use Rattle.paper.proofs.Bodies.{allOf, everyRow, every-row}
-use Rattle.wire.specs.Wire.{toldWidths, joinedWidths, headLength, past, commandPlace, depsPlace, joinedPlace, endPlace, kindAt, lengthOf, part, toldBytes, joinedBytes, restBytes, headBytes, messageAt, messageBytes, framed, opFits, validBytes}
-use Rattle.wire.specs.Calls.{unread, received, unwritten, Wrote, wrote}
+use Rattle.wire.specs.Wire.{toldWidths, joinedWidths, headSize, past, commandStart, depsStart, joinedStart, restEnd, kindAt, lengthOf, part, toldBytes, joinedBytes, restBytes, headBytes, messageAt, messageBytes, framed, opFits, validBytes}
+use Rattle.wire.specs.Calls.{unread, readMessage, unwritten, Wrote, wrote}
 
 -- a part moves what stands after it by its bytes or not at all
 module _ (b : Bool) (ws : List ℕ) (at : ℕ) where
@@ -68,46 +68,46 @@ module _ (b : Bool) (ws : List ℕ) (at : ℕ) where
 
 -- each part that is there stands before the end, and the end is near
 module _ (p : Parts) (at : ℕ) where
-  pub at-told : at ≤ commandPlace p at
+  pub at-told : at ≤ commandStart p at
   at-told = past-over (p .told) toldWidths at
 
-  pub at-command : commandPlace p at ≤ depsPlace p at
-  at-command = past-over (p .command) commandWidths (commandPlace p at)
+  pub at-command : commandStart p at ≤ depsStart p at
+  at-command = past-over (p .command) commandWidths (commandStart p at)
 
-  pub at-deps : depsPlace p at ≤ joinedPlace p at
-  at-deps = past-over (p .deps) depsWidths (depsPlace p at)
+  pub at-deps : depsStart p at ≤ joinedStart p at
+  at-deps = past-over (p .deps) depsWidths (depsStart p at)
 
-  pub at-joined : joinedPlace p at ≤ endPlace p at
-  at-joined = past-over (p .joined) joinedWidths (joinedPlace p at)
+  pub at-joined : joinedStart p at ≤ restEnd p at
+  at-joined = past-over (p .joined) joinedWidths (joinedStart p at)
 
-  pub begins : at ≤ endPlace p at
+  pub begins : at ≤ restEnd p at
   begins = omega (arith, at-told, at-command, at-deps, at-joined)
 
-  pub told-room : p .told ≡ true → at + 5 ≤ endPlace p at
+  pub told-room : p .told ≡ true → at + 5 ≤ restEnd p at
   told-room e = omega (arith, past-there (p .told) toldWidths at e, at-command, at-deps, at-joined)
 
-  pub command-room : p .command ≡ true → commandPlace p at + 13 ≤ endPlace p at
-  command-room e = omega (arith, past-there (p .command) commandWidths (commandPlace p at) e, at-deps, at-joined)
+  pub command-room : p .command ≡ true → commandStart p at + 13 ≤ restEnd p at
+  command-room e = omega (arith, past-there (p .command) commandWidths (commandStart p at) e, at-deps, at-joined)
 
-  pub deps-room : p .deps ≡ true → depsPlace p at + 14 ≤ endPlace p at
-  deps-room e = omega (arith, past-there (p .deps) depsWidths (depsPlace p at) e, at-joined)
+  pub deps-room : p .deps ≡ true → depsStart p at + 14 ≤ restEnd p at
+  deps-room e = omega (arith, past-there (p .deps) depsWidths (depsStart p at) e, at-joined)
 
-  pub joined-room : p .joined ≡ true → joinedPlace p at + 4 ≤ endPlace p at
-  joined-room e = omega (arith, past-there (p .joined) joinedWidths (joinedPlace p at) e)
+  pub joined-room : p .joined ≡ true → joinedStart p at + 4 ≤ restEnd p at
+  joined-room e = omega (arith, past-there (p .joined) joinedWidths (joinedStart p at) e)
 
-  pub command-near : commandPlace p at ≤ at + 5
+  pub command-near : commandStart p at ≤ at + 5
   command-near = past-most (p .told) toldWidths at
 
-  pub deps-near : depsPlace p at ≤ at + 18
-  deps-near = omega (arith, past-most (p .command) commandWidths (commandPlace p at), command-near)
+  pub deps-near : depsStart p at ≤ at + 18
+  deps-near = omega (arith, past-most (p .command) commandWidths (commandStart p at), command-near)
 
-  pub joined-near : joinedPlace p at ≤ at + 32
-  joined-near = omega (arith, past-most (p .deps) depsWidths (depsPlace p at), deps-near)
+  pub joined-near : joinedStart p at ≤ at + 32
+  joined-near = omega (arith, past-most (p .deps) depsWidths (depsStart p at), deps-near)
 
-  pub end-further : (k : ℕ) → endPlace p (k + at) ≡ k + endPlace p at
+  pub end-further : (k : ℕ) → restEnd p (k + at) ≡ k + restEnd p at
   end-further k =
-      rw (past-further (p .told) toldWidths at k, past-further (p .command) commandWidths (commandPlace p at) k, past-further (p .deps) depsWidths (depsPlace p at) k)
-      (past-further (p .joined) joinedWidths (joinedPlace p at) k)
+      rw (past-further (p .told) toldWidths at k, past-further (p .command) commandWidths (commandStart p at) k, past-further (p .deps) depsWidths (depsStart p at) k)
+      (past-further (p .joined) joinedWidths (joinedStart p at) k)
 
 pub ten : (k : ℕ) → 10 ≤ lengthOf k
 unfolding lengthOf
@@ -116,11 +116,11 @@ ten k = begins (partsOf k) 10
 -- no kind is longer than 42 bytes; one that tells of no ballot and status is at most 37
 pub long-enough : (k : ℕ) → lengthOf k ≤ 42
 unfolding lengthOf past everyRow allOf
-long-enough k = leb-true _ _ (every-row (λ r. leb (endPlace (r .parts) headLength) 42) refl k)
+long-enough k = leb-true _ _ (every-row (λ r. leb (restEnd (r .parts) headSize) 42) refl k)
 
 pub untold-short : (k : ℕ) → partsOf k .told ≡ false → lengthOf k ≤ 37
 unfolding lengthOf past everyRow allOf
-untold-short k e = leb-true (lengthOf k) 37 (or-right (partsOf k .told) _ e (every-row (λ r. r .parts .told || leb (endPlace (r .parts) headLength) 37) refl k))
+untold-short k e = leb-true (lengthOf k) 37 (or-right (partsOf k .told) _ e (every-row (λ r. r .parts .told || leb (restEnd (r .parts) headSize) 37) refl k))
   where
     or-right : (a b : Bool) → a ≡ false → (a || b) ≡ true → b ≡ true
     or-right a b e h = rw e at h
@@ -142,36 +142,36 @@ length-headBytes m = refl
 
 -- how far the parts of a rest reach
 module _ (p : Parts) (x : Carried) (d : List ℕ) (at : ℕ) where
-  pub told-size : at + length (part (p .told) (toldBytes x)) ≡ commandPlace p at
+  pub told-size : at + length (part (p .told) (toldBytes x)) ≡ commandStart p at
   told-size = past-part (p .told) toldWidths at (toldBytes x) refl
 
-  pub command-size : commandPlace p at + length (part (p .command) (commandBytes (x .command))) ≡ depsPlace p at
+  pub command-size : commandStart p at + length (part (p .command) (commandBytes (x .command))) ≡ depsStart p at
   unfolding commandBytes
-  command-size = past-part (p .command) commandWidths (commandPlace p at) (commandBytes (x .command)) refl
+  command-size = past-part (p .command) commandWidths (commandStart p at) (commandBytes (x .command)) refl
 
-  pub deps-size : depsPlace p at + length (part (p .deps) (depsBytes d)) ≡ joinedPlace p at
+  pub deps-size : depsStart p at + length (part (p .deps) (depsBytes d)) ≡ joinedStart p at
   unfolding depsBytes
-  deps-size = past-part (p .deps) depsWidths (depsPlace p at) (depsBytes d) refl
+  deps-size = past-part (p .deps) depsWidths (depsStart p at) (depsBytes d) refl
 
-  pub joined-size : joinedPlace p at + length (part (p .joined) (joinedBytes x)) ≡ endPlace p at
-  joined-size = past-part (p .joined) joinedWidths (joinedPlace p at) (joinedBytes x) refl
+  pub joined-size : joinedStart p at + length (part (p .joined) (joinedBytes x)) ≡ restEnd p at
+  joined-size = past-part (p .joined) joinedWidths (joinedStart p at) (joinedBytes x) refl
 
-  pub rest-size : at + length (restBytes p x d) ≡ endPlace p at
+  pub rest-size : at + length (restBytes p x d) ≡ restEnd p at
   unfolding restBytes
   rest-size = simp length-append (omega (arith, told-size, command-size, deps-size, joined-size))
 
 -- where the parts of a rest stand behind a list that ends where the rest begins
 module _ (p : Parts) (x : Carried) (d h : List ℕ) (at : ℕ) (e : length h ≡ at) where
-  pub told-ends : length (h ++ part (p .told) (toldBytes x)) ≡ commandPlace p at
+  pub told-ends : length (h ++ part (p .told) (toldBytes x)) ≡ commandStart p at
   told-ends = simp length-append (omega (arith, e, told-size p x d at))
 
-  pub command-ends : length (h ++ part (p .told) (toldBytes x) ++ part (p .command) (commandBytes (x .command))) ≡ depsPlace p at
+  pub command-ends : length (h ++ part (p .told) (toldBytes x) ++ part (p .command) (commandBytes (x .command))) ≡ depsStart p at
   command-ends = simp length-append (omega (arith, e, told-size p x d at, command-size p x d at))
 
-  pub deps-ends : length (h ++ part (p .told) (toldBytes x) ++ part (p .command) (commandBytes (x .command)) ++ part (p .deps) (depsBytes d)) ≡ joinedPlace p at
+  pub deps-ends : length (h ++ part (p .told) (toldBytes x) ++ part (p .command) (commandBytes (x .command)) ++ part (p .deps) (depsBytes d)) ≡ joinedStart p at
   deps-ends = simp length-append (omega (arith, e, told-size p x d at, command-size p x d at, deps-size p x d at))
 
-  pub rest-ends : length (h ++ restBytes p x d) ≡ endPlace p at
+  pub rest-ends : length (h ++ restBytes p x d) ≡ restEnd p at
   rest-ends = simp length-append (omega (arith, e, rest-size p x d at))
 
 pub length-messageBytes : (m : Message) → length (messageBytes m) ≡ lengthOf (kindOf (m .body))
@@ -180,21 +180,21 @@ length-messageBytes m = rest-ends (partsIn (m .body)) (carriedIn (m .body)) (m .
 
 -- the reader's outcomes
 module _ (n s c : ℕ) (b : List ℕ) where
-  pub received-1 : setupOk n s c ≡ false → unread Setup ≡ received n s c b
-  unfolding received
+  pub received-1 : setupOk n s c ≡ false → unread Setup ≡ readMessage n s c b
+  unfolding readMessage
   received-1 p = rw p
 
-  pub received-3-frame : setupOk n s c ≡ true → framed b ≡ false → unread why.Message ≡ received n s c b
-  unfolding received validBytes
+  pub received-3-frame : setupOk n s c ≡ true → framed b ≡ false → unread why.Message ≡ readMessage n s c b
+  unfolding readMessage validBytes
   received-3-frame p q = rw (p, q)
 
-  pub received-3 : setupOk n s c ≡ true → framed b ≡ true → (opFits b && valid n s c (messageAt b)) ≡ false → unread why.Message ≡ received n s c b
-  unfolding received validBytes
+  pub received-3 : setupOk n s c ≡ true → framed b ≡ true → (opFits b && valid n s c (messageAt b)) ≡ false → unread why.Message ≡ readMessage n s c b
+  unfolding readMessage validBytes
   received-3 p q r = rw (p, q, r)
 
   pub received-ok : setupOk n s c ≡ true → framed b ≡ true → (opFits b && valid n s c (messageAt b)) ≡ true
-      → record { answer = reading.Valid; message = messageAt b } ≡ received n s c b
-  unfolding received validBytes
+      → record { answer = reading.Valid; message = messageAt b } ≡ readMessage n s c b
+  unfolding readMessage validBytes
   received-ok p q r = rw (p, q, r)
 
 -- the writer's outcomes

@@ -28,8 +28,8 @@ use Rattle.paper.specs.declared.Parts.{Parts}
 use Rattle.paper.specs.declared.Message.{Message}
 use Rattle.wire.specs.declared.Reading.the-variants as reading
 use Rattle.wire.specs.declared.Writing.the-variants as writing
-use Rattle.wire.specs.Wire.{headWidths, toldWidths, joinedWidths, headNumbers, past, commandPlace, depsPlace, joinedPlace, endPlace, lengthOf, part, toldBytes, joinedBytes, headBytes, restBytes, messageBytes, kindAt, carriedAt, besideAt, bodyAt, messageAt, framed, opAt, opFits, validBytes}
-use Rattle.wire.specs.Calls.{received, Wrote, wrote}
+use Rattle.wire.specs.Wire.{headWidths, toldWidths, joinedWidths, headNumbers, past, commandStart, depsStart, joinedStart, restEnd, lengthOf, part, toldBytes, joinedBytes, headBytes, restBytes, messageBytes, kindAt, carriedAt, besideAt, bodyAt, messageAt, framed, opAt, opFits, validBytes}
+use Rattle.wire.specs.Calls.{readMessage, Wrote, wrote}
 use Rattle.wire.proofs.Laws.{past-over, told-room, command-room, deps-room, joined-room, ten, long-enough, Framed, framed-is, length-headBytes, told-ends, command-ends, deps-ends, length-messageBytes, received-ok, wrote-ok}
 
 -- each number fits its field
@@ -67,49 +67,49 @@ module _ (p : Parts) (x : Carried) (d h : List ℕ) (e : length h ≡ 10) (fx : 
       ap (λ (l : List ℕ). fieldsAt toldWidths l 10) u
       ∙ fieldsAt-fieldsBytes toldWidths (x .voted ∷ x .status ∷ []) h (command ++ (deps ++ joined)) 10 e (fx .voted, (omega (arith, fx .status), tt))
 
-  command-reads : p .command ≡ true → fieldsAt commandWidths all (commandPlace p 10) ≡ commandNumbers (x .command)
+  command-reads : p .command ≡ true → fieldsAt commandWidths all (commandStart p 10) ≡ commandNumbers (x .command)
   unfolding restBytes commandBytes
   command-reads t =
       let s : all ≡ h ++ told ++ (command ++ (deps ++ joined)) = simp append-assoc in
       let u : all ≡ h ++ told ++ (commandBytes (x .command) ++ (deps ++ joined)) =
       s ∙ ap (λ (b : Bool). h ++ told ++ (part b (commandBytes (x .command)) ++ (deps ++ joined))) t in
-      ap (λ (l : List ℕ). fieldsAt commandWidths l (commandPlace p 10)) u
-      ∙ fieldsAt-fieldsBytes commandWidths (commandNumbers (x .command)) (h ++ told) (deps ++ joined) (commandPlace p 10) (told-ends p x d h 10 e)
+      ap (λ (l : List ℕ). fieldsAt commandWidths l (commandStart p 10)) u
+      ∙ fieldsAt-fieldsBytes commandWidths (commandNumbers (x .command)) (h ++ told) (deps ++ joined) (commandStart p 10) (told-ends p x d h 10 e)
       (omega (arith, op-small (x .command .op)), (fx .command .key, (fx .command .edit, tt)))
 
-  deps-reads : p .deps ≡ true → depsAt all (depsPlace p 10) ≡ d
+  deps-reads : p .deps ≡ true → depsAt all (depsStart p 10) ≡ d
   unfolding restBytes
   deps-reads t =
       let s : all ≡ h ++ told ++ command ++ (deps ++ joined) = simp append-assoc in
       let u : all ≡ h ++ told ++ command ++ (depsBytes d ++ joined) = s ∙ ap (λ (b : Bool). h ++ told ++ command ++ (part b (depsBytes d) ++ joined)) t in
-      ap (λ (l : List ℕ). depsAt l (depsPlace p 10)) u ∙ depsAt-depsBytes d (h ++ told ++ command) joined (depsPlace p 10) (command-ends p x d h 10 e) fd
+      ap (λ (l : List ℕ). depsAt l (depsStart p 10)) u ∙ depsAt-depsBytes d (h ++ told ++ command) joined (depsStart p 10) (command-ends p x d h 10 e) fd
 
-  joined-reads : p .joined ≡ true → fieldsAt joinedWidths all (joinedPlace p 10) ≡ x .joined ∷ []
+  joined-reads : p .joined ≡ true → fieldsAt joinedWidths all (joinedStart p 10) ≡ x .joined ∷ []
   unfolding restBytes
   joined-reads t =
       let s : all ≡ h ++ told ++ command ++ deps ++ (joined ++ []) = simp (append-assoc, append-nil) in
       let u : all ≡ h ++ told ++ command ++ deps ++ (joinedBytes x ++ []) = s ∙ ap (λ (b : Bool). h ++ told ++ command ++ deps ++ (part b (joinedBytes x) ++ [])) t in
-      ap (λ (l : List ℕ). fieldsAt joinedWidths l (joinedPlace p 10)) u
-      ∙ fieldsAt-fieldsBytes joinedWidths (x .joined ∷ []) (h ++ told ++ command ++ deps) [] (joinedPlace p 10) (deps-ends p x d h 10 e) (fx .joined, tt)
+      ap (λ (l : List ℕ). fieldsAt joinedWidths l (joinedStart p 10)) u
+      ∙ fieldsAt-fieldsBytes joinedWidths (x .joined ∷ []) (h ++ told ++ command ++ deps) [] (joinedStart p 10) (deps-ends p x d h 10 e) (fx .joined, tt)
 
   rest-carried : carriedAt p all ≡ kept p x
   unfolding carriedAt kept commandAt
   rest-carried = λ i. record {
     voted = same-where (p .told) (numAt 4 all 10) (x .voted) 0 (λ t. ap (λ (l : List ℕ). getD l 0 0) (told-reads t)) i;
     status = same-where (p .told) (numAt 1 all 14) (x .status) 0 (λ t. ap (λ (l : List ℕ). getD l 1 0) (told-reads t)) i;
-    command = same-where (p .command) (commandAt all (commandPlace p 10)) (x .command) noop (λ t. ap commandOf (command-reads t) ∙ command-is (x .command)) i;
-    joined = same-where (p .joined) (numAt 4 all (joinedPlace p 10)) (x .joined) 0 (λ t. ap (λ (l : List ℕ). getD l 0 0) (joined-reads t)) i;
+    command = same-where (p .command) (commandAt all (commandStart p 10)) (x .command) noop (λ t. ap commandOf (command-reads t) ∙ command-is (x .command)) i;
+    joined = same-where (p .joined) (numAt 4 all (joinedStart p 10)) (x .joined) 0 (λ t. ap (λ (l : List ℕ). getD l 0 0) (joined-reads t)) i;
   }
 
   rest-beside : besideAt p all ≡ cond (p .deps) d noDeps
   unfolding besideAt
-  rest-beside = same-where (p .deps) (depsAt all (depsPlace p 10)) d noDeps deps-reads
+  rest-beside = same-where (p .deps) (depsAt all (depsStart p 10)) d noDeps deps-reads
 
   rest-op : opAt p all ≤ 2
   unfolding opAt
   rest-op = go (p .command) refl
     where
-      go : (b : Bool) → p .command ≡ b → cond b (numAt 1 all (commandPlace p 10)) 0 ≤ 2
+      go : (b : Bool) → p .command ≡ b → cond b (numAt 1 all (commandStart p 10)) 0 ≤ 2
       go true t = rw (ap (λ (l : List ℕ). getD l 0 0) (command-reads t)) (op-small (x .command .op))
       go false t = omega arith
 
@@ -187,46 +187,46 @@ span-part s true ws l at h = let n : at + sizeOf ws - at ≡ sizeOf ws = omega a
 span-part s false ws l at h = let n : at - at ≡ 0 = omega arith in rw n
 
 -- the parts of bytes of their length write back as these bytes
-module _ (p : Parts) (b : List ℕ) (byte : (i : ℕ) → getD b i 0 < 256) (l : length b ≡ endPlace p 10) (o : opAt p b ≤ 2) where
-  told-back : part (p .told) (toldBytes (carriedAt p b)) ≡ span b 10 (commandPlace p 10)
+module _ (p : Parts) (b : List ℕ) (byte : (i : ℕ) → getD b i 0 < 256) (l : length b ≡ restEnd p 10) (o : opAt p b ≤ 2) where
+  told-back : part (p .told) (toldBytes (carriedAt p b)) ≡ span b 10 (commandStart p 10)
   unfolding carriedAt kept
   told-back = span-part b (p .told) toldWidths (toldBytes (carriedAt p b)) 10 go
     where
       go : p .told ≡ true → toldBytes (carriedAt p b) ≡ take 5 (drop 10 b)
       go t = rw t (fieldsBytes-fieldsAt toldWidths b 10 byte (omega (arith, l, told-room p 10 t)))
 
-  command-back : part (p .command) (commandBytes (carriedAt p b .command)) ≡ span b (commandPlace p 10) (depsPlace p 10)
+  command-back : part (p .command) (commandBytes (carriedAt p b .command)) ≡ span b (commandStart p 10) (depsStart p 10)
   unfolding carriedAt kept opAt
-  command-back = span-part b (p .command) commandWidths (commandBytes (carriedAt p b .command)) (commandPlace p 10) go
+  command-back = span-part b (p .command) commandWidths (commandBytes (carriedAt p b .command)) (commandStart p 10) go
     where
-      go : p .command ≡ true → commandBytes (carriedAt p b .command) ≡ take 13 (drop (commandPlace p 10) b)
-      go t = rw t (commandBytes-commandAt b (commandPlace p 10) byte (omega (arith, l, command-room p 10 t)) (rw t at o))
+      go : p .command ≡ true → commandBytes (carriedAt p b .command) ≡ take 13 (drop (commandStart p 10) b)
+      go t = rw t (commandBytes-commandAt b (commandStart p 10) byte (omega (arith, l, command-room p 10 t)) (rw t at o))
 
-  deps-back : part (p .deps) (depsBytes (besideAt p b)) ≡ span b (depsPlace p 10) (joinedPlace p 10)
+  deps-back : part (p .deps) (depsBytes (besideAt p b)) ≡ span b (depsStart p 10) (joinedStart p 10)
   unfolding besideAt
-  deps-back = span-part b (p .deps) depsWidths (depsBytes (besideAt p b)) (depsPlace p 10) go
+  deps-back = span-part b (p .deps) depsWidths (depsBytes (besideAt p b)) (depsStart p 10) go
     where
-      go : p .deps ≡ true → depsBytes (besideAt p b) ≡ take 14 (drop (depsPlace p 10) b)
-      go t = rw t (depsBytes-depsAt b (depsPlace p 10) byte (omega (arith, l, deps-room p 10 t)))
+      go : p .deps ≡ true → depsBytes (besideAt p b) ≡ take 14 (drop (depsStart p 10) b)
+      go t = rw t (depsBytes-depsAt b (depsStart p 10) byte (omega (arith, l, deps-room p 10 t)))
 
-  joined-back : part (p .joined) (joinedBytes (carriedAt p b)) ≡ span b (joinedPlace p 10) (endPlace p 10)
+  joined-back : part (p .joined) (joinedBytes (carriedAt p b)) ≡ span b (joinedStart p 10) (restEnd p 10)
   unfolding carriedAt kept
-  joined-back = span-part b (p .joined) joinedWidths (joinedBytes (carriedAt p b)) (joinedPlace p 10) go
+  joined-back = span-part b (p .joined) joinedWidths (joinedBytes (carriedAt p b)) (joinedStart p 10) go
     where
-      go : p .joined ≡ true → joinedBytes (carriedAt p b) ≡ take 4 (drop (joinedPlace p 10) b)
-      go t = rw t (fieldsBytes-fieldsAt joinedWidths b (joinedPlace p 10) byte (omega (arith, l, joined-room p 10 t)))
+      go : p .joined ≡ true → joinedBytes (carriedAt p b) ≡ take 4 (drop (joinedStart p 10) b)
+      go t = rw t (fieldsBytes-fieldsAt joinedWidths b (joinedStart p 10) byte (omega (arith, l, joined-room p 10 t)))
 
   rest-back : restBytes p (carriedAt p b) (besideAt p b) ≡ drop 10 b
   unfolding restBytes
   rest-back =
-      let c1 : 10 ≤ commandPlace p 10 = past-over (p .told) toldWidths 10 in
-      let c2 : commandPlace p 10 ≤ depsPlace p 10 = past-over _ _ _ in
-      let c3 : depsPlace p 10 ≤ joinedPlace p 10 = past-over _ _ _ in
-      let c4 : joinedPlace p 10 ≤ endPlace p 10 = past-over _ _ _ in
-      let j1 = span-join b 10 (commandPlace p 10) (depsPlace p 10) c1 c2 in
-      let j2 = span-join b 10 (depsPlace p 10) (joinedPlace p 10) (omega arith) c3 in
-      let j3 = span-join b 10 (joinedPlace p 10) (endPlace p 10) (omega arith) c4 in
-      rw (told-back, command-back, deps-back, joined-back, j1, j2, j3) (take-all (endPlace p 10 - 10) (drop 10 b) (simp length-drop (omega arith)))
+      let c1 : 10 ≤ commandStart p 10 = past-over (p .told) toldWidths 10 in
+      let c2 : commandStart p 10 ≤ depsStart p 10 = past-over _ _ _ in
+      let c3 : depsStart p 10 ≤ joinedStart p 10 = past-over _ _ _ in
+      let c4 : joinedStart p 10 ≤ restEnd p 10 = past-over _ _ _ in
+      let j1 = span-join b 10 (commandStart p 10) (depsStart p 10) c1 c2 in
+      let j2 = span-join b 10 (depsStart p 10) (joinedStart p 10) (omega arith) c3 in
+      let j3 = span-join b 10 (joinedStart p 10) (restEnd p 10) (omega arith) c4 in
+      rw (told-back, command-back, deps-back, joined-back, j1, j2, j3) (take-all (restEnd p 10 - 10) (drop 10 b) (simp length-drop (omega arith)))
 
 -- accepted bytes write back as themselves
 module _ (b : List ℕ) (byte : (i : ℕ) → getD b i 0 < 256) (f : Framed b) (o : opAt (partsOf (kindAt b)) b ≤ 2) where
@@ -258,7 +258,7 @@ valid-here n s c m h = eqb-true (m .to) c (clauses-of n s c m h .here)
 
 -- Written messages read back equal: what a message that the writer takes is written as, its receiver reads as that message.
 pub written-reads-back : (n s c : ℕ) (m : Message) → MessageFits m → setupOk n s c ≡ true → valid n s c m ≡ true
-    → received n s c (messageBytes m) ≡ record { answer = reading.Valid; message = m }
+    → readMessage n s c (messageBytes m) ≡ record { answer = reading.Valid; message = m }
 written-reads-back n s c m f p v =
     let e : messageAt (messageBytes m) ≡ m = messageAt-messageBytes m f (valid-carried n s c m v) in
     let w : (opFits (messageBytes m) && valid n s c (messageAt (messageBytes m))) ≡ true = rw (op-written m f, e) v in
@@ -266,7 +266,7 @@ written-reads-back n s c m f p v =
 
 -- The same of the calls: after the writer's answer, the bytes that it counts are read by the copy named in `to` as that message.
 pub write-then-read : (n s c : ℕ) (out : List ℕ) (m : Message) → MessageFits m → setupOk n s c ≡ true → setupOk n s (m .to) ≡ true → 256 ≤ length out
-    → valid n s (m .to) m ≡ true → received n s (m .to) (take (lengthOf (kindOf (m .body))) (wrote n s c out m .out)) ≡ record { answer = reading.Valid; message = m }
+    → valid n s (m .to) m ≡ true → readMessage n s (m .to) (take (lengthOf (kindOf (m .body))) (wrote n s c out m .out)) ≡ record { answer = reading.Valid; message = m }
 write-then-read n s c out m f p q r v =
     let w = ap (λ (x : Wrote). x .out) (wrote-ok n s c out m p r v) in
     let l = length-messageBytes m in

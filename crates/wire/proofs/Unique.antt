@@ -10,9 +10,9 @@ use Rattle.wire.specs.declared.Reading.the-variants as reading
 use Rattle.wire.specs.declared.Received.{Received}
 use Rattle.wire.specs.declared.Writing.{Writing}
 use Rattle.wire.specs.declared.Writing.the-variants as writing
-use Rattle.wire.specs.Calls.{received, wrote, readingNumber, writingNumber, writingCount}
+use Rattle.wire.specs.Calls.{readMessage, wrote, readingNumber, writingNumber, writingCount}
 
-pub read-message-unique : (n s c : ℕ) (b : List ℕ) (x y : Received) → x ≡ received n s c b → y ≡ received n s c b → x ≡ y
+pub read-message-unique : (n s c : ℕ) (b : List ℕ) (x y : Received) → x ≡ readMessage n s c b → y ≡ readMessage n s c b → x ≡ y
 read-message-unique n s c b x y p q = p ∙ sym q
 
 pub write-message-unique : (n s c : ℕ) (out : List ℕ) (m : Message) (x y : Writing) (u v : List ℕ) → x ≡ wrote n s c out m .answer

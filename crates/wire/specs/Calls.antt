@@ -25,8 +25,8 @@ abbrev pub unread : Refusal → Received
 unread r = record { answer = reading.Refused r; message = noMessage }
 
 -- 1, then 3
-unfoldable pub received : ℕ → ℕ → ℕ → List ℕ → Received
-received n s c b =
+unfoldable pub readMessage : ℕ → ℕ → ℕ → List ℕ → Received
+readMessage n s c b =
     cond (not (setupOk n s c)) (unread Setup)
     (cond (not (validBytes n s c b)) (unread why.Message) (record { answer = reading.Valid; message = messageAt b }))
 

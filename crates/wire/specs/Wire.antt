@@ -28,29 +28,29 @@ toldWidths = 4 ∷ 1 ∷ []
 abbrev pub joinedWidths : List ℕ
 joinedWidths = 4 ∷ []
 
-abbrev pub headLength : ℕ
-headLength = sizeOf headWidths
+abbrev pub headSize : ℕ
+headSize = sizeOf headWidths
 
 -- the place after a part of these widths, which stands at `at` if at all
 unfoldable pub past : Bool → List ℕ → ℕ → ℕ
 past b ws at = cond b (at + sizeOf ws) at
 
 -- the places of the parts of a rest that begins at `at`, and its end
-abbrev pub commandPlace : Parts → ℕ → ℕ
-commandPlace p at = past (p .told) toldWidths at
+abbrev pub commandStart : Parts → ℕ → ℕ
+commandStart p at = past (p .told) toldWidths at
 
-abbrev pub depsPlace : Parts → ℕ → ℕ
-depsPlace p at = past (p .command) commandWidths (commandPlace p at)
+abbrev pub depsStart : Parts → ℕ → ℕ
+depsStart p at = past (p .command) commandWidths (commandStart p at)
 
-abbrev pub joinedPlace : Parts → ℕ → ℕ
-joinedPlace p at = past (p .deps) depsWidths (depsPlace p at)
+abbrev pub joinedStart : Parts → ℕ → ℕ
+joinedStart p at = past (p .deps) depsWidths (depsStart p at)
 
-abbrev pub endPlace : Parts → ℕ → ℕ
-endPlace p at = past (p .joined) joinedWidths (joinedPlace p at)
+abbrev pub restEnd : Parts → ℕ → ℕ
+restEnd p at = past (p .joined) joinedWidths (joinedStart p at)
 
 -- the kind byte alone gives the length
 unfoldable pub lengthOf : ℕ → ℕ
-lengthOf k = endPlace (partsOf k) headLength
+lengthOf k = restEnd (partsOf k) headSize
 
 abbrev pub headNumbers : Message → List ℕ
 headNumbers m = kindOf (m .body) ∷ m .from ∷ m .to ∷ m .owner ∷ m .number ∷ m .ballot ∷ []
@@ -84,14 +84,14 @@ kindAt b = numAt 1 b 0
 unfoldable pub carriedAt : Parts → List ℕ → Carried
 carriedAt p b =
     kept p (record {
-      voted = numAt 4 b headLength;
-      status = numAt 1 b (headLength + 4);
-      command = commandAt b (commandPlace p headLength);
-      joined = numAt 4 b (joinedPlace p headLength);
+      voted = numAt 4 b headSize;
+      status = numAt 1 b (headSize + 4);
+      command = commandAt b (commandStart p headSize);
+      joined = numAt 4 b (joinedStart p headSize);
     })
 
 unfoldable pub besideAt : Parts → List ℕ → List ℕ
-besideAt p b = cond (p .deps) (depsAt b (depsPlace p headLength)) noDeps
+besideAt p b = cond (p .deps) (depsAt b (depsStart p headSize)) noDeps
 
 abbrev pub bodyAt : ℕ → List ℕ → Body
 bodyAt k b = bodyOf k (carriedAt (partsOf k) b)
@@ -115,7 +115,7 @@ framed b = rowOf (kindAt b) .known && eqb (length b) (lengthOf (kindAt b))
 
 -- the op byte, 0 where there is none
 unfoldable pub opAt : Parts → List ℕ → ℕ
-opAt p b = cond (p .command) (numAt 1 b (commandPlace p headLength)) 0
+opAt p b = cond (p .command) (numAt 1 b (commandStart p headSize)) 0
 
 -- 0, 1 or 2: a message read from other bytes could not be told from a valid one
 abbrev pub opFits : List ℕ → Bool

@@ -10,7 +10,7 @@ use nouns::message::kind_of;
 use nouns::message::row_in;
 use nouns::message::row_of;
 use nouns::setup::setup_ok;
-use nouns::vote::no_op;
+use nouns::vote::noop;
 use paper::Body;
 use paper::Carried;
 use paper::Command;
@@ -26,8 +26,8 @@ ghost use Rattle.num.specs.Num.{numAt, splice};
 ghost use Rattle.codec.specs.Parts.{commandAt, commandBytes, depsBytes};
 ghost use Rattle.paper.specs.Command.{noop};
 ghost use Rattle.paper.specs.Message.{bodyOf, noMessage};
-ghost use Rattle.wire.specs.Wire.{headLength, commandPlace, depsPlace, joinedPlace, endPlace, lengthOf, kindAt, carriedAt, besideAt, messageAt, framed, opAt, opFits, toldBytes, joinedBytes, part, headBytes, restBytes, messageBytes};
-ghost use Rattle.wire.specs.Calls.{unread, received, wrote};
+ghost use Rattle.wire.specs.Wire.{headSize, commandStart, depsStart, joinedStart, restEnd, lengthOf, kindAt, carriedAt, besideAt, messageAt, framed, opAt, opFits, toldBytes, joinedBytes, part, headBytes, restBytes, messageBytes};
+ghost use Rattle.wire.specs.Calls.{unread, readMessage, wrote};
 
 // How many bytes the head takes, and each part of the rest.
 const HEAD: usize = 10;
@@ -57,34 +57,34 @@ pub enum Writing {
 }
 
 // The places of the parts of a rest that begins at `at`, and its end.
-fn command_place(p: Parts, at: usize) -> usize
+fn command_start(p: Parts, at: usize) -> usize
     requires { ⌜ at + 32 < 18446744073709551616 ⌝ }
-    ensures { λ r. ⌜ r ≡ commandPlace p at ⌝ }
+    ensures { λ r. ⌜ r ≡ commandStart p at ⌝ }
 {
     if p.told { at + TOLD } else { at }
 }
 
-fn deps_place(p: Parts, at: usize) -> usize
+fn deps_start(p: Parts, at: usize) -> usize
     requires { ⌜ at + 32 < 18446744073709551616 ⌝ }
-    ensures { λ r. ⌜ r ≡ depsPlace p at ⌝ }
+    ensures { λ r. ⌜ r ≡ depsStart p at ⌝ }
 {
-    let start = command_place(p, at);
+    let start = command_start(p, at);
     if p.command { start + COMMAND } else { start }
 }
 
-fn joined_place(p: Parts, at: usize) -> usize
+fn joined_start(p: Parts, at: usize) -> usize
     requires { ⌜ at + 32 < 18446744073709551616 ⌝ }
-    ensures { λ r. ⌜ r ≡ joinedPlace p at ⌝ }
+    ensures { λ r. ⌜ r ≡ joinedStart p at ⌝ }
 {
-    let start = deps_place(p, at);
+    let start = deps_start(p, at);
     if p.deps { start + DEPS } else { start }
 }
 
-fn end_place(p: Parts, at: usize) -> usize
+fn rest_end(p: Parts, at: usize) -> usize
     requires { ⌜ at + 36 < 18446744073709551616 ⌝ }
-    ensures { λ r. ⌜ r ≡ endPlace p at ⌝ }
+    ensures { λ r. ⌜ r ≡ restEnd p at ⌝ }
 {
-    let start = joined_place(p, at);
+    let start = joined_start(p, at);
     if p.joined { start + JOINED } else { start }
 }
 
@@ -93,7 +93,7 @@ pub fn length_of(k: usize) -> usize
     ensures { λ r. ⌜ r ≡ lengthOf k ⌝ }
 {
     let row = row_of(k);
-    end_place(row.parts, HEAD)
+    rest_end(row.parts, HEAD)
 }
 
 // The kind byte, 0 of no bytes.
@@ -106,7 +106,7 @@ fn kind_at(b: &[u8]) -> usize
     wide8(num::get_u8(b, 0))
 }
 
-fn is_framed(b: &[u8]) -> bool
+fn framed(b: &[u8]) -> bool
     ensures { λ r. ⌜ r ≡ framed (now (b .entry)) ⌝ }
 {
     let k = kind_at(b);
@@ -116,13 +116,13 @@ fn is_framed(b: &[u8]) -> bool
 
 // The op byte, or 0 where there is none.
 fn op_at(p: Parts, b: &[u8]) -> usize
-    requires { ⌜ length (now b) ≡ endPlace p headLength ⌝ }
+    requires { ⌜ length (now b) ≡ restEnd p headSize ⌝ }
     ensures { λ r. ⌜ r ≡ opAt p (now (b .entry)) ⌝ }
 {
     if !p.command {
         return 0;
     }
-    let at = command_place(p, HEAD);
+    let at = command_start(p, HEAD);
     wide8(num::get_u8(b, at))
 }
 
@@ -135,8 +135,8 @@ fn op_fits(b: &[u8]) -> bool
 }
 
 fn read_voted(p: Parts, b: &[u8]) -> u32
-    requires { ⌜ length (now b) ≡ endPlace p headLength ⌝ }
-    ensures { λ r. ⌜ r ≡ cond (p .told) (numAt 4 (now (b .entry)) headLength) 0 ⌝ }
+    requires { ⌜ length (now b) ≡ restEnd p headSize ⌝ }
+    ensures { λ r. ⌜ r ≡ cond (p .told) (numAt 4 (now (b .entry)) headSize) 0 ⌝ }
 {
     if !p.told {
         return 0;
@@ -145,8 +145,8 @@ fn read_voted(p: Parts, b: &[u8]) -> u32
 }
 
 fn read_status(p: Parts, b: &[u8]) -> u8
-    requires { ⌜ length (now b) ≡ endPlace p headLength ⌝ }
-    ensures { λ r. ⌜ r ≡ cond (p .told) (numAt 1 (now (b .entry)) (headLength + 4)) 0 ⌝ }
+    requires { ⌜ length (now b) ≡ restEnd p headSize ⌝ }
+    ensures { λ r. ⌜ r ≡ cond (p .told) (numAt 1 (now (b .entry)) (headSize + 4)) 0 ⌝ }
 {
     if !p.told {
         return 0;
@@ -155,29 +155,29 @@ fn read_status(p: Parts, b: &[u8]) -> u8
 }
 
 fn read_command(p: Parts, b: &[u8]) -> Command
-    requires { ⌜ length (now b) ≡ endPlace p headLength ⌝ }
-    ensures { λ r. ⌜ r ≡ cond (p .command) (commandAt (now (b .entry)) (commandPlace p headLength)) noop ⌝ }
+    requires { ⌜ length (now b) ≡ restEnd p headSize ⌝ }
+    ensures { λ r. ⌜ r ≡ cond (p .command) (commandAt (now (b .entry)) (commandStart p headSize)) noop ⌝ }
 {
     if !p.command {
-        return no_op();
+        return noop();
     }
-    let at = command_place(p, HEAD);
+    let at = command_start(p, HEAD);
     codec::read_command(b, at)
 }
 
 fn read_joined(p: Parts, b: &[u8]) -> u32
-    requires { ⌜ length (now b) ≡ endPlace p headLength ⌝ }
-    ensures { λ r. ⌜ r ≡ cond (p .joined) (numAt 4 (now (b .entry)) (joinedPlace p headLength)) 0 ⌝ }
+    requires { ⌜ length (now b) ≡ restEnd p headSize ⌝ }
+    ensures { λ r. ⌜ r ≡ cond (p .joined) (numAt 4 (now (b .entry)) (joinedStart p headSize)) 0 ⌝ }
 {
     if !p.joined {
         return 0;
     }
-    let at = joined_place(p, HEAD);
+    let at = joined_start(p, HEAD);
     num::get_u32(b, at)
 }
 
 fn read_carried(p: Parts, b: &[u8]) -> Carried
-    requires { ⌜ length (now b) ≡ endPlace p headLength ⌝ }
+    requires { ⌜ length (now b) ≡ restEnd p headSize ⌝ }
     ensures { λ r. ⌜ r ≡ carriedAt p (now (b .entry)) ⌝ }
 {
     let voted = read_voted(p, b);
@@ -193,18 +193,18 @@ fn read_carried(p: Parts, b: &[u8]) -> Carried
 }
 
 fn read_beside(p: Parts, b: &[u8]) -> [u16; 7]
-    requires { ⌜ length (now b) ≡ endPlace p headLength ⌝ }
+    requires { ⌜ length (now b) ≡ restEnd p headSize ⌝ }
     ensures { λ r. ⌜ r ≡ besideAt p (now (b .entry)) ⌝ }
 {
     if !p.deps {
         return no_deps();
     }
-    let at = deps_place(p, HEAD);
+    let at = deps_start(p, HEAD);
     codec::read_deps(b, at)
 }
 
 fn read_body(k: usize, p: Parts, b: &[u8]) -> Body
-    requires { ⌜ length (now b) ≡ endPlace p headLength ⌝ }
+    requires { ⌜ length (now b) ≡ restEnd p headSize ⌝ }
     ensures { λ r. ⌜ r ≡ bodyOf k (carriedAt p (now (b .entry))) ⌝ }
 {
     body_of(k, read_carried(p, b))
@@ -262,12 +262,12 @@ fn unread_of(why: Refusal) -> Received
 
 // Reads a message of any bytes, as received by copy c under the setup n, s.
 pub fn read_message(n: usize, s: usize, c: usize, b: &[u8]) -> Received
-    ensures { λ r. ⌜ r ≡ received n s c (now (b .entry)) ⌝ }
+    ensures { λ r. ⌜ r ≡ readMessage n s c (now (b .entry)) ⌝ }
 {
     if !setup_ok(n, s, c) {
         return unread_of(Refusal::Setup);
     }
-    if !is_framed(b) {
+    if !framed(b) {
         return unread_of(Refusal::Message);
     }
     let m = decode(b);
@@ -332,12 +332,12 @@ fn write_joined(out: &mut [u8], at: usize, has: bool, x: Carried)
 }
 
 fn write_rest(out: &mut [u8], at: usize, p: Parts, x: Carried, d: [u16; 7])
-    requires { ⌜ endPlace p at ≤ length (now out) × (at + 32 < 18446744073709551616) ⌝ }
+    requires { ⌜ restEnd p at ≤ length (now out) × (at + 32 < 18446744073709551616) ⌝ }
     ensures { λ _. ⌜ now (out .exit) ≡ splice (now (out .entry)) at (restBytes p x d) ⌝ }
 {
-    let a1 = command_place(p, at);
-    let a2 = deps_place(p, at);
-    let a3 = joined_place(p, at);
+    let a1 = command_start(p, at);
+    let a2 = deps_start(p, at);
+    let a3 = joined_start(p, at);
     write_told(&mut *out, at, p.told, x);
     write_command(&mut *out, a1, p.command, x.command);
     write_beside(&mut *out, a2, p.deps, d);

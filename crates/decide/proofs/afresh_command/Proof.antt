@@ -12,28 +12,28 @@ use Rattle.decide.proofs.afresh_command.Tie as tie
 voters-requires : tie.Need-voters-requires
 voters-requires c κs = search needs
 
-no-op-requires : tie.Need-no-op-requires
-no-op-requires c κs = search needs
+noop-requires : tie.Need-noop-requires
+noop-requires c κs = search needs
 
 returns : tie.Need-returns
-returns c = c .no-op .ensures ∙ afresh-none _ (sym (c .before .before .voters .ensures) ∙ c .before .if1 .taken)
+returns c = c .noop .ensures ∙ afresh-none _ (sym (c .before .before .voters .ensures) ∙ c .before .if1 .taken)
 
 top-voters-requires : tie.Need-top-voters-requires
 top-voters-requires c κs = search needs
 
-lowest-in-requires : tie.Need-lowest-in-requires
-lowest-in-requires c κs = search needs
+lowest-requires : tie.Need-lowest-requires
+lowest-requires c κs = search needs
 
 replies-of-requires : tie.Need-replies-of-requires
 replies-of-requires c κs = search needs
 
-no-op-requires-2 : tie.Need-no-op-requires-2
-no-op-requires-2 c κs = search needs
+noop-requires-2 : tie.Need-noop-requires-2
+noop-requires-2 c κs = search needs
 
 returns-2 : tie.Need-returns-2
 returns-2 c =
-    let e = lowest-those (topVoter (c .before .before .before .before .before .before .before .args .r)) (c .before .before .before .before .top-voters .ensures) (c .before .before .before .lowest-in .ensures) in
-    c .no-op2 .ensures
+    let e = lowest-those (topVoter (c .before .before .before .before .before .before .before .args .r)) (c .before .before .before .before .top-voters .ensures) (c .before .before .before .lowest .ensures) in
+    c .noop2 .ensures
     ∙ afresh-past _ (λ e. c .before .before .before .before .before .if1 .left (c .before .before .before .before .before .before .voters .ensures ∙ e)) (ap length (sym (c .before .before .replies-of .ensures .0)) ∙ c .before .before .replies-of .ensures .1) _ e (c .before .if2 .taken)
 
 mul-v : tie.Need-mul-v
@@ -44,7 +44,7 @@ array-copy-out-v c = search needs
 
 returns-3 : tie.Need-returns-3
 returns-3 c =
-    let q = c .before .before .before .before .lowest-in in
+    let q = c .before .before .before .before .lowest in
     let e = lowest-those (topVoter (c .before .before .before .before .before .before .before .before .args .r)) (c .before .before .before .before .before .top-voters .ensures) (q .ensures) in
     ap (λ (l : List Vote). getD l (q .result) _ .command) (c .before .before .before .replies-of .ensures .0)
     ∙ afresh-told _ (λ e. c .before .before .before .before .before .before .if1 .left (c .before .before .before .before .before .before .before .voters .ensures ∙ e)) (ap length (sym (c .before .before .before .replies-of .ensures .0)) ∙ c .before .before .before .replies-of .ensures .1) _ _ e (c .before .before .if2 .left)
@@ -54,12 +54,12 @@ afresh-command-spec =
     tie.close
     (tie.spec
     voters-requires
-    no-op-requires
+    noop-requires
     returns
     top-voters-requires
-    lowest-in-requires
+    lowest-requires
     replies-of-requires
-    no-op-requires-2
+    noop-requires-2
     returns-2
     mul-v
     array-copy-out-v

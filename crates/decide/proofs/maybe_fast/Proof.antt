@@ -13,20 +13,20 @@ wide32-requires c κs = search needs
 equal-requires : tie.Need-equal-requires
 equal-requires c κs = search needs
 
-is-member-requires : tie.Need-is-member-requires
-is-member-requires c κs = search needs
+member-requires : tie.Need-member-requires
+member-requires c κs = search needs
 
 both-requires : tie.Need-both-requires
 both-requires c κs = search needs
 
-faults-of-requires : tie.Need-faults-of-requires
-faults-of-requires c κs = search needs
+faults-requires : tie.Need-faults-requires
+faults-requires c κs = search needs
 
 same-voters-requires : tie.Need-same-voters-requires
 same-voters-requires c κs = search needs
 
-count-of-requires : tie.Need-count-of-requires
-count-of-requires c κs = search needs
+count-requires : tie.Need-count-requires
+count-requires c κs = search needs
 
 at-most-requires : tie.Need-at-most-requires
 at-most-requires c κs = search needs
@@ -36,7 +36,7 @@ both-requires-2 c κs = search needs
 
 returns : tie.Need-returns
 unfolding maybeFast
-returns c = c .both2 .ensures ∙ rw (c .before .at-most .ensures, c .before .before .count-of .ensures, c .before .before .before .same-voters .ensures, c .before .before .before .before .faults-of .ensures, c .before .before .before .before .before .both .ensures, c .before .before .before .before .before .before .is-member .ensures, c .before .before .before .before .before .before .before .equal .ensures, c .before .before .before .before .before .before .before .before .wide32 .ensures, c .before .before .before .before .before .before .before .before .before .top-voted .ensures)
+returns c = c .both2 .ensures ∙ rw (c .before .at-most .ensures, c .before .before .count .ensures, c .before .before .before .same-voters .ensures, c .before .before .before .before .faults .ensures, c .before .before .before .before .before .both .ensures, c .before .before .before .before .before .before .member .ensures, c .before .before .before .before .before .before .before .equal .ensures, c .before .before .before .before .before .before .before .before .wide32 .ensures, c .before .before .before .before .before .before .before .before .before .top-voted .ensures)
 
 pub maybe-fast-spec : {M : Type 1} → statement M
 maybe-fast-spec =
@@ -45,11 +45,11 @@ maybe-fast-spec =
     top-voted-requires
     wide32-requires
     equal-requires
-    is-member-requires
+    member-requires
     both-requires
-    faults-of-requires
+    faults-requires
     same-voters-requires
-    count-of-requires
+    count-requires
     at-most-requires
     both-requires-2
     returns)

@@ -3,8 +3,8 @@ use borrow.Author.Needs.{needs}
 use Rattle.decide.proofs.votes.Statement.{statement}
 use Rattle.decide.proofs.votes.Tie as tie
 
-is-member-requires : tie.Need-is-member-requires
-is-member-requires c κs = search needs
+member-requires : tie.Need-member-requires
+member-requires c κs = search needs
 
 wide8-requires : tie.Need-wide8-requires
 wide8-requires c κs = search needs
@@ -16,8 +16,8 @@ both-requires : tie.Need-both-requires
 both-requires c κs = search needs
 
 returns : tie.Need-returns
-returns c = c .both .ensures ∙ rw (c .before .at-most .ensures, c .before .before .wide8 .ensures, c .before .before .before .is-member .ensures)
+returns c = c .both .ensures ∙ rw (c .before .at-most .ensures, c .before .before .wide8 .ensures, c .before .before .before .member .ensures)
 
 pub votes-spec : {M : Type 1} → statement M
 votes-spec =
-    tie.close (tie.spec is-member-requires wide8-requires at-most-requires both-requires returns)
+    tie.close (tie.spec member-requires wide8-requires at-most-requires both-requires returns)

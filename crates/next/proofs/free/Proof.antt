@@ -31,8 +31,8 @@ shared-slice-read-wide8 c = let g = c .before .before .before .loop .inv in omeg
 wide8-requires : tie.Need-wide8-requires Inv-loop μ-loop
 wide8-requires c κs = search needs
 
-mark-of-requires : tie.Need-mark-of-requires Inv-loop μ-loop
-mark-of-requires c κs = let l = c .before .before .before .before in (record { long = l .loop .inv .lists .marks; place = l .before .slot-of .ensures .1 }, omega (arith, l .loop .inv .lists .copies, c .before .before .before .loop-test .taken))
+mark-at-requires : tie.Need-mark-at-requires Inv-loop μ-loop
+mark-at-requires c κs = let l = c .before .before .before .before in (record { long = l .loop .inv .lists .marks; place = l .before .slot-of .ensures .1 }, omega (arith, l .loop .inv .lists .copies, c .before .before .before .loop-test .taken))
 
 free-row-requires : tie.Need-free-row-requires Inv-loop μ-loop
 free-row-requires c κs =
@@ -40,7 +40,7 @@ free-row-requires c κs =
     let f = l .before in
     let a = f .before .before .before .before .before in
     let g = l .loop .inv in
-    let w = row-span _ _ _ _ _ _ (g .lists) (a .pre .asking .inst) _ (c .before .before .before .before .loop-test .taken) (f .slot-of .ensures .0) (c .mark-of .ensures) in
+    let w = row-span _ _ _ _ _ _ (g .lists) (a .pre .asking .inst) _ (c .before .before .before .before .loop-test .taken) (f .slot-of .ensures .0) (c .mark-at .ensures) in
     (w .states, g .long, w .other, w .last)
 
 add-q : tie.Need-add-q Inv-loop μ-loop
@@ -55,7 +55,7 @@ loop-again c =
     let l = d .before .before .before .before .before .before in
     let f = l .before in
     let a = f .before .before .before .before .before in
-    let w = freed-at (a .args .h .now) (a .args .st .now) (a .args .past .now) _ _ _ (f .slot-of .ensures .0) (d .before .mark-of .ensures) (d .before .before .wide8 .ensures) (d .free-row .ensures) in
+    let w = freed-at (a .args .h .now) (a .args .st .now) (a .args .past .now) _ _ _ (f .slot-of .ensures .0) (d .before .mark-at .ensures) (d .before .before .wide8 .ensures) (d .free-row .ensures) in
     known-freed _ _ _ _ _ _ (l .loop .inv) _ _ (a .pre .asking .inst) (a .pre .ready) _ _ (d .before .before .before .before .before .loop-test .taken) w
 
 same-length : tie.Need-same-length Inv-loop μ-loop
@@ -76,7 +76,7 @@ free-spec =
     loop-holds
     shared-slice-read-wide8
     wide8-requires
-    mark-of-requires
+    mark-at-requires
     free-row-requires
     add-q
     loop-less

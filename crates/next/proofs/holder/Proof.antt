@@ -34,15 +34,15 @@ start-of-requires c κs =
     let g = c .before .before .before .before .before .before .before .before .pre .passed in
     (omega (arith, g .rows _ (c .before .before .loop-test .taken) .few, g .numbers, c .wide8 .ensures), omega (arith, g .copies, c .before .before .loop-test .taken))
 
-mark-of-requires : tie.Need-mark-of-requires Inv-loop μ-loop
-mark-of-requires c κs =
+mark-at-requires : tie.Need-mark-at-requires Inv-loop μ-loop
+mark-at-requires c κs =
     let g = c .before .before .before .before .before .before .before .before .before .pre .lists in
     (record { long = g .marks; place = c .before .before .before .before .before .slot-of .ensures .1 }, omega (arith, g .copies, c .before .before .before .loop-test .taken))
 
 row-holder-requires : tie.Need-row-holder-requires Inv-loop μ-loop
 row-holder-requires c κs =
     let g = c .before .before .before .before .before .before .before .before .before .before .pre in
-    row-span _ _ _ _ _ _ (g .lists) (g .inst) _ (c .before .before .before .before .loop-test .taken) (c .before .before .before .before .before .before .slot-of .ensures .0) (c .mark-of .ensures)
+    row-span _ _ _ _ _ _ (g .lists) (g .inst) _ (c .before .before .before .before .loop-test .taken) (c .before .before .before .before .before .before .slot-of .ensures .0) (c .mark-at .ensures)
 
 returns : tie.Need-returns Inv-loop μ-loop
 returns c =
@@ -50,7 +50,7 @@ returns c =
     let l = d .before .before .before .before .before .before in
     let g = l .before .before .before .before .before .pre in
     held-some _ _ _ _ _ _ _ _ g _ _ _ _ _ _ (d .before .before .before .before .before .loop-test .taken) (l .before .slot-of .ensures .0)
-    (d .before .mark-of .ensures) (d .before .before .before .wide8 .ensures) (d .before .before .start-of .ensures) (d .row-holder .ensures) (l .loop .inv) (c .if1 .taken)
+    (d .before .mark-at .ensures) (d .before .before .before .wide8 .ensures) (d .before .before .start-of .ensures) (d .row-holder .ensures) (l .loop .inv) (c .if1 .taken)
 
 add-q : tie.Need-add-q Inv-loop μ-loop
 add-q c = omega arith
@@ -64,7 +64,7 @@ loop-again c =
     let l = d .before .before .before .before .before .before in
     let g = l .before .before .before .before .before .pre in
     lets-more _ _ _ _ _ _ _ _ g _ _ _ _ _ _ (d .before .before .before .before .before .loop-test .taken) (l .before .slot-of .ensures .0)
-    (d .before .mark-of .ensures) (d .before .before .before .wide8 .ensures) (d .before .before .start-of .ensures) (d .row-holder .ensures) (c .if1 .left) (l .loop .inv)
+    (d .before .mark-at .ensures) (d .before .before .before .wide8 .ensures) (d .before .before .start-of .ensures) (d .row-holder .ensures) (c .if1 .left) (l .loop .inv)
 
 returns-2 : tie.Need-returns-2 Inv-loop μ-loop
 returns-2 c = held-none _ _ _ _ _ _ _ _ (c .before .before .before .before .before .before .pre) _ (c .before .loop .inv) (c .loop-test .left)
@@ -80,7 +80,7 @@ holder-spec =
     shared-slice-read-wide8
     wide8-requires
     start-of-requires
-    mark-of-requires
+    mark-at-requires
     row-holder-requires
     returns
     add-q

@@ -12,8 +12,8 @@ wide8-requires c κs = search needs
 equal-requires : tie.Need-equal-requires
 equal-requires c κs = search needs
 
-mark-of-requires : tie.Need-mark-of-requires
-mark-of-requires c κs = search needs
+mark-at-requires : tie.Need-mark-at-requires
+mark-at-requires c κs = search needs
 
 at-most-requires : tie.Need-at-most-requires
 at-most-requires c κs = search needs
@@ -24,7 +24,7 @@ either-requires c κs = search needs
 returns : tie.Need-returns
 returns c =
     let a = c .before .before .before .before .before .before .before .before .args in
-    passes-is (a .h .now) (a .st .now) (a .p) (a .k) (a .y) (c .before .before .before .before .wide8 .ensures) (c .before .before .before .equal .ensures) (c .before .before .mark-of .ensures) (c .before .at-most .ensures) (c .either .ensures)
+    passes-is (a .h .now) (a .st .now) (a .p) (a .k) (a .y) (c .before .before .before .before .wide8 .ensures) (c .before .before .before .equal .ensures) (c .before .before .mark-at .ensures) (c .before .at-most .ensures) (c .either .ensures)
 
 pub passes-spec : {M : Type 1} → statement M
 passes-spec =
@@ -33,7 +33,7 @@ passes-spec =
     shared-slice-read-wide8
     wide8-requires
     equal-requires
-    mark-of-requires
+    mark-at-requires
     at-most-requires
     either-requires
     returns)

@@ -54,7 +54,7 @@ returns-2 c =
     let r = c .before .before .before .before .before .load .result in
     let e : nothingToNudge r ≡ c .before .both .result = sym (c .before .both .ensures ∙ rw (c .before .before .equal .ensures, c .before .before .before .wide8 .ensures, c .before .before .before .before .is-committed .ensures)) in
     let q = ap nothingToNudge (sym rr) ∙ e ∙ c .if2 .taken in
-    met (nudge-9 _ _ _ _ _ _ _ i q) (refused why.Idle _ _)
+    met (nudge-9 _ _ _ _ _ _ _ i q) (refused why.NudgeIdle _ _)
 
 byte-requires : tie.Need-byte-requires
 byte-requires c κs =

@@ -24,8 +24,8 @@ read-vote-requires c κs = search needs
 get-u8-requires : tie.Need-get-u8-requires
 get-u8-requires c κs = search needs
 
-is-member-requires : tie.Need-is-member-requires
-is-member-requires c κs = search needs
+member-requires : tie.Need-member-requires
+member-requires c κs = search needs
 
 get-u32-requires : tie.Need-get-u32-requires
 get-u32-requires c κs = search needs
@@ -43,7 +43,7 @@ returns-2 : tie.Need-returns-2
 returns-2 c =
     let e = c .before .before .before .before .before .before .before .before .before .before .before in
     let p = sym (c .before .before .before .before .before .before .before .before .before .op-ok .ensures) ∙ not-false _ (c .before .before .before .before .before .before .before .before .if1 .left) in
-    let m = ap (member (e .args .q)) (sym (c .before .before .before .before .before .before .get-u8 .ensures)) ∙ sym (c .before .before .before .before .before .is-member .ensures) ∙ c .before .before .before .before .if2 .taken in
+    let m = ap (member (e .args .q)) (sym (c .before .before .before .before .before .before .get-u8 .ensures)) ∙ sym (c .before .before .before .before .before .member .ensures) ∙ c .before .before .before .before .if2 .taken in
     let r = replyPart-in (e .args .n) (e .args .s) (e .args .c) (e .args .b .now) (e .args .q) (e .pre .1) p m in
     cc (r, c .collected-ok .ensures, c .before .get-u82 .ensures, c .before .before .read-vote2 .ensures, c .before .before .before .get-u32 .ensures, c .before .before .before .before .before .before .before .read-vote .ensures)
 
@@ -57,7 +57,7 @@ returns-3 : tie.Need-returns-3
 returns-3 c =
     let e = c .before .before .before .before .before .before .before .before .before in
     let p = sym (c .before .before .before .before .before .before .before .op-ok .ensures) ∙ not-false _ (c .before .before .before .before .before .before .if1 .left) in
-    let m = ap (member (e .args .q)) (sym (c .before .before .before .before .get-u8 .ensures)) ∙ sym (c .before .before .before .is-member .ensures) ∙ c .before .before .if2 .left in
+    let m = ap (member (e .args .q)) (sym (c .before .before .before .before .get-u8 .ensures)) ∙ sym (c .before .before .before .member .ensures) ∙ c .before .before .if2 .left in
     let r = replyPart-out (e .args .n) (e .args .s) (e .args .c) (e .args .b .now) (e .args .q) (e .pre .1) p m in
     cc (r, c .same-vote .ensures, c .before .no-vote .ensures, c .before .before .before .before .before .read-vote .ensures)
 
@@ -71,7 +71,7 @@ reply-ok-spec =
     returns
     read-vote-requires
     get-u8-requires
-    is-member-requires
+    member-requires
     get-u32-requires
     read-vote-requires-2
     get-u8-requires-2

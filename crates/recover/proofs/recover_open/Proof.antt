@@ -44,7 +44,7 @@ returns-2 c =
     let sz = sizes (a .n) (a .s) (a .c) t (z .pre .setup) in
     let rr = c .before .before .load .ensures in
     let q = ap isCommitted (sym rr) ∙ sym (c .before .is-committed .ensures) ∙ c .if2 .taken in
-    met (recover-8 _ _ _ _ _ _ _ i q) (refused why.Committed _ _)
+    met (recover-8 _ _ _ _ _ _ _ i q) (refused why.RecoverCommitted _ _)
 
 same-length-2 : tie.Need-same-length-2
 same-length-2 c = search needs
@@ -60,7 +60,7 @@ returns-3 c =
     let rr = c .before .before .before .before .load .ensures in
     let q = ap isCommitted (sym rr) ∙ sym (c .before .before .before .is-committed .ensures) ∙ c .before .before .if2 .left in
     let l = ap outOfBallots (sym rr) ∙ le-leb _ _ (c .if3 .taken) in
-    met (recover-7 _ _ _ _ _ _ _ i q l) (refused why.Ballots _ _)
+    met (recover-7 _ _ _ _ _ _ _ i q l) (refused why.BallotsUsedUp _ _)
 
 byte-requires : tie.Need-byte-requires
 byte-requires c κs =

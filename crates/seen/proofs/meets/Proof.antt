@@ -16,8 +16,8 @@ wide8-requires c κs = search needs
 at-most-requires : tie.Need-at-most-requires
 at-most-requires c κs = search needs
 
-interferes-requires : tie.Need-interferes-requires
-interferes-requires c κs = search needs
+interfere-requires : tie.Need-interfere-requires
+interfere-requires c κs = search needs
 
 both-requires : tie.Need-both-requires
 both-requires c κs = search needs
@@ -28,8 +28,8 @@ returns c =
     let k = c .before .before .before .before .before .before .before .args .k in
     c .both .ensures
     ∙ ap₂ _&&_ (c .before .before .at-most .ensures ∙ ap (leb 1) (c .before .before .before .wide8 .ensures ∙ ap (λ (v : Vote). v .status) e))
-    (c .before .interferes .ensures ∙ ap (λ (v : Vote). interfere k (v .command)) e)
+    (c .before .interfere .ensures ∙ ap (λ (v : Vote). interfere k (v .command)) e)
 
 pub meets-spec : {M : Type 1} → statement M
 meets-spec =
-    tie.close (tie.spec vote-of-requires wide8-requires at-most-requires interferes-requires both-requires returns)
+    tie.close (tie.spec vote-of-requires wide8-requires at-most-requires interfere-requires both-requires returns)

@@ -15,8 +15,8 @@ wide8-requires-2 c κs = search needs
 equal-requires-2 : tie.Need-equal-requires-2
 equal-requires-2 c κs = search needs
 
-implied-requires : tie.Need-implied-requires
-implied-requires c κs = search needs
+implies-requires : tie.Need-implies-requires
+implies-requires c κs = search needs
 
 at-most-requires : tie.Need-at-most-requires
 at-most-requires c κs = search needs
@@ -27,20 +27,20 @@ wide8-requires-3 c κs = search needs
 below-requires : tie.Need-below-requires
 below-requires c κs = search needs
 
-implied-requires-2 : tie.Need-implied-requires-2
-implied-requires-2 c κs = search needs
+implies-requires-2 : tie.Need-implies-requires-2
+implies-requires-2 c κs = search needs
 
 at-most-requires-2 : tie.Need-at-most-requires-2
 at-most-requires-2 c κs = search needs
 
-lead-of-requires : tie.Need-lead-of-requires
-lead-of-requires c κs = search needs
+lead-requires : tie.Need-lead-requires
+lead-requires c κs = search needs
 
 equal-requires-3 : tie.Need-equal-requires-3
 equal-requires-3 c κs = search needs
 
-implied-requires-3 : tie.Need-implied-requires-3
-implied-requires-3 c κs = search needs
+implies-requires-3 : tie.Need-implies-requires-3
+implies-requires-3 c κs = search needs
 
 both-requires : tie.Need-both-requires
 both-requires c κs = search needs
@@ -60,15 +60,15 @@ busy-ok-spec =
     equal-requires
     wide8-requires-2
     equal-requires-2
-    implied-requires
+    implies-requires
     at-most-requires
     wide8-requires-3
     below-requires
-    implied-requires-2
+    implies-requires-2
     at-most-requires-2
-    lead-of-requires
+    lead-requires
     equal-requires-3
-    implied-requires-3
+    implies-requires-3
     both-requires
     both-requires-2
     returns)

@@ -11,8 +11,8 @@ equal-requires c κs = search needs
 is-noop-requires : tie.Need-is-noop-requires
 is-noop-requires c κs = search needs
 
-implied-requires : tie.Need-implied-requires
-implied-requires c κs = search needs
+implies-requires : tie.Need-implies-requires
+implies-requires c κs = search needs
 
 wide8-requires : tie.Need-wide8-requires
 wide8-requires c κs = search needs
@@ -20,8 +20,8 @@ wide8-requires c κs = search needs
 equal-requires-2 : tie.Need-equal-requires-2
 equal-requires-2 c κs = search needs
 
-implied-requires-2 : tie.Need-implied-requires-2
-implied-requires-2 c κs = search needs
+implies-requires-2 : tie.Need-implies-requires-2
+implies-requires-2 c κs = search needs
 
 returns : tie.Need-returns
 returns c = cc
@@ -33,8 +33,8 @@ op-fits-spec =
     wide32-requires
     equal-requires
     is-noop-requires
-    implied-requires
+    implies-requires
     wide8-requires
     equal-requires-2
-    implied-requires-2
+    implies-requires-2
     returns)

@@ -15,8 +15,8 @@ wide32-requires c κs = search needs
 at-most-requires : tie.Need-at-most-requires
 at-most-requires c κs = search needs
 
-implied-requires : tie.Need-implied-requires
-implied-requires c κs = search needs
+implies-requires : tie.Need-implies-requires
+implies-requires c κs = search needs
 
 wide32-requires-2 : tie.Need-wide32-requires-2
 wide32-requires-2 c κs = search needs
@@ -27,26 +27,26 @@ wide32-requires-3 c κs = search needs
 below-requires : tie.Need-below-requires
 below-requires c κs = search needs
 
-implied-requires-2 : tie.Need-implied-requires-2
-implied-requires-2 c κs = search needs
+implies-requires-2 : tie.Need-implies-requires-2
+implies-requires-2 c κs = search needs
 
-is-member-requires : tie.Need-is-member-requires
-is-member-requires c κs = search needs
+member-requires : tie.Need-member-requires
+member-requires c κs = search needs
 
-implied-requires-3 : tie.Need-implied-requires-3
-implied-requires-3 c κs = search needs
+implies-requires-3 : tie.Need-implies-requires-3
+implies-requires-3 c κs = search needs
 
-count-of-requires : tie.Need-count-of-requires
-count-of-requires c κs = search needs
+count-requires : tie.Need-count-requires
+count-requires c κs = search needs
 
-faults-of-requires : tie.Need-faults-of-requires
-faults-of-requires c κs = search needs
+faults-requires : tie.Need-faults-requires
+faults-requires c κs = search needs
 
 at-most-requires-2 : tie.Need-at-most-requires-2
 at-most-requires-2 c κs = search needs
 
-implied-requires-4 : tie.Need-implied-requires-4
-implied-requires-4 c κs = search needs
+implies-requires-4 : tie.Need-implies-requires-4
+implies-requires-4 c κs = search needs
 
 both-requires : tie.Need-both-requires
 both-requires c κs = search needs
@@ -69,17 +69,17 @@ preparing-ok-spec =
     equal-requires
     wide32-requires
     at-most-requires
-    implied-requires
+    implies-requires
     wide32-requires-2
     wide32-requires-3
     below-requires
-    implied-requires-2
-    is-member-requires
-    implied-requires-3
-    count-of-requires
-    faults-of-requires
+    implies-requires-2
+    member-requires
+    implies-requires-3
+    count-requires
+    faults-requires
     at-most-requires-2
-    implied-requires-4
+    implies-requires-4
     both-requires
     both-requires-2
     both-requires-3

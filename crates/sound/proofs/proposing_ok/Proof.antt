@@ -15,8 +15,8 @@ wide8-requires-2 c κs = search needs
 equal-requires-2 : tie.Need-equal-requires-2
 equal-requires-2 c κs = search needs
 
-implied-requires : tie.Need-implied-requires
-implied-requires c κs = search needs
+implies-requires : tie.Need-implies-requires
+implies-requires c κs = search needs
 
 at-most-requires : tie.Need-at-most-requires
 at-most-requires c κs = search needs
@@ -30,17 +30,17 @@ wide32-requires-2 c κs = search needs
 equal-requires-3 : tie.Need-equal-requires-3
 equal-requires-3 c κs = search needs
 
-implied-requires-2 : tie.Need-implied-requires-2
-implied-requires-2 c κs = search needs
+implies-requires-2 : tie.Need-implies-requires-2
+implies-requires-2 c κs = search needs
 
 at-most-requires-2 : tie.Need-at-most-requires-2
 at-most-requires-2 c κs = search needs
 
-is-member-requires : tie.Need-is-member-requires
-is-member-requires c κs = search needs
+member-requires : tie.Need-member-requires
+member-requires c κs = search needs
 
-implied-requires-3 : tie.Need-implied-requires-3
-implied-requires-3 c κs = search needs
+implies-requires-3 : tie.Need-implies-requires-3
+implies-requires-3 c κs = search needs
 
 status-fits-requires : tie.Need-status-fits-requires
 status-fits-requires c κs = search needs
@@ -72,15 +72,15 @@ proposing-ok-spec =
     equal-requires
     wide8-requires-2
     equal-requires-2
-    implied-requires
+    implies-requires
     at-most-requires
     wide32-requires
     wide32-requires-2
     equal-requires-3
-    implied-requires-2
+    implies-requires-2
     at-most-requires-2
-    is-member-requires
-    implied-requires-3
+    member-requires
+    implies-requires-3
     status-fits-requires
     op-fits-requires
     both-requires

@@ -20,8 +20,8 @@ equal-requires-3 c κs = search needs
 either-requires : tie.Need-either-requires
 either-requires c κs = search needs
 
-implied-requires : tie.Need-implied-requires
-implied-requires c κs = search needs
+implies-requires : tie.Need-implies-requires
+implies-requires c κs = search needs
 
 returns : tie.Need-returns
 returns c = cc
@@ -36,5 +36,5 @@ status-fits-spec =
     equal-requires-2
     equal-requires-3
     either-requires
-    implied-requires
+    implies-requires
     returns)

@@ -25,16 +25,16 @@ row-of-requires c κs = search needs
 row-of-requires-2 : tie.Need-row-of-requires-2
 row-of-requires-2 c κs = search needs
 
-join-of-requires : tie.Need-join-of-requires
-join-of-requires c κs = search needs
+join-requires : tie.Need-join-requires
+join-requires c κs = search needs
 
 before-requires : tie.Need-before-requires
 before-requires c κs =
     let e = c .before .before .before .before .before .before .before .before .before .before .before .before .before .before .before .before .before .before .before .before in
     (e .pre .0 .rows .long, omega (arith, e .pre .1 .owner, e .pre .0 .sized .copies), omega (arith, e .pre .1 .last, e .pre .0 .sized .numbers))
 
-join-of-requires-2 : tie.Need-join-of-requires-2
-join-of-requires-2 c κs = search needs
+join-requires-2 : tie.Need-join-requires-2
+join-requires-2 c κs = search needs
 
 put-row-requires-2 : tie.Need-put-row-requires-2
 put-row-requires-2 c κs =
@@ -53,7 +53,7 @@ returns c =
     let y = c .before .before .before .before .before .before .before .before .before .before .before .before .before .before .before .before .before .before .before .before .before .before .slot-of .ensures .0 in
     let w = raise-first (e .args .n) (e .args .s) (e .args .t .now) (e .args .g .now) (e .pre .0 .sized) (e .pre .0 .rows) (e .args .o) (e .args .j) (e .pre .1) _ (e .pre .0 .long) (λ i. omega (arith, c .before .before .before .before .before .before .before .before .before .before .before .before .before .before .before .before .before .before .before .before .before .before .before .before .before .shared-slice-known .given i)) (c .before .before .before .before .before .before .before .before .before .before .before .before .before .before .before .before .before .before .before .before .before .before .slot-of .ensures .0) (c .before .before .before .before .before .before .before .before .before .before .before .before .before .before .before .before .before .before .before .before .deps-of .ensures) (c .before .before .before .before .before .before .before .before .before .before .before .before .before .before .before .before .before .before .before .put-row .ensures) in
     let m = rw (w .0) at (c .before .before .before .before .before .before .before .before .before .before .before .before .before .before .beyond .ensures .0) in
-    let k = raise-read (e .args .n) (e .args .s) (e .args .t .now) (e .args .g .now) (e .pre .0 .sized) (e .pre .0 .rows) (e .args .o) (e .args .j) (e .pre .1) _ y m (c .before .before .before .before .before .before .before .before .before .before .row-of .ensures) (c .before .before .before .before .before .before .before .before .row-of2 .ensures) (c .before .before .before .before .before .before .before .join-of .ensures) (c .before .before .before .before .before .before2 .ensures) (c .before .before .before .before .join-of2 .ensures) in (
+    let k = raise-read (e .args .n) (e .args .s) (e .args .t .now) (e .args .g .now) (e .pre .0 .sized) (e .pre .0 .rows) (e .args .o) (e .args .j) (e .pre .1) _ y m (c .before .before .before .before .before .before .before .before .before .before .row-of .ensures) (c .before .before .before .before .before .before .before .before .row-of2 .ensures) (c .before .before .before .before .before .before .before .join .ensures) (c .before .before .before .before .before .before2 .ensures) (c .before .before .before .before .join2 .ensures) in (
       c .before .before .before .before .before .before .before .before .before .before .before .before .before .before .beyond .ensures .1 .long,
       rw (c .before .before .put-row2 .ensures, k, y)
           (raise-raised (e .args .n) (e .args .s) (e .args .t .now) (e .args .g .now) (e .pre .0 .sized) (e .pre .0 .rows) (e .args .o) (e .args .j) (e .pre .1) (λ i. omega (arith, c .before .before .before .before .before .before .before .before .before .before .before .before .before .before .before .before .before .before .before .before .before .before .before .before .slice-known .given i)) (read-fits _ _ m (λ i. omega (arith, c .before .before .before .before .before .before .before .before .before .before .before .before .slice-known4 .given i)))),
@@ -69,9 +69,9 @@ raise-spec =
     beyond-requires
     row-of-requires
     row-of-requires-2
-    join-of-requires
+    join-requires
     before-requires
-    join-of-requires-2
+    join-requires-2
     put-row-requires-2
     same-length
     same-length-2

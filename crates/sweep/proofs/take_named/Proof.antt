@@ -4,8 +4,8 @@ use Rattle.sweep.proofs.take_named.Tie as tie
 use native.Mathlib.Omega.{arith}
 use Rattle.sweep.proofs.Named.{wrote-same, named-none, named-taken}
 
-mark-of-requires : tie.Need-mark-of-requires
-mark-of-requires c κs = search needs
+mark-at-requires : tie.Need-mark-at-requires
+mark-at-requires c κs = search needs
 
 same-length : tie.Need-same-length
 same-length c = search needs
@@ -14,7 +14,7 @@ returns : tie.Need-returns
 returns c =
     let m = c .before in
     let e = m .before .before .before .before in
-    (named-none (e .args .n) (e .args .g .now) (e .args .q) _ _ (m .mark-of .ensures) (c .if1 .taken), wrote-same _ _ (e .pre .1 .long))
+    (named-none (e .args .n) (e .args .g .now) (e .args .q) _ _ (m .mark-at .ensures) (c .if1 .taken), wrote-same _ _ (e .pre .1 .long))
 
 slot-of-requires : tie.Need-slot-of-requires
 slot-of-requires c κs = search needs
@@ -31,13 +31,13 @@ returns-2 c =
     let l = t .before .before .before in
     let m = l .before in
     let e = m .before .before .before .before in
-    (named-taken (e .args .n) (e .args .g .now) (e .args .q) _ _ (e .pre .0 .owner) (m .mark-of .ensures) (omega (arith, l .if1 .left)) (t .before .before .slot-of .ensures .0) (t .take-row .ensures .0), t .take-row .ensures .1)
+    (named-taken (e .args .n) (e .args .g .now) (e .args .q) _ _ (e .pre .0 .owner) (m .mark-at .ensures) (omega (arith, l .if1 .left)) (t .before .before .slot-of .ensures .0) (t .take-row .ensures .0), t .take-row .ensures .1)
 
 pub take-named-spec : {M : Type 1} → statement M
 take-named-spec =
     tie.close
     (tie.spec
-    mark-of-requires
+    mark-at-requires
     same-length
     returns
     slot-of-requires

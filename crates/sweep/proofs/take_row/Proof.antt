@@ -10,8 +10,8 @@ row-of-requires c κs = search needs
 row-of-requires-2 : tie.Need-row-of-requires-2
 row-of-requires-2 c κs = search needs
 
-join-of-requires : tie.Need-join-of-requires
-join-of-requires c κs = search needs
+join-requires : tie.Need-join-requires
+join-requires c κs = search needs
 
 put-row-requires : tie.Need-put-row-requires
 put-row-requires c κs = search needs
@@ -24,7 +24,7 @@ returns c =
     let r = c .before .before .before .before .before .before in
     let k = r .before .before in
     let e = k .before .before in
-    take-made (e .args .g .now) (e .args .h .now) (e .args .y) (e .args .x) (e .pre .1) (λ i. omega (arith, k .before .shared-slice-known .given i)) (λ i. omega (arith, k .slice-known .given i)) (r .row-of .ensures) (c .before .before .before .before .before .row-of2 .ensures) (c .before .before .before .before .join-of .ensures) (c .before .before .put-row .ensures)
+    take-made (e .args .g .now) (e .args .h .now) (e .args .y) (e .args .x) (e .pre .1) (λ i. omega (arith, k .before .shared-slice-known .given i)) (λ i. omega (arith, k .slice-known .given i)) (r .row-of .ensures) (c .before .before .before .before .before .row-of2 .ensures) (c .before .before .before .before .join .ensures) (c .before .before .put-row .ensures)
 
 pub take-row-spec : {M : Type 1} → statement M
 take-row-spec =
@@ -32,7 +32,7 @@ take-row-spec =
     (tie.spec
     row-of-requires
     row-of-requires-2
-    join-of-requires
+    join-requires
     put-row-requires
     same-length
     returns)

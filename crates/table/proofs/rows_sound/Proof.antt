@@ -21,17 +21,17 @@ loop-holds c = (c .before .pre, refl, omega arith)
 sub-left : tie.Need-sub-left Inv-loop μ-loop
 sub-left c = omega arith
 
-row-sound-requires : tie.Need-row-sound-requires Inv-loop μ-loop
-row-sound-requires c κs = record { sizes = c .before .loop .inv .0; owner = omega (arith, c .before .loop .inv .2) }
+sound-row-requires : tie.Need-sound-row-requires Inv-loop μ-loop
+sound-row-requires c κs = record { sizes = c .before .loop .inv .0; owner = omega (arith, c .before .loop .inv .2) }
 
 returns : tie.Need-returns Inv-loop μ-loop
-returns c = left-false _ _ (c .before .before .before .loop .inv .1) (c .before .before .loop-test .taken) (sym (c .before .row-sound .ensures) ∙ not-true _ (c .if1 .taken))
+returns c = left-false _ _ (c .before .before .before .loop .inv .1) (c .before .before .loop-test .taken) (sym (c .before .sound-row .ensures) ∙ not-true _ (c .if1 .taken))
 
 loop-less : tie.Need-loop-less Inv-loop μ-loop
 loop-less c = omega arith
 
 loop-again : tie.Need-loop-again Inv-loop μ-loop
-loop-again c = (c .before .before .before .loop .inv .0, left-true _ _ (c .before .before .before .loop .inv .1) (c .before .before .loop-test .taken) (sym (c .before .row-sound .ensures) ∙ not-false _ (c .if1 .left)), omega (arith, c .before .before .before .loop .inv .2))
+loop-again c = (c .before .before .before .loop .inv .0, left-true _ _ (c .before .before .before .loop .inv .1) (c .before .before .loop-test .taken) (sym (c .before .sound-row .ensures) ∙ not-false _ (c .if1 .left)), omega (arith, c .before .before .before .loop .inv .2))
 
 returns-2 : tie.Need-returns-2 Inv-loop μ-loop
 returns-2 c = left-none _ _ (c .before .loop .inv .1) (omega arith)
@@ -44,7 +44,7 @@ rows-sound-spec =
     μ-loop
     loop-holds
     sub-left
-    row-sound-requires
+    sound-row-requires
     returns
     loop-less
     loop-again

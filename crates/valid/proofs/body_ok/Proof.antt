@@ -8,8 +8,8 @@ use Rattle.valid.proofs.body_ok.Tie as tie
 vote-ok-requires : tie.Need-vote-ok-requires
 vote-ok-requires c κs = search needs
 
-told-right-requires : tie.Need-told-right-requires
-told-right-requires c κs = search needs
+told-all-requires : tie.Need-told-all-requires
+told-all-requires c κs = search needs
 
 both-requires : tie.Need-both-requires
 both-requires c κs = search needs
@@ -41,7 +41,7 @@ both-requires-5 c κs = search needs
 returns : tie.Need-returns
 unfolding bodyOk
 returns c =
-    let vote = c .before .before .before .before .before .before .before .before .both .ensures ∙ ap₂ _&&_ (c .before .before .before .before .before .before .before .before .before .before .vote-ok .ensures) (c .before .before .before .before .before .before .before .before .before .told-right .ensures) in
+    let vote = c .before .before .before .before .before .before .before .before .both .ensures ∙ ap₂ _&&_ (c .before .before .before .before .before .before .before .before .before .before .vote-ok .ensures) (c .before .before .before .before .before .before .before .before .before .told-all .ensures) in
     let fresh = c .before .before .before .before .before .before .both2 .ensures ∙ ap₂ _&&_ vote (c .before .before .before .before .before .before .before .fresh-op .ensures) in
     let joined = c .before .before .before .before .both3 .ensures ∙ ap₂ _&&_ fresh (c .before .before .before .before .before .joined-range .ensures) in
     let above = c .before .before .both4 .ensures ∙ ap₂ _&&_ joined (c .before .before .before .joined-above .ensures) in
@@ -52,7 +52,7 @@ body-ok-spec =
     tie.close
     (tie.spec
     vote-ok-requires
-    told-right-requires
+    told-all-requires
     both-requires
     fresh-op-requires
     both-requires-2

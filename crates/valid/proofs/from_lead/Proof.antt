@@ -14,8 +14,8 @@ lead-in-requires c κs = search needs
 equal-requires : tie.Need-equal-requires
 equal-requires c κs = search needs
 
-implied-requires : tie.Need-implied-requires
-implied-requires c κs = search needs
+implies-requires : tie.Need-implies-requires
+implies-requires c κs = search needs
 
 returns : tie.Need-returns
 returns c = cc
@@ -28,5 +28,5 @@ from-lead-spec =
     wide8-requires
     lead-in-requires
     equal-requires
-    implied-requires
+    implies-requires
     returns)

@@ -11,12 +11,12 @@ wide32-requires-2 c κs = search needs
 below-requires : tie.Need-below-requires
 below-requires c κs = search needs
 
-implied-requires : tie.Need-implied-requires
-implied-requires c κs = search needs
+implies-requires : tie.Need-implies-requires
+implies-requires c κs = search needs
 
 returns : tie.Need-returns
 returns c = cc
 
 pub joined-above-spec : {M : Type 1} → statement M
 joined-above-spec =
-    tie.close (tie.spec wide32-requires wide32-requires-2 below-requires implied-requires returns)
+    tie.close (tie.spec wide32-requires wide32-requires-2 below-requires implies-requires returns)

@@ -5,11 +5,11 @@ use Rattle.valid.proofs.lead_in.Tie as tie
 wide8-requires : tie.Need-wide8-requires
 wide8-requires c κs = search needs
 
-lead-of-requires : tie.Need-lead-of-requires
-lead-of-requires c κs = search needs
+lead-requires : tie.Need-lead-requires
+lead-requires c κs = search needs
 
 returns : tie.Need-returns
 returns c = cc
 
 pub lead-in-spec : {M : Type 1} → statement M
-lead-in-spec = tie.close (tie.spec wide8-requires lead-of-requires returns)
+lead-in-spec = tie.close (tie.spec wide8-requires lead-requires returns)

@@ -11,8 +11,8 @@ wide32-requires c κs = search needs
 at-most-requires : tie.Need-at-most-requires
 at-most-requires c κs = search needs
 
-implied-requires : tie.Need-implied-requires
-implied-requires c κs = search needs
+implies-requires : tie.Need-implies-requires
+implies-requires c κs = search needs
 
 returns : tie.Need-returns
 returns c = cc
@@ -20,4 +20,4 @@ returns c = cc
 pub recovery-ballot-spec : {M : Type 1} → statement M
 recovery-ballot-spec =
     tie.close
-    (tie.spec is-recovery-requires wide32-requires at-most-requires implied-requires returns)
+    (tie.spec is-recovery-requires wide32-requires at-most-requires implies-requires returns)

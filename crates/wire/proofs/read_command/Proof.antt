@@ -7,22 +7,22 @@ use borrow.Author.Needs.{needs}
 use Rattle.wire.proofs.read_command.Statement.{statement}
 use Rattle.wire.proofs.read_command.Tie as tie
 
-no-op-requires : tie.Need-no-op-requires
-no-op-requires c κs = search needs
+noop-requires : tie.Need-noop-requires
+noop-requires c κs = search needs
 
 returns : tie.Need-returns
-returns c = rw (not-true (c .before .before .before .before .args .p .command) (c .before .if1 .taken)) (c .no-op .ensures)
+returns c = rw (not-true (c .before .before .before .before .args .p .command) (c .before .if1 .taken)) (c .noop .ensures)
 
-command-place-requires : tie.Need-command-place-requires
-command-place-requires c κs = search needs
+command-start-requires : tie.Need-command-start-requires
+command-start-requires c κs = search needs
 
 read-command-requires : tie.Need-read-command-requires
-read-command-requires c κs = let s = c .before .before .before .before in omega (arith, s .pre, c .command-place .ensures, command-room (s .args .p) 10 (not-false _ (c .before .if1 .left)))
+read-command-requires c κs = let s = c .before .before .before .before in omega (arith, s .pre, c .command-start .ensures, command-room (s .args .p) 10 (not-false _ (c .before .if1 .left)))
 
 returns-2 : tie.Need-returns-2
-returns-2 c = rw (not-false (c .before .before .before .before .before .args .p .command) (c .before .before .if1 .left)) (c .read-command .ensures ∙ ap (commandAt (c .before .before .before .before .before .args .b .now)) (c .before .command-place .ensures))
+returns-2 c = rw (not-false (c .before .before .before .before .before .args .p .command) (c .before .before .if1 .left)) (c .read-command .ensures ∙ ap (commandAt (c .before .before .before .before .before .args .b .now)) (c .before .command-start .ensures))
 
 pub read-command-spec : {M : Type 1} → statement M
 read-command-spec =
     tie.close
-    (tie.spec no-op-requires returns command-place-requires read-command-requires returns-2)
+    (tie.spec noop-requires returns command-start-requires read-command-requires returns-2)

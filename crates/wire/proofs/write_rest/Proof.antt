@@ -10,14 +10,14 @@ use borrow.Author.Needs.{needs}
 use Rattle.wire.proofs.write_rest.Statement.{statement}
 use Rattle.wire.proofs.write_rest.Tie as tie
 
-command-place-requires : tie.Need-command-place-requires
-command-place-requires c κs = search needs
+command-start-requires : tie.Need-command-start-requires
+command-start-requires c κs = search needs
 
-deps-place-requires : tie.Need-deps-place-requires
-deps-place-requires c κs = search needs
+deps-start-requires : tie.Need-deps-start-requires
+deps-start-requires c κs = search needs
 
-joined-place-requires : tie.Need-joined-place-requires
-joined-place-requires c κs = search needs
+joined-start-requires : tie.Need-joined-start-requires
+joined-start-requires c κs = search needs
 
 write-told-requires : tie.Need-write-told-requires
 write-told-requires c κs =
@@ -53,7 +53,7 @@ write-command-requires c κs =
     let o3 = at-deps p at in
     let o4 = at-joined p at in
     let room = s .pre .0 in
-    omega (arith, c .before .before .before .before .before .before .before .command-place .ensures)
+    omega (arith, c .before .before .before .before .before .before .before .command-start .ensures)
 
 write-beside-requires : tie.Need-write-beside-requires
 write-beside-requires c κs =
@@ -71,7 +71,7 @@ write-beside-requires c κs =
     let o3 = at-deps p at in
     let o4 = at-joined p at in
     let room = s .pre .0 in
-    omega (arith, c .before .before .before .before .before .before .before .before .before .before .deps-place .ensures)
+    omega (arith, c .before .before .before .before .before .before .before .before .before .before .deps-start .ensures)
 
 write-joined-requires : tie.Need-write-joined-requires
 write-joined-requires c κs =
@@ -89,7 +89,7 @@ write-joined-requires c κs =
     let o3 = at-deps p at in
     let o4 = at-joined p at in
     let room = s .pre .0 in
-    omega (arith, c .before .before .before .before .before .before .before .before .before .before .before .before .before .joined-place .ensures)
+    omega (arith, c .before .before .before .before .before .before .before .before .before .before .before .before .before .joined-start .ensures)
 
 same-length : tie.Need-same-length
 same-length c = search needs
@@ -116,9 +116,9 @@ returns c =
     let k = part (p .command) (commandBytes (x .command)) in
     let b = part (p .deps) (depsBytes d) in
     let j = part (p .joined) (joinedBytes x) in
-    let e1 = c .before .before .before .before .before .before .before .before .before .before .before .before .before .before .before .before .before .before .command-place .ensures in
-    let e2 = c .before .before .before .before .before .before .before .before .before .before .before .before .before .before .before .before .before .deps-place .ensures in
-    let e3 = c .before .before .before .before .before .before .before .before .before .before .before .before .before .before .before .before .joined-place .ensures in
+    let e1 = c .before .before .before .before .before .before .before .before .before .before .before .before .before .before .before .before .before .before .command-start .ensures in
+    let e2 = c .before .before .before .before .before .before .before .before .before .before .before .before .before .before .before .before .before .deps-start .ensures in
+    let e3 = c .before .before .before .before .before .before .before .before .before .before .before .before .before .before .before .before .joined-start .ensures in
     let w1 = splice-step l at t _ k (c .before .before .before .before .before .before .before .before .before .before .before .before .before .before .write-told .ensures) (c .before .before .before .before .before .before .before .before .before .before .write-command .ensures) (told ∙ sym e1) (omega (arith, e1)) in
     let w2 = splice-step l at (t ++ k) _ b w1 (c .before .before .before .before .before .before .write-beside .ensures) (simp length-append (omega (arith, e2))) (omega (arith, e2)) in
     splice-step l at (t ++ k ++ b) _ j w2 (c .before .before .write-joined .ensures) (simp length-append (omega (arith, e3))) (omega (arith, e3))
@@ -127,9 +127,9 @@ pub write-rest-spec : {M : Type 1} → statement M
 write-rest-spec =
     tie.close
     (tie.spec
-    command-place-requires
-    deps-place-requires
-    joined-place-requires
+    command-start-requires
+    deps-start-requires
+    joined-start-requires
     write-told-requires
     write-command-requires
     write-beside-requires

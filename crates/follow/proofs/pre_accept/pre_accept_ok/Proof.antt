@@ -4,14 +4,14 @@ use borrow.Author.Needs.{needs}
 use Rattle.follow.proofs.pre_accept.pre_accept_ok.Statement.{statement}
 use Rattle.follow.proofs.pre_accept.pre_accept_ok.Tie as tie
 
-said-requires : tie.Need-said-requires
-said-requires c κs = search needs
+say-requires : tie.Need-say-requires
+say-requires c κs = search needs
 
 only-of-requires : tie.Need-only-of-requires
 only-of-requires c κs = search needs
 
 returns : tie.Need-returns
-returns c = step-is refl (c .only-of .ensures .0) (c .before .said .ensures)
+returns c = step-is refl (c .only-of .ensures .0) (c .before .say .ensures)
 
 pub pre-accept-ok-spec : {M : Type 1} → statement M
-pre-accept-ok-spec = tie.close (tie.spec said-requires only-of-requires returns)
+pre-accept-ok-spec = tie.close (tie.spec say-requires only-of-requires returns)

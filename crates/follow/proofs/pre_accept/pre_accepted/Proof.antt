@@ -9,12 +9,12 @@ same-deps-requires c κs = search needs
 two-or-one-requires : tie.Need-two-or-one-requires
 two-or-one-requires c κs = search needs
 
-begun-at-requires : tie.Need-begun-at-requires
-begun-at-requires c κs = search needs
+begun-requires : tie.Need-begun-requires
+begun-requires c κs = search needs
 
 returns : tie.Need-returns
-returns c = c .begun-at .ensures ∙ rw (c .before .two-or-one .ensures, c .before .before .same-deps .ensures)
+returns c = c .begun .ensures ∙ rw (c .before .two-or-one .ensures, c .before .before .same-deps .ensures)
 
 pub pre-accepted-spec : {M : Type 1} → statement M
 pre-accepted-spec =
-    tie.close (tie.spec same-deps-requires two-or-one-requires begun-at-requires returns)
+    tie.close (tie.spec same-deps-requires two-or-one-requires begun-requires returns)

@@ -12,19 +12,19 @@ use Rattle.lead.proofs.nudge.on_nudge.Tie as tie
 is-committed-requires : tie.Need-is-committed-requires
 is-committed-requires c κs = search needs
 
-said-requires : tie.Need-said-requires
-said-requires c κs = search needs
+say-requires : tie.Need-say-requires
+say-requires c κs = search needs
 
 wide8-requires : tie.Need-wide8-requires
 wide8-requires c κs = search needs
 
-others-of-requires : tie.Need-others-of-requires
-others-of-requires c κs = search needs
+others-requires : tie.Need-others-requires
+others-requires c κs = search needs
 
 returns : tie.Need-returns
 returns c =
     let a = c .before .before .before .before .before .before .before .args in
-    step-is refl (c .others-of .ensures ∙ ap (others (a .n)) (c .before .wide8 .ensures)) (c .before .before .said .ensures) ∙ nudge-committed _ _ _ _ _ (sym (c .before .before .before .before .before .before .is-committed .ensures) ∙ c .before .before .before .before .before .if1 .taken)
+    step-is refl (c .others .ensures ∙ ap (others (a .n)) (c .before .wide8 .ensures)) (c .before .before .say .ensures) ∙ nudge-committed _ _ _ _ _ (sym (c .before .before .before .before .before .before .is-committed .ensures) ∙ c .before .before .before .before .before .if1 .taken)
 
 wide8-requires-2 : tie.Need-wide8-requires-2
 wide8-requires-2 c κs = search needs
@@ -57,24 +57,24 @@ returns-2 c =
     sym (c .before .before .both2 .ensures ∙ rw (c .before .before .before .some-enough .ensures, c .before .before .before .before .both .ensures, c .before .before .before .before .before .equal2 .ensures, c .before .before .before .before .before .before .wide32 .ensures, c .before .before .before .before .before .before .before .equal .ensures, c .before .before .before .before .before .before .before .before .wide82 .ensures)) in
     c .accepting-join .ensures ∙ nudge-enough _ _ _ _ _ (sym (c .before .before .before .before .before .before .before .before .before .before .is-committed .ensures) ∙ c .before .before .before .before .before .before .before .before .before .if1 .left) (e ∙ c .before .if2 .taken)
 
-once-more-requires : tie.Need-once-more-requires
-once-more-requires c κs = search needs
+again-requires : tie.Need-again-requires
+again-requires c κs = search needs
 
 returns-3 : tie.Need-returns-3
 returns-3 c =
     let a = c .before .before .before .before .before .before .before .before .before .before .before .args in
     let e : (eqb (a .r .phase) 2 && eqb (a .r .joined) 0 && someEnough (a .n) (a .r)) ≡ c .before .before .both2 .result =
     sym (c .before .before .both2 .ensures ∙ rw (c .before .before .before .some-enough .ensures, c .before .before .before .before .both .ensures, c .before .before .before .before .before .equal2 .ensures, c .before .before .before .before .before .before .wide32 .ensures, c .before .before .before .before .before .before .before .equal .ensures, c .before .before .before .before .before .before .before .before .wide82 .ensures)) in
-    c .once-more .ensures ∙ nudge-again _ _ _ _ _ (sym (c .before .before .before .before .before .before .before .before .before .before .is-committed .ensures) ∙ c .before .before .before .before .before .before .before .before .before .if1 .left) (e ∙ c .before .if2 .left)
+    c .again .ensures ∙ nudge-again _ _ _ _ _ (sym (c .before .before .before .before .before .before .before .before .before .before .is-committed .ensures) ∙ c .before .before .before .before .before .before .before .before .before .if1 .left) (e ∙ c .before .if2 .left)
 
 pub on-nudge-spec : {M : Type 1} → statement M
 on-nudge-spec =
     tie.close
     (tie.spec
     is-committed-requires
-    said-requires
+    say-requires
     wide8-requires
-    others-of-requires
+    others-requires
     returns
     wide8-requires-2
     equal-requires
@@ -85,5 +85,5 @@ on-nudge-spec =
     both-requires-2
     accepting-join-requires
     returns-2
-    once-more-requires
+    again-requires
     returns-3)

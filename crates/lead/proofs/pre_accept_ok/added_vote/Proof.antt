@@ -2,11 +2,11 @@ use borrow.Author.Needs.{needs}
 use Rattle.lead.proofs.pre_accept_ok.added_vote.Statement.{statement}
 use Rattle.lead.proofs.pre_accept_ok.added_vote.Tie as tie
 
-no-op-requires : tie.Need-no-op-requires
-no-op-requires c κs = search needs
+noop-requires : tie.Need-noop-requires
+noop-requires c κs = search needs
 
 returns : tie.Need-returns
 returns c = cc
 
 pub added-vote-spec : {M : Type 1} → statement M
-added-vote-spec = tie.close (tie.spec no-op-requires returns)
+added-vote-spec = tie.close (tie.spec noop-requires returns)

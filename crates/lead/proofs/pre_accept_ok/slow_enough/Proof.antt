@@ -4,17 +4,17 @@ use borrow.Author.Needs.{needs}
 use Rattle.lead.proofs.pre_accept_ok.slow_enough.Statement.{statement}
 use Rattle.lead.proofs.pre_accept_ok.slow_enough.Tie as tie
 
-faults-of-requires : tie.Need-faults-of-requires
-faults-of-requires c κs = search needs
+faults-requires : tie.Need-faults-requires
+faults-requires c κs = search needs
 
-count-of-requires : tie.Need-count-of-requires
-count-of-requires c κs = search needs
+count-requires : tie.Need-count-requires
+count-requires c κs = search needs
 
 at-most-requires : tie.Need-at-most-requires
 at-most-requires c κs = search needs
 
-are-different-requires : tie.Need-are-different-requires
-are-different-requires c κs = search needs
+different-requires : tie.Need-different-requires
+different-requires c κs = search needs
 
 both-requires : tie.Need-both-requires
 both-requires c κs = search needs
@@ -30,16 +30,16 @@ either-requires c κs = search needs
 
 returns : tie.Need-returns
 unfolding slowEnough
-returns c = c .either .ensures ∙ rw (c .before .at-most2 .ensures, c .before .before .both .ensures, c .before .before .before .are-different .ensures, c .before .before .before .before .at-most .ensures, c .before .before .before .before .before .count-of .ensures, c .before .before .before .before .before .before .faults-of .ensures)
+returns c = c .either .ensures ∙ rw (c .before .at-most2 .ensures, c .before .before .both .ensures, c .before .before .before .different .ensures, c .before .before .before .before .at-most .ensures, c .before .before .before .before .before .count .ensures, c .before .before .before .before .before .before .faults .ensures)
 
 pub slow-enough-spec : {M : Type 1} → statement M
 slow-enough-spec =
     tie.close
     (tie.spec
-    faults-of-requires
-    count-of-requires
+    faults-requires
+    count-requires
     at-most-requires
-    are-different-requires
+    different-requires
     both-requires
     mul-at-most
     at-most-requires-2

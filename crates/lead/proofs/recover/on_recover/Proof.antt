@@ -10,8 +10,8 @@ use borrow.Author.Needs.{needs}
 use Rattle.lead.proofs.recover.on_recover.Statement.{statement}
 use Rattle.lead.proofs.recover.on_recover.Tie as tie
 
-preparing-at-requires : tie.Need-preparing-at-requires
-preparing-at-requires c κs = search needs
+preparing-requires : tie.Need-preparing-requires
+preparing-requires c κs = search needs
 
 next-ballot-requires : tie.Need-next-ballot-requires
 next-ballot-requires c κs = search needs
@@ -19,30 +19,30 @@ next-ballot-requires c κs = search needs
 no-deps-requires : tie.Need-no-deps-requires
 no-deps-requires c κs = search needs
 
-said-requires : tie.Need-said-requires
-said-requires c κs = search needs
+say-requires : tie.Need-say-requires
+say-requires c κs = search needs
 
 wide8-requires : tie.Need-wide8-requires
 wide8-requires c κs = search needs
 
-others-of-requires : tie.Need-others-of-requires
-others-of-requires c κs = search needs
+others-requires : tie.Need-others-requires
+others-requires c κs = search needs
 
 returns : tie.Need-returns
 unfolding recover
 returns c =
     let a = c .before .before .before .before .before .before .args in
-    let m = c .before .before .said .ensures ∙ ap₂ (λ (b : ℕ) (d : List ℕ). say (a .c) (a .o) (a .j) b Prepare d) (c .before .before .before .before .next-ballot .ensures) (c .before .before .before .no-deps .ensures) in
-    step-is (c .before .before .before .before .before .preparing-at .ensures) (c .others-of .ensures ∙ ap (others _) (c .before .wide8 .ensures)) m
+    let m = c .before .before .say .ensures ∙ ap₂ (λ (b : ℕ) (d : List ℕ). say (a .c) (a .o) (a .j) b Prepare d) (c .before .before .before .before .next-ballot .ensures) (c .before .before .before .no-deps .ensures) in
+    step-is (c .before .before .before .before .before .preparing .ensures) (c .others .ensures ∙ ap (others _) (c .before .wide8 .ensures)) m
 
 pub on-recover-spec : {M : Type 1} → statement M
 on-recover-spec =
     tie.close
     (tie.spec
-    preparing-at-requires
+    preparing-requires
     next-ballot-requires
     no-deps-requires
-    said-requires
+    say-requires
     wide8-requires
-    others-of-requires
+    others-requires
     returns)

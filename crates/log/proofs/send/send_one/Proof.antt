@@ -9,26 +9,26 @@ use borrow.Author.Needs.{needs}
 use Rattle.log.proofs.send.send_one.Statement.{statement}
 use Rattle.log.proofs.send.send_one.Tie as tie
 
-is-member-requires : tie.Need-is-member-requires
-is-member-requires c κs = search needs
+member-requires : tie.Need-member-requires
+member-requires c κs = search needs
 
 returns : tie.Need-returns
 returns c =
-    let e = sym (c .before .is-member .ensures) ∙ not-true _ (c .if1 .taken) in
+    let e = sym (c .before .member .ensures) ∙ not-true _ (c .if1 .taken) in
     (rw e, rw e)
 
-addressed-to-requires : tie.Need-addressed-to-requires
-addressed-to-requires c κs = search needs
+addressed-requires : tie.Need-addressed-requires
+addressed-requires c κs = search needs
 
 encode-requires : tie.Need-encode-requires
-encode-requires c κs = c .before .before .before .before .before .pre .fits (sym (c .before .before .before .is-member .ensures) ∙ not-false _ (c .before .before .if1 .left)) .1
+encode-requires c κs = c .before .before .before .before .before .pre .fits (sym (c .before .before .before .member .ensures) ∙ not-false _ (c .before .before .if1 .left)) .1
 
 size-of-requires : tie.Need-size-of-requires
 size-of-requires c κs = search needs
 
 add-result : tie.Need-add-result
 add-result c =
-    let f = c .before .before .before .before .before .before .before .before .before .pre .fits (sym (c .before .before .before .before .before .before .before .is-member .ensures) ∙ not-false _ (c .before .before .before .before .before .before .if1 .left)) in
+    let f = c .before .before .before .before .before .before .before .before .before .pre .fits (sym (c .before .before .before .before .before .before .before .member .ensures) ∙ not-false _ (c .before .before .before .before .before .before .if1 .left)) in
     omega (arith, f .0, c .size-of .ensures)
 
 same-length : tie.Need-same-length
@@ -36,18 +36,18 @@ same-length c = search needs
 
 returns-2 : tie.Need-returns-2
 returns-2 c =
-    let e = (sym (c .before .before .before .before .before .before .before .is-member .ensures) ∙ not-false _ (c .before .before .before .before .before .before .if1 .left)) in
+    let e = (sym (c .before .before .before .before .before .before .before .member .ensures) ∙ not-false _ (c .before .before .before .before .before .before .if1 .left)) in
     let a = c .before .before .before .before .before .before .before .before .before .args in
-    let w = c .before .before .before .encode .ensures ∙ ap (λ (x : Message). splice (a .out .now) (a .at) (messageBytes x)) (c .before .before .before .before .addressed-to .ensures) in
+    let w = c .before .before .before .encode .ensures ∙ ap (λ (x : Message). splice (a .out .now) (a .at) (messageBytes x)) (c .before .before .before .before .addressed .ensures) in
     (rw (e, ← c .size-of .ensures), rw e w)
 
 pub send-one-spec : {M : Type 1} → statement M
 send-one-spec =
     tie.close
     (tie.spec
-    is-member-requires
+    member-requires
     returns
-    addressed-to-requires
+    addressed-requires
     encode-requires
     size-of-requires
     add-result

@@ -15,8 +15,8 @@ wide8-requires c κs = search needs
 equal-requires-2 : tie.Need-equal-requires-2
 equal-requires-2 c κs = search needs
 
-no-op-requires : tie.Need-no-op-requires
-no-op-requires c κs = search needs
+noop-requires : tie.Need-noop-requires
+noop-requires c κs = search needs
 
 same-command-requires : tie.Need-same-command-requires
 same-command-requires c κs = search needs
@@ -45,7 +45,7 @@ added-ok-spec =
     equal-requires
     wide8-requires
     equal-requires-2
-    no-op-requires
+    noop-requires
     same-command-requires
     both-requires
     both-requires-2

@@ -2,8 +2,8 @@ use borrow.Author.Needs.{needs}
 use Rattle.nouns.proofs.vote.no_vote.Statement.{statement}
 use Rattle.nouns.proofs.vote.no_vote.Tie as tie
 
-no-op-requires : tie.Need-no-op-requires
-no-op-requires c κs = search needs
+noop-requires : tie.Need-noop-requires
+noop-requires c κs = search needs
 
 no-deps-requires : tie.Need-no-deps-requires
 no-deps-requires c κs = search needs
@@ -12,4 +12,4 @@ returns : tie.Need-returns
 returns c = cc
 
 pub no-vote-spec : {M : Type 1} → statement M
-no-vote-spec = tie.close (tie.spec no-op-requires no-deps-requires returns)
+no-vote-spec = tie.close (tie.spec noop-requires no-deps-requires returns)

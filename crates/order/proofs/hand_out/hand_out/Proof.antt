@@ -2,7 +2,7 @@ use borrow.Author.Needs.{needs}
 use Rattle.order.proofs.hand_out.hand_out.Statement.{statement}
 use Rattle.order.proofs.hand_out.hand_out.Tie as tie
 use mathlib.Core.Path.{sym, _∙_}
-use Rattle.order.proofs.Passed.{passed}
+use Rattle.order.proofs.Judged.{passed}
 use Rattle.order.proofs.Handed.{handed-refused, handed-past}
 
 judge-table-requires : tie.Need-judge-table-requires

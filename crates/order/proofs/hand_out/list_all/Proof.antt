@@ -52,8 +52,8 @@ slot-of-requires c κs =
 slice-write-st : tie.Need-slice-write-st Inv-loop μ-loop
 slice-write-st c = omega (arith, c .slot-of .ensures .1, c .before .before .before .before .before .before .before .before .before .before .before .before .before .loop .inv .listing .stated .long)
 
-set-mark-requires : tie.Need-set-mark-requires Inv-loop μ-loop
-set-mark-requires c κs =
+marked-in-requires : tie.Need-marked-in-requires Inv-loop μ-loop
+marked-in-requires c κs =
     let l = c .before .before .before .before .before .before .before .before .before .before .before .before .before .before .loop .inv in
     let i = found-inst _ _ _ _ _ _ _ _ _ _ _ l _ _ (sym (c .before .before .before .found .given .1) ∙ c .before .before .before .before .before .before .before .before .before .next-out .ensures .0) in
     record {
@@ -89,7 +89,7 @@ loop-again : tie.Need-loop-again Inv-loop μ-loop
 loop-again c =
     let d = c .before .before .before .before .before .before .before .before .before .before .before .before .before in
     let e = sym (c .before .before .before .before .before .before .before .found .given .1) ∙ d .next-out .ensures .0 in
-    listed-on _ _ _ _ _ _ _ _ _ _ _ (c .before .before .before .before .before .before .before .before .before .before .before .before .before .before .before .before .before .before .loop .inv) _ _ _ _ _ _ _ e (c .before .before .before .before .before .before .before .before .before .before .before .before .before .before .before .before .before .loop-test .taken) (c .before .before .before .before .before .slot-of .ensures .0) (d .next-out .ensures .1) (c .before .before .before .set-mark .ensures) (c .code-of .ensures)
+    listed-on _ _ _ _ _ _ _ _ _ _ _ (c .before .before .before .before .before .before .before .before .before .before .before .before .before .before .before .before .before .before .loop .inv) _ _ _ _ _ _ _ e (c .before .before .before .before .before .before .before .before .before .before .before .before .before .before .before .before .before .loop-test .taken) (c .before .before .before .before .before .slot-of .ensures .0) (d .next-out .ensures .1) (c .before .before .before .marked-in .ensures) (c .code-of .ensures)
 
 same-length-6 : tie.Need-same-length-6 Inv-loop μ-loop
 same-length-6 c = let l = c .before in l .loop .inv .listing .long ∙ sym (l .before .before .before .before .before .before .before .pre .long)
@@ -127,7 +127,7 @@ list-all-spec =
     returns
     slot-of-requires
     slice-write-st
-    set-mark-requires
+    marked-in-requires
     code-of-requires
     mul-list
     slice-write-list

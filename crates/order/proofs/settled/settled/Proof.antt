@@ -2,7 +2,7 @@ use borrow.Author.Needs.{needs}
 use Rattle.order.proofs.settled.settled.Statement.{statement}
 use Rattle.order.proofs.settled.settled.Tie as tie
 use mathlib.Core.Path.{sym, _∙_}
-use Rattle.order.proofs.Passed.{passed}
+use Rattle.order.proofs.Judged.{passed}
 use Rattle.order.proofs.Asked.{settled-refused, settled-past}
 
 judge-table-requires : tie.Need-judge-table-requires

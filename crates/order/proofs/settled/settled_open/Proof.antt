@@ -4,7 +4,7 @@ use Rattle.order.proofs.settled.settled_open.Tie as tie
 use mathlib.Core.Path.{sym, _∙_}
 use borrow.Author.Tests.{not-true, not-false}
 use Rattle.table.proofs.Laws.{names}
-use Rattle.order.proofs.Passed.{passed-long}
+use Rattle.order.proofs.Judged.{passed-long}
 use Rattle.order.proofs.Asked.{searching, searched, settled-6, settled-waits, settled-gives}
 
 instance-ok-requires : tie.Need-instance-ok-requires

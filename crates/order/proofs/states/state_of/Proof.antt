@@ -27,21 +27,21 @@ returns-2 c =
 slot-of-requires : tie.Need-slot-of-requires
 slot-of-requires c κs = search needs
 
-none-behind-requires : tie.Need-none-behind-requires
-none-behind-requires c κs = search needs
+behind-none-requires : tie.Need-behind-none-requires
+behind-none-requires c κs = search needs
 
 returns-3 : tie.Need-returns-3
 returns-3 c =
     let a = c .before .before .before .before .before .before .before .before .before .before in
     let m = c .before .before .before .before .before .before .marked-of .ensures in
     let d = c .before .before .before .before .committed-of .ensures in
-    state-settled _ _ _ _ _ _ _ (a .pre) _ (c .before .before .slot-of .ensures .0) (sym m ∙ c .before .before .before .before .before .if1 .left) (sym d ∙ not-false _ (c .before .before .before .if2 .left)) (sym (c .before .none-behind .ensures) ∙ c .if3 .taken)
+    state-settled _ _ _ _ _ _ _ (a .pre) _ (c .before .before .slot-of .ensures .0) (sym m ∙ c .before .before .before .before .before .if1 .left) (sym d ∙ not-false _ (c .before .before .before .if2 .left)) (sym (c .before .behind-none .ensures) ∙ c .if3 .taken)
 
 returns-4 : tie.Need-returns-4
 returns-4 c =
     let a = c .before .before .before .before .before .before .before .before .before .before in
     let m = c .before .before .before .before .before .before .marked-of .ensures in
-    state-behind _ _ _ _ _ _ _ (a .pre) _ (c .before .before .slot-of .ensures .0) (sym m ∙ c .before .before .before .before .before .if1 .left) (sym (c .before .none-behind .ensures) ∙ c .if3 .left)
+    state-behind _ _ _ _ _ _ _ (a .pre) _ (c .before .before .slot-of .ensures .0) (sym m ∙ c .before .before .before .before .before .if1 .left) (sym (c .before .behind-none .ensures) ∙ c .if3 .left)
 
 pub state-of-spec : {M : Type 1} → statement M
 state-of-spec =
@@ -52,6 +52,6 @@ state-of-spec =
     committed-of-requires
     returns-2
     slot-of-requires
-    none-behind-requires
+    behind-none-requires
     returns-3
     returns-4)

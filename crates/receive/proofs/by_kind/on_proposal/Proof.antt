@@ -8,12 +8,12 @@ seen-for-requires c κs = search needs
 byte-requires : tie.Need-byte-requires
 byte-requires c κs = search needs
 
-on-pre-accept-requires : tie.Need-on-pre-accept-requires
-on-pre-accept-requires c κs = search needs
+pre-accept-requires : tie.Need-pre-accept-requires
+pre-accept-requires c κs = search needs
 
 returns : tie.Need-returns
 returns c = cc
 
 pub on-proposal-spec : {M : Type 1} → statement M
 on-proposal-spec =
-    tie.close (tie.spec seen-for-requires byte-requires on-pre-accept-requires returns)
+    tie.close (tie.spec seen-for-requires byte-requires pre-accept-requires returns)

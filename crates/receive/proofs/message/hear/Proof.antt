@@ -23,8 +23,8 @@ load-requires c κs =
     let sz = sizes _ _ _ _ (z .pre .passed .setup) in
     record { names = rw (c .before .before .wide8 .ensures, c .before .wide16 .ensures) (named _ _ _ _ _ _ (z .pre)); long = sz .long }
 
-is-refused10-requires : tie.Need-is-refused10-requires
-is-refused10-requires c κs = search needs
+refused10-requires : tie.Need-refused10-requires
+refused10-requires c κs = search needs
 
 same-length : tie.Need-same-length
 same-length c = search needs
@@ -33,10 +33,10 @@ returns : tie.Need-returns
 returns c = let z = c .before .before .before .before .before .before .before .before in
     let a = z .args in
     let t = a .t .now in
-    met (heard-10 (a .n) (a .s) (a .c) t (a .out .now) (a .m) (c .before .before .before .before .before .wide8 .ensures) (c .before .before .before .before .wide16 .ensures) (c .before .before .load .ensures) (sym (c .before .is-refused10 .ensures) ∙ c .if1 .taken)) (refused why.Differs _ _)
+    met (heard-10 (a .n) (a .s) (a .c) t (a .out .now) (a .m) (c .before .before .before .before .before .wide8 .ensures) (c .before .before .before .before .wide16 .ensures) (c .before .before .load .ensures) (sym (c .before .refused10 .ensures) ∙ c .if1 .taken)) (refused why.OtherCommit _ _)
 
-received-as-requires : tie.Need-received-as-requires
-received-as-requires c κs = let z = c .before .before .before .before .before .before .before .before .before in
+receive-requires : tie.Need-receive-requires
+receive-requires c κs = let z = c .before .before .before .before .before .before .before .before .before in
     let a = z .args in
     let t = a .t .now in
     let bt : Bytes t = λ i. omega (arith, c .before .before .before .before .before .before .before .before .slice-known .given i) in
@@ -49,7 +49,7 @@ act-requires c κs = let z = c .before .before .before .before .before .before .
     let t = a .t .now in
     let sz = sizes _ _ _ _ (z .pre .passed .setup) in
     let bt : Bytes t = λ i. omega (arith, c .before .before .before .before .before .before .before .before .before .before .before .slice-known .given i) in
-    let x = message-step (a .n) (a .s) (a .c) t (a .out .now) (a .m) (c .before .before .before .before .before .before .before .before .before .wide8 .ensures) (c .before .before .before .before .before .before .before .before .wide16 .ensures) (c .before .before .before .before .before .before .load .ensures) (c .before .before .received-as .ensures) in
+    let x = message-step (a .n) (a .s) (a .c) t (a .out .now) (a .m) (c .before .before .before .before .before .before .before .before .before .wide8 .ensures) (c .before .before .before .before .before .before .before .before .wide16 .ensures) (c .before .before .before .before .before .before .load .ensures) (c .before .before .receive .ensures) in
     (record { names = rw (c .before .before .before .before .before .before .before .before .before .wide8 .ensures, c .before .before .before .before .before .before .before .before .wide16 .ensures) (named _ _ _ _ _ _ (z .pre)); long = sz .long }, z .pre .passed .long, rw x (message-room _ _ _ _ _ _ (z .pre) bt))
 
 same-length-2 : tie.Need-same-length-2
@@ -62,9 +62,9 @@ returns-2 : tie.Need-returns-2
 returns-2 c = let z = c .before .before .before .before .before .before .before .before .before .before .before .before .before .before .before .before .before in
     let a = z .args in
     let t = a .t .now in
-    let x = message-step (a .n) (a .s) (a .c) t (a .out .now) (a .m) (c .before .before .before .before .before .before .before .before .before .before .before .before .before .before .wide8 .ensures) (c .before .before .before .before .before .before .before .before .before .before .before .before .before .wide16 .ensures) (c .before .before .before .before .before .before .before .before .before .before .before .load .ensures) (c .before .before .before .before .before .before .before .received-as .ensures) in
+    let x = message-step (a .n) (a .s) (a .c) t (a .out .now) (a .m) (c .before .before .before .before .before .before .before .before .before .before .before .before .before .before .wide8 .ensures) (c .before .before .before .before .before .before .before .before .before .before .before .before .before .wide16 .ensures) (c .before .before .before .before .before .before .before .before .before .before .before .load .ensures) (c .before .before .before .before .before .before .before .receive .ensures) in
     let w = c .before .before .before .before .act .ensures in
-    met (heard-ok (a .n) (a .s) (a .c) t (a .out .now) (a .m) (c .before .before .before .before .before .before .before .before .before .before .before .before .before .before .wide8 .ensures) (c .before .before .before .before .before .before .before .before .before .before .before .before .before .wide16 .ensures) (c .before .before .before .before .before .before .before .before .before .before .before .load .ensures) (sym (c .before .before .before .before .before .before .before .before .before .before .is-refused10 .ensures) ∙ c .before .before .before .before .before .before .before .before .before .if1 .left)) (acted-is (a .s) t (a .out .now) _ _ x (w .0) (w .1 .0) (w .1 .1))
+    met (heard-ok (a .n) (a .s) (a .c) t (a .out .now) (a .m) (c .before .before .before .before .before .before .before .before .before .before .before .before .before .before .wide8 .ensures) (c .before .before .before .before .before .before .before .before .before .before .before .before .before .wide16 .ensures) (c .before .before .before .before .before .before .before .before .before .before .before .load .ensures) (sym (c .before .before .before .before .before .before .before .before .before .before .refused10 .ensures) ∙ c .before .before .before .before .before .before .before .before .before .if1 .left)) (acted-is (a .s) t (a .out .now) _ _ x (w .0) (w .1 .0) (w .1 .1))
 
 pub hear-spec : {M : Type 1} → statement M
 hear-spec =
@@ -73,10 +73,10 @@ hear-spec =
     wide8-requires
     wide16-requires
     load-requires
-    is-refused10-requires
+    refused10-requires
     same-length
     returns
-    received-as-requires
+    receive-requires
     act-requires
     same-length-2
     same-length-3

@@ -9,8 +9,8 @@ use Rattle.num.specs.Num.{Bytes}
 use Rattle.log.proofs.Calls.{met, refused, acted-is}
 use Rattle.request.proofs.Laws.{asked-5, asked-ok, own-names, request-room}
 
-lowest-blank-requires : tie.Need-lowest-blank-requires
-lowest-blank-requires c κs = search needs
+request-number-requires : tie.Need-request-number-requires
+request-number-requires c κs = search needs
 
 same-length : tie.Need-same-length
 same-length c = search needs
@@ -19,13 +19,13 @@ returns : tie.Need-returns
 returns c = let z = c .before .before .before .before .before in
     let a = z .args in
     let t = a .t .now in
-    met (asked-5 (a .n) (a .s) (a .c) t (a .out .now) (a .k) (c .before .lowest-blank .ensures .0) (c .if1 .taken)) (refused why.Full _ _)
+    met (asked-5 (a .n) (a .s) (a .c) t (a .out .now) (a .k) (c .before .request-number .ensures .0) (c .if1 .taken)) (refused why.NoBlank _ _)
 
-request-at-requires : tie.Need-request-at-requires
-request-at-requires c κs = let z = c .before .before .before .before .before .before in
+on-request-requires : tie.Need-on-request-requires
+on-request-requires c κs = let z = c .before .before .before .before .before .before in
     let a = z .args in
     let t = a .t .now in
-    (sizes _ _ _ _ (z .pre .passed .setup), c .before .if1 .left, c .before .before .lowest-blank .ensures .0)
+    (sizes _ _ _ _ (z .pre .passed .setup), c .before .if1 .left, c .before .before .request-number .ensures .0)
 
 act-requires : tie.Need-act-requires
 act-requires c κs = let z = c .before .before .before .before .before .before .before .before .before in
@@ -33,7 +33,7 @@ act-requires c κs = let z = c .before .before .before .before .before .before .
     let t = a .t .now in
     let sz = sizes _ _ _ _ (z .pre .passed .setup) in
     let bt : Bytes t = λ i. omega (arith, c .before .before .before .before .before .before .before .before .slice-known .given i) in
-    (record { names = own-names _ _ _ _ (a .out .now) (z .pre .passed) _ (c .before .before .before .before .before .lowest-blank .ensures .1) (c .before .before .before .before .if1 .left); long = sz .long }, z .pre .passed .long, rw (c .before .before .request-at .ensures) (request-room _ _ _ _ (a .out .now) (a .k) (z .pre) bt (c .before .before .before .before .before .lowest-blank .ensures .0) (c .before .before .before .before .if1 .left)))
+    (record { names = own-names _ _ _ _ (a .out .now) (z .pre .passed) _ (c .before .before .before .before .before .request-number .ensures .1) (c .before .before .before .before .if1 .left); long = sz .long }, z .pre .passed .long, rw (c .before .before .on-request .ensures) (request-room _ _ _ _ (a .out .now) (a .k) (z .pre) bt (c .before .before .before .before .before .request-number .ensures .0) (c .before .before .before .before .if1 .left)))
 
 same-length-2 : tie.Need-same-length-2
 same-length-2 c = search needs
@@ -46,16 +46,16 @@ returns-2 c = let z = c .before .before .before .before .before .before .before 
     let a = z .args in
     let t = a .t .now in
     let w = c .before .before .before .before .act .ensures in
-    met (asked-ok (a .n) (a .s) (a .c) t (a .out .now) (a .k) (c .before .before .before .before .before .before .before .before .before .before .lowest-blank .ensures .0) (c .before .before .before .before .before .before .before .before .before .if1 .left)) (acted-is (a .s) t (a .out .now) _ _ (c .before .before .before .before .before .before .before .request-at .ensures) (w .0) (w .1 .0) (w .1 .1))
+    met (asked-ok (a .n) (a .s) (a .c) t (a .out .now) (a .k) (c .before .before .before .before .before .before .before .before .before .before .request-number .ensures .0) (c .before .before .before .before .before .before .before .before .before .if1 .left)) (acted-is (a .s) t (a .out .now) _ _ (c .before .before .before .before .before .before .before .on-request .ensures) (w .0) (w .1 .0) (w .1 .1))
 
 pub ask-spec : {M : Type 1} → statement M
 ask-spec =
     tie.close
     (tie.spec
-    lowest-blank-requires
+    request-number-requires
     same-length
     returns
-    request-at-requires
+    on-request-requires
     act-requires
     same-length-2
     same-length-3

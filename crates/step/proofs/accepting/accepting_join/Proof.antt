@@ -7,12 +7,12 @@ use Rattle.step.proofs.accepting.accepting_join.Tie as tie
 join-all-requires : tie.Need-join-all-requires
 join-all-requires c κs = search needs
 
-accepting-with-requires : tie.Need-accepting-with-requires
-accepting-with-requires c κs = search needs
+accepting-requires : tie.Need-accepting-requires
+accepting-requires c κs = search needs
 
 returns : tie.Need-returns
 unfolding acceptingJoin
-returns c = c .accepting-with .ensures ∙ rw (c .before .join-all .ensures)
+returns c = c .accepting .ensures ∙ rw (c .before .join-all .ensures)
 
 pub accepting-join-spec : {M : Type 1} → statement M
-accepting-join-spec = tie.close (tie.spec join-all-requires accepting-with-requires returns)
+accepting-join-spec = tie.close (tie.spec join-all-requires accepting-requires returns)

@@ -8,15 +8,15 @@ use Rattle.step.proofs.made.nack_back.Tie as tie
 no-deps-requires : tie.Need-no-deps-requires
 no-deps-requires c κs = search needs
 
-said-requires : tie.Need-said-requires
-said-requires c κs = search needs
+say-requires : tie.Need-say-requires
+say-requires c κs = search needs
 
 only-of-requires : tie.Need-only-of-requires
 only-of-requires c κs = search needs
 
 returns : tie.Need-returns
 unfolding nackBack
-returns c = step-is refl (c .only-of .ensures .0) (c .before .said .ensures ∙ rw (c .before .before .no-deps .ensures))
+returns c = step-is refl (c .only-of .ensures .0) (c .before .say .ensures ∙ rw (c .before .before .no-deps .ensures))
 
 pub nack-back-spec : {M : Type 1} → statement M
-nack-back-spec = tie.close (tie.spec no-deps-requires said-requires only-of-requires returns)
+nack-back-spec = tie.close (tie.spec no-deps-requires say-requires only-of-requires returns)
