@@ -5,12 +5,14 @@ use nouns::command::op_number;
 use nouns::logic::wide8;
 use nouns::logic::wide16;
 use nouns::logic::wide32;
+use nouns::message::body_of;
 use nouns::message::command_in;
 use nouns::message::joined_in;
 use nouns::message::kind_of;
 use nouns::message::status_in;
 use nouns::message::voted_in;
 use paper::Body;
+use paper::Carried;
 use paper::Command;
 use paper::Message;
 use text::bytes::front;
@@ -111,27 +113,14 @@ fn command_of(v: [usize; NUMBERS]) -> Command {
     }
 }
 
-fn prepare_ok(v: [usize; NUMBERS]) -> Body {
+// What the line gives for every part; the body takes what its kind carries.
+fn carried_of(v: [usize; NUMBERS]) -> Carried {
     let command = command_of(v);
-    Body::PrepareOk {
+    Carried {
         voted: low32(v[8]),
         status: low8(v[9]),
         command,
-    }
-}
-
-// The kinds by the paper's numbers.
-fn body_of(v: [usize; NUMBERS]) -> Body {
-    let command = command_of(v);
-    match v[2] {
-        1 => Body::PreAccept(command),
-        2 => Body::PreAcceptOk,
-        3 => Body::Accept(command),
-        4 => Body::AcceptOk,
-        5 => Body::Commit(command),
-        6 => Body::Prepare,
-        7 => prepare_ok(v),
-        _ => Body::Nack(low32(v[10])),
+        joined: low32(v[10]),
     }
 }
 
@@ -144,7 +133,7 @@ fn deps_of(v: [usize; NUMBERS]) -> [u16; 7] {
 }
 
 fn message_of(v: [usize; NUMBERS]) -> Message {
-    let body = body_of(v);
+    let body = body_of(v[2], carried_of(v));
     let deps = deps_of(v);
     Message {
         from: low8(v[3]),
