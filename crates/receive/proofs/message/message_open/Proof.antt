@@ -13,9 +13,9 @@ enum-known-reading : tie.Need-enum-known-reading
 enum-known-reading c = search needs
 
 returns : tie.Need-returns
-returns c = let z = c .before .before .before .before .before .before in
+returns c = let z = c .before .before .before .before .before .before .before in
     let a = z .args in
-    let e = c .before .before .read-message .ensures in
+    let e = c .before .before .before .read-message .ensures in
     let setup = setup-of _ _ _ _ (z .pre .setup) in
     met (unread _ _ _ (a .t .now) (a .out .now) (a .b .now) e setup _ (c .before .reading .given .1)) (refused _ _ _)
 
