@@ -15,7 +15,7 @@ use Rattle.table.proofs.Laws.{sizes}
 use Rattle.table.proofs.Round.{record-whole}
 use Rattle.seen.specs.Records.{recordsIn}
 use Rattle.reach.specs.High.{Inst}
-use Rattle.rows.specs.Rows.{rowOf, markAt}
+use Rattle.rows.specs.Rows.{marksAt, markAt}
 use Rattle.sweep.specs.Sweeping.{Sized, Charting, Charted}
 use Rattle.next.specs.Slots.{Past, Known}
 use Rattle.table.specs.Table.{Judged}
@@ -31,7 +31,7 @@ no-marks : (k x i : ℕ) → markAt (replicate k 0) x i ≡ 0
 unfolding depsAt
 no-marks k x i = ap (λ (r : List ℕ). getD r i 0) row ∙ no-mark 7 i
   where
-    row : rowOf (replicate k 0) x ≡ replicate 7 0
+    row : marksAt (replicate k 0) x ≡ replicate 7 0
     row = simp no-mark
 
 no-past : (n s k : ℕ) (st : List ℕ) → n ≤ 7 → s ≤ 64 → length st ≡ 448 → k ≡ 8 → Past n s st (replicate k 0)

@@ -12,7 +12,7 @@ use Rattle.num.proofs.Fields.{fieldsAt-fieldsBytes}
 use Rattle.codec.specs.Parts.{depsAt, depsBytes, depsWidths, depsNumbers}
 use Rattle.codec.proofs.Laws.{deps-are, depsAt-fits}
 use Rattle.paper.specs.Fits.{DepsFit}
-use Rattle.rows.specs.Rows.{rowOf, markAt, putRow, Within}
+use Rattle.rows.specs.Rows.{marksAt, markAt, putRow, Within}
 
 -- one mark alone
 pub mark-is : (h : List ℕ) (x o : ℕ) → o < 7 → markAt h x o ≡ numAt 2 h (14 * x + 2 * o)
@@ -26,16 +26,16 @@ mark-is h x (suc (suc (suc (suc (suc zero))))) l = ap (numAt 2 h) (omega arith)
 mark-is h x (suc (suc (suc (suc (suc (suc zero)))))) l = ap (numAt 2 h) (omega arith)
 mark-is h x (suc (suc (suc (suc (suc (suc (suc o))))))) l = absurd (omega arith)
 
-pub row-seven : (h : List ℕ) (x : ℕ) → length (rowOf h x) ≡ 7
+pub row-seven : (h : List ℕ) (x : ℕ) → length (marksAt h x) ≡ 7
 unfolding depsAt
 row-seven h x = refl
 
 -- marks are numbers of two bytes
-pub row-fits : (h : List ℕ) (x : ℕ) → ((i : ℕ) → getD h i 0 < 256) → DepsFit (rowOf h x)
+pub row-fits : (h : List ℕ) (x : ℕ) → ((i : ℕ) → getD h i 0 < 256) → DepsFit (marksAt h x)
 row-fits h x b = depsAt-fits h (14 * x) b
 
 -- a row depends on its own bytes
-part : (h : List ℕ) (x : ℕ) → rowOf h x ≡ depsAt (take 14 (drop (14 * x) h)) 0
+part : (h : List ℕ) (x : ℕ) → marksAt h x ≡ depsAt (take 14 (drop (14 * x) h)) 0
 unfolding depsAt
 part h x = λ i. fieldsPart i
   where
@@ -76,14 +76,14 @@ module _ (h : List ℕ) (x : ℕ) (d : List ℕ) (w : Within h x) where
   put-long = length-splice h (14 * x) (depsBytes d) fits ∙ w .long
 
   -- what is written is read back
-  pub put-own : DepsFit d → rowOf (putRow h x d) x ≡ d
+  pub put-own : DepsFit d → marksAt (putRow h x d) x ≡ d
   unfolding putRow depsAt depsBytes
   put-own f =
       part (putRow h x d) x
       ∙ ap (λ (b : List ℕ). depsAt b 0) (splice-same h (14 * x) (depsBytes d) 14 (length-deps d) (omega (arith, w .long, w .place)))
       ∙ read-back d f
 
-  pub put-other : (y : ℕ) → y < 448 → (y ≡ x → ⊥) → rowOf (putRow h x d) y ≡ rowOf h y
+  pub put-other : (y : ℕ) → y < 448 → (y ≡ x → ⊥) → marksAt (putRow h x d) y ≡ marksAt h y
   unfolding putRow
   put-other y l e = part (putRow h x d) y ∙ ap (λ (b : List ℕ). depsAt b 0) (go (decLt y x)) ∙ sym (part h y)
     where

@@ -12,11 +12,11 @@ abbrev pub slotOf : ℕ → ℕ → ℕ
 slotOf o j = 64 * o + (j - 1)
 
 -- 14 bytes to a place
-abbrev pub rowOf : List ℕ → ℕ → List ℕ
-rowOf h x = depsAt h (14 * x)
+abbrev pub marksAt : List ℕ → ℕ → List ℕ
+marksAt h x = depsAt h (14 * x)
 
 abbrev pub markAt : List ℕ → ℕ → ℕ → ℕ
-markAt h x o = getD (rowOf h x) o 0
+markAt h x o = getD (marksAt h x) o 0
 
 unfoldable pub putRow : List ℕ → ℕ → List ℕ → List ℕ
 putRow h x d = splice h (14 * x) (depsBytes d)

@@ -2,7 +2,7 @@
 use nouns::logic::wide16;
 ghost use mathlib.Core.Path.{_≡_};
 ghost use Prim.Native.Nat.{_≤_, _<_};
-ghost use Rattle.rows.specs.Rows.{slotOf, rowOf, markAt, putRow, Within};
+ghost use Rattle.rows.specs.Rows.{slotOf, marksAt, markAt, putRow, Within};
 
 // The place of o.j: 64 to an owner.
 pub fn slot_of(o: usize, j: usize) -> usize
@@ -12,9 +12,9 @@ pub fn slot_of(o: usize, j: usize) -> usize
     64 * o + (j - 1)
 }
 
-pub fn row_of(h: &[u8], x: usize) -> [u16; 7]
+pub fn marks_at(h: &[u8], x: usize) -> [u16; 7]
     requires { ⌜ Within (now h) x ⌝ }
-    ensures { λ r. ⌜ r ≡ rowOf (now (h .entry)) x ⌝ }
+    ensures { λ r. ⌜ r ≡ marksAt (now (h .entry)) x ⌝ }
 {
     codec::read_deps(h, 14 * x)
 }

@@ -4,7 +4,7 @@ use text::put::Text;
 use text::put::put_text;
 
 // The place of a reason among the texts below.
-fn place_of(why: Reason) -> usize {
+fn name_at(why: Reason) -> usize {
     match why {
         Reason::Word => 0,
         Reason::Copies => 1,
@@ -44,6 +44,6 @@ pub fn put_reason(out: Text, why: Reason) -> Text {
             |no message is on the way between the two\
             |more than 512 messages are on the way\
             |the copies do not come to rest",
-        place_of(why),
+        name_at(why),
     )
 }

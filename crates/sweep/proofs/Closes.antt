@@ -18,7 +18,7 @@ use Rattle.reach.proofs.Tests.{tf, clash, eqb-eq, eqb-same}
 use Rattle.reach.proofs.Count.{one-if}
 use Rattle.reach.proofs.Instances.{all-in}
 use Rattle.reach.proofs.Beginnings.{comers-own}
-use Rattle.rows.specs.Rows.{slotOf, rowOf, putRow, Within}
+use Rattle.rows.specs.Rows.{slotOf, marksAt, putRow, Within}
 use Rattle.rows.proofs.Laws.{row-seven, row-fits, put-long, put-own, put-other}
 use Rattle.sweep.specs.Sweeping.{Taking, beyondIn, marksOf, Opened, Closed, Wrote, Closing}
 use Rattle.sweep.proofs.Named.{wrote-same, wrote-on, beyond-seven, beyond-few, beyond-old, beyond-held, beyond-comers}
@@ -81,9 +81,9 @@ module _ (row more : List ℕ) (lr : length row ≡ 7) (lm : length more ≡ 7) 
 
 -- at any turn
 pub record Turn (n s : ℕ) (t g h₀ : List ℕ) (p k : ℕ) (changed : Bool) (h : List ℕ) : Type 0 where
-  pub opened : Opened n s (recordsIn s t) p k (rowOf h (slotOf p k))
+  pub opened : Opened n s (recordsIn s t) p k (marksAt h (slotOf p k))
   pub wrote : Wrote h₀ h (slotOf p k)
-  pub named : changed ≡ false → (q : ℕ) → q < n → 1 ≤ getD (rowOf h (slotOf p k)) q 0 → (o : ℕ) → marksOf g q (getD (rowOf h (slotOf p k)) q 0) o ≤ getD (rowOf h (slotOf p k)) o 0
+  pub named : changed ≡ false → (q : ℕ) → q < n → 1 ≤ getD (marksAt h (slotOf p k)) q 0 → (o : ℕ) → marksOf g q (getD (marksAt h (slotOf p k)) q 0) o ≤ getD (marksAt h (slotOf p k)) o 0
 
 module _ (n s : ℕ) (t g h₀ : List ℕ) (p k : ℕ) (a : Closing n s t g h₀ p k) where
   abbrev x : ℕ
@@ -92,12 +92,12 @@ module _ (n s : ℕ) (t g h₀ : List ℕ) (p k : ℕ) (a : Closing n s t g h₀
   pub close-place : (h : List ℕ) → length h ≡ 6272 → Within h x
   close-place h l = record { long = l; place = omega (arith, a .inst .owner, a .inst .first, a .inst .last, a .sized .copies, a .sized .numbers) }
 
-  pub turn-first : Opened n s (recordsIn s t) p k (rowOf h₀ x) → Turn n s t g h₀ p k true h₀
+  pub turn-first : Opened n s (recordsIn s t) p k (marksAt h₀ x) → Turn n s t g h₀ p k true h₀
   turn-first o = record { opened = o; wrote = wrote-same h₀ x (a .long); named = λ e. clash (cc) }
 
   module _ (h : List ℕ) (v : Turn n s t g h₀ p k true h) where
     abbrev row : List ℕ
-    row = rowOf h x
+    row = marksAt h x
 
     abbrev more : List ℕ
     more = beyondIn n n g row
@@ -119,9 +119,9 @@ module _ (n s : ℕ) (t g h₀ : List ℕ) (p k : ℕ) (a : Closing n s t g h₀
     seven = beyond-seven n s g row turn-taking
 
     -- the row took in what it names
-    module _ {y : ℕ} {r m h₁ : List ℕ} {b : Bool} (ey : y ≡ x) (er : r ≡ rowOf h y) (eh : rowOf h₁ y ≡ beyondIn n n g (rowOf h y)) (em : m ≡ rowOf h₁ y) (eb : b ≡ sameDeps m r) (w : Wrote h h₁ y)
+    module _ {y : ℕ} {r m h₁ : List ℕ} {b : Bool} (ey : y ≡ x) (er : r ≡ marksAt h y) (eh : marksAt h₁ y ≡ beyondIn n n g (marksAt h y)) (em : m ≡ marksAt h₁ y) (eb : b ≡ sameDeps m r) (w : Wrote h h₁ y)
         (fits : (i : ℕ) → getD h₁ i 0 < 256) where
-      own : rowOf h₁ x ≡ more
+      own : marksAt h₁ x ≡ more
       own = rw ey at eh
 
       same : b ≡ sameDeps more row
@@ -150,10 +150,10 @@ module _ (n s : ℕ) (t g h₀ : List ℕ) (p k : ℕ) (a : Closing n s t g h₀
         named = λ f. rw own (held b (sym same) f);
       }
 
-      pub turn-less : left (rowOf h₁ x) (not b) < left (rowOf h x) true
+      pub turn-less : left (marksAt h₁ x) (not b) < left (marksAt h x) true
       turn-less = rw own (left-falls row more (row-seven h x) seven old (rw own at (row-fits h₁ x fits)) b (sym same))
 
-  pub turn-last : (h : List ℕ) → Turn n s t g h₀ p k false h → Closed n s (recordsIn s t) g p k (rowOf h x)
+  pub turn-last : (h : List ℕ) → Turn n s t g h₀ p k false h → Closed n s (recordsIn s t) g p k (marksAt h x)
   turn-last h v = record { opened = v .opened; named = v .named refl }
 
   -- the row begins with the entries
@@ -161,10 +161,10 @@ module _ (n s : ℕ) (t g h₀ : List ℕ) (p k : ℕ) (a : Closing n s t g h₀
     abbrev d : List ℕ
     d = recordsIn s t p k .vote .deps
 
-    first-own : rowOf (putRow h₀ x d) x ≡ d
+    first-own : marksAt (putRow h₀ x d) x ≡ d
     first-own = put-own h₀ x d (close-place h₀ (a .long)) (fits-in s t p k bt .vote .deps)
 
-    pub first-opened : Opened n s (recordsIn s t) p k (rowOf (putRow h₀ x d) x)
+    pub first-opened : Opened n s (recordsIn s t) p k (marksAt (putRow h₀ x d) x)
     first-opened = rw first-own (record { few = λ o l. a .sized .fit p k (a .inst) o l; own = λ o. omega arith; comers = comers-own n s (recordsIn s t) p k (a .inst) })
 
     pub first-wrote : Wrote h₀ (putRow h₀ x d) x

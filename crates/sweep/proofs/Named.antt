@@ -9,7 +9,7 @@ use lib.Dec.{leb, ltb}
 use lib.ListN.{length, getD}
 use Rattle.paper.specs.Deps.{noDeps, join}
 use Rattle.rules.specs.Seen.{Records}
-use Rattle.rows.specs.Rows.{slotOf, rowOf, putRow, Within}
+use Rattle.rows.specs.Rows.{slotOf, marksAt, putRow, Within}
 use Rattle.rows.proofs.Laws.{row-seven, row-fits, put-long, put-own, put-other}
 use Rattle.reach.specs.High.{Inst, From}
 use Rattle.reach.proofs.Tests.{and-l, and-r, and-in, leb-le, leb-in, ltb-lt, ltb-in, not-true}
@@ -24,15 +24,15 @@ wrote-same h x l = record { long = l; others = λ y a d. refl }
 pub wrote-on : (h h₁ h₂ : List ℕ) (x : ℕ) → Wrote h h₁ x → Wrote h₁ h₂ x → Wrote h h₂ x
 wrote-on h h₁ h₂ x a b = record { long = b .long; others = λ y l d. b .others y l d ∙ a .others y l d }
 
-pub take-made : (g h : List ℕ) (y x : ℕ) {a b r h₁ : List ℕ} → Within h x → ((i : ℕ) → getD g i 0 < 256) → ((i : ℕ) → getD h i 0 < 256) → a ≡ rowOf h x → b ≡ rowOf g y → r ≡ join a b
-    → h₁ ≡ putRow h x r → (rowOf h₁ x ≡ join (rowOf h x) (rowOf g y)) × Wrote h h₁ x
+pub take-made : (g h : List ℕ) (y x : ℕ) {a b r h₁ : List ℕ} → Within h x → ((i : ℕ) → getD g i 0 < 256) → ((i : ℕ) → getD h i 0 < 256) → a ≡ marksAt h x → b ≡ marksAt g y → r ≡ join a b
+    → h₁ ≡ putRow h x r → (marksAt h₁ x ≡ join (marksAt h x) (marksAt g y)) × Wrote h h₁ x
 take-made g h y x {r = r} w bg bh ea eb er eh =
-    let e : r ≡ join (rowOf h x) (rowOf g y) = er ∙ rw (ea, eb) in
-    let f = rw (← e) at (join-fits (rowOf h x) (rowOf g y) (row-fits h x bh) (row-fits g y bg)) in
+    let e : r ≡ join (marksAt h x) (marksAt g y) = er ∙ rw (ea, eb) in
+    let f = rw (← e) at (join-fits (marksAt h x) (marksAt g y) (row-fits h x bh) (row-fits g y bg)) in
     rw eh (put-own h x r w f ∙ e, record { long = put-long h x r w; others = λ z l d. put-other h x r w z l d })
 
 -- named: the row is taken in; else nothing is
-named-in : (n : ℕ) (g : List ℕ) (q entry : ℕ) (row : List ℕ) → (ltb q n && leb 1 entry) ≡ true → join row (rowOf g (slotOf q entry)) ≡ withNamed n g q entry row
+named-in : (n : ℕ) (g : List ℕ) (q entry : ℕ) (row : List ℕ) → (ltb q n && leb 1 entry) ≡ true → join row (marksAt g (slotOf q entry)) ≡ withNamed n g q entry row
 unfolding withNamed
 named-in n g q entry row e = rw e
 
@@ -48,10 +48,10 @@ module _ (n : ℕ) (g : List ℕ) (q entry : ℕ) where
   pub named-none : (row : List ℕ) → {e : ℕ} → e ≡ entry → e ≡ 0 → row ≡ withNamed n g q entry row
   named-none row re z = named-out n g q entry row (not-true _ (λ t. absurd (omega (arith, leb-le 1 entry (and-r (ltb q n) (leb 1 entry) t)))))
 
-  pub named-taken : (row : List ℕ) → q < n → {e x : ℕ} {r : List ℕ} → e ≡ entry → 1 ≤ e → x ≡ slotOf q e → r ≡ join row (rowOf g x) → r ≡ withNamed n g q entry row
+  pub named-taken : (row : List ℕ) → q < n → {e x : ℕ} {r : List ℕ} → e ≡ entry → 1 ≤ e → x ≡ slotOf q e → r ≡ join row (marksAt g x) → r ≡ withNamed n g q entry row
   named-taken row lq re le rx rr = rr ∙ rw (rx, re) (named-in n g q entry row (and-in _ _ (ltb-in q n lq) (leb-in 1 entry (omega arith))))
 
-  by : (P : List ℕ → Type 0) (row : List ℕ) → (q < n → 1 ≤ entry → P (join row (rowOf g (slotOf q entry)))) → P row → P (withNamed n g q entry row)
+  by : (P : List ℕ → Type 0) (row : List ℕ) → (q < n → 1 ≤ entry → P (join row (marksAt g (slotOf q entry)))) → P row → P (withNamed n g q entry row)
   by P row f h = go (ltb q n && leb 1 entry) refl
     where
       go : (b : Bool) → (ltb q n && leb 1 entry) ≡ b → P (withNamed n g q entry row)
@@ -60,11 +60,11 @@ module _ (n : ℕ) (g : List ℕ) (q entry : ℕ) where
 
   -- it holds the row that it had, and the one that is named
   with-old : (row : List ℕ) → length row ≡ 7 → (o : ℕ) → getD row o 0 ≤ getD (withNamed n g q entry row) o 0
-  with-old row l o = by (λ v. getD row o 0 ≤ getD v o 0) row (λ a b. join-at row (rowOf g (slotOf q entry)) l (row-seven g (slotOf q entry)) o .left) (omega arith)
+  with-old row l o = by (λ v. getD row o 0 ≤ getD v o 0) row (λ a b. join-at row (marksAt g (slotOf q entry)) l (row-seven g (slotOf q entry)) o .left) (omega arith)
 
   with-new : (row : List ℕ) → length row ≡ 7 → q < n → 1 ≤ entry → (o : ℕ) → marksOf g q entry o ≤ getD (withNamed n g q entry row) o 0
   with-new row l lq le o =
-      rw (← named-in n g q entry row (and-in _ _ (ltb-in q n lq) (leb-in 1 entry le))) (join-at row (rowOf g (slotOf q entry)) l (row-seven g (slotOf q entry)) o .right)
+      rw (← named-in n g q entry row (and-in _ _ (ltb-in q n lq) (leb-in 1 entry le))) (join-at row (marksAt g (slotOf q entry)) l (row-seven g (slotOf q entry)) o .right)
 
 -- after k owners
 record Upto (n s : ℕ) (r : List ℕ) : Type 0 where
@@ -80,12 +80,12 @@ module _ (n s : ℕ) (g row : List ℕ) (a : Taking n s g row) where
       step : (r : List ℕ) → Upto n s r → Upto n s (withNamed n g k (getD r k 0) r)
       step r u = by n g k (getD r k 0) (Upto n s) r
           (λ l e. record {
-            seven = join-seven r (rowOf g (slotOf k (getD r k 0)));
+            seven = join-seven r (marksAt g (slotOf k (getD r k 0)));
             few = λ o lo.
                 let x = a .rows k (getD r k 0) (record { owner = l; first = e; last = u .few k l }) o lo in
-                ⊎-elim (λ (f : getD (join r (rowOf g (slotOf k (getD r k 0)))) o 0 ≡ getD r o 0). rw f (u .few o lo))
-                (λ (f : getD (join r (rowOf g (slotOf k (getD r k 0)))) o 0 ≡ marksOf g k (getD r k 0) o). rw f x)
-                (join-at r (rowOf g (slotOf k (getD r k 0))) (u .seven) (row-seven g (slotOf k (getD r k 0))) o .one);
+                ⊎-elim (λ (f : getD (join r (marksAt g (slotOf k (getD r k 0)))) o 0 ≡ getD r o 0). rw f (u .few o lo))
+                (λ (f : getD (join r (marksAt g (slotOf k (getD r k 0)))) o 0 ≡ marksOf g k (getD r k 0) o). rw f x)
+                (join-at r (marksAt g (slotOf k (getD r k 0))) (u .seven) (row-seven g (slotOf k (getD r k 0))) o .one);
           })
           u
 
@@ -135,10 +135,10 @@ module _ (n s : ℕ) (g row : List ℕ) (a : Taking n s g row) where
         step : (r : List ℕ) → Upto n s r → Comers n s u p k ip (λ o. getD r o 0) → Comers n s u p k ip (λ o. getD (withNamed n g m (getD r m 0) r) o 0)
         step r v c = by n g m (getD r m 0) (λ w. Comers n s u p k ip (λ o. getD w o 0)) r
             (λ l e o x io h.
-            ⊎-elim (λ (f : getD (join r (rowOf g (slotOf m (getD r m 0)))) o 0 ≡ getD r o 0). c o x io (rw f at h))
-            (λ (f : getD (join r (rowOf g (slotOf m (getD r m 0)))) o 0 ≡ marksOf g m (getD r m 0) o).
+            ⊎-elim (λ (f : getD (join r (marksAt g (slotOf m (getD r m 0)))) o 0 ≡ getD r o 0). c o x io (rw f at h))
+            (λ (f : getD (join r (marksAt g (slotOf m (getD r m 0)))) o 0 ≡ marksOf g m (getD r m 0) o).
             comers-named n s u p k ip (marksOf g) (λ o. getD r o 0) from c m (record { owner = l; first = e; last = v .few m l }) o x io (rw f at h))
-            (join-at r (rowOf g (slotOf m (getD r m 0))) (v .seven) (row-seven g (slotOf m (getD r m 0))) o .one))
+            (join-at r (marksAt g (slotOf m (getD r m 0))) (v .seven) (row-seven g (slotOf m (getD r m 0))) o .one))
             c
 
     pub beyond-comers : Comers n s u p k ip (λ o. getD row o 0) → Comers n s u p k ip (λ o. getD (beyondIn n n g row) o 0)
@@ -161,10 +161,10 @@ pub before-first : (g : List ℕ) (o j : ℕ) → j ≤ 1 → noDeps ≡ beforeI
 unfolding beforeIn
 before-first g o j l = rw (leb-in j 1 l)
 
-pub before-later : (g : List ℕ) (o j : ℕ) → 1 < j → rowOf g (slotOf o (j - 1)) ≡ beforeIn g o j
+pub before-later : (g : List ℕ) (o j : ℕ) → 1 < j → marksAt g (slotOf o (j - 1)) ≡ beforeIn g o j
 unfolding beforeIn
 before-later g o j l = go (leb j 1) refl
   where
-    go : (b : Bool) → leb j 1 ≡ b → rowOf g (slotOf o (j - 1)) ≡ cond b noDeps (rowOf g (slotOf o (j - 1)))
+    go : (b : Bool) → leb j 1 ≡ b → marksAt g (slotOf o (j - 1)) ≡ cond b noDeps (marksAt g (slotOf o (j - 1)))
     go true e = absurd (omega (arith, leb-le j 1 e))
     go false e = refl

@@ -14,17 +14,17 @@ use Rattle.rules.specs.Seen.{Records}
 use Rattle.seen.specs.Records.{recordsIn}
 use Rattle.reach.specs.High.{Inst, entryOf, Comes, From, Holds}
 use Rattle.reach.proofs.Beginnings.{comers-own}
-use Rattle.rows.specs.Rows.{slotOf, rowOf, putRow, Within}
+use Rattle.rows.specs.Rows.{slotOf, marksAt, putRow, Within}
 use Rattle.rows.proofs.Laws.{row-seven, row-fits, put-long, put-own, put-other}
 use Rattle.sweep.specs.Sweeping.{Sized, Taking, beyondIn, beforeIn, marksOf, Rows, Kept, Raised}
 use Rattle.paper.proofs.Deps.{none-at, none-fits, Larger, join-seven, join-at, join-fits}
 use Rattle.sweep.proofs.Named.{beyond-seven, beyond-few, beyond-old, beyond-comers, before-first, before-later}
 
 -- a row is written and read back
-pub put-first : (h : List ℕ) (x : ℕ) (d : List ℕ) {h₁ : List ℕ} → Within h x → DepsFit d → h₁ ≡ putRow h x d → (rowOf h₁ x ≡ d) × Within h₁ x
+pub put-first : (h : List ℕ) (x : ℕ) (d : List ℕ) {h₁ : List ℕ} → Within h x → DepsFit d → h₁ ≡ putRow h x d → (marksAt h₁ x ≡ d) × Within h₁ x
 put-first h x d w f e = rw e (put-own h x d w f, record { long = put-long h x d w; place = w .place })
 
-pub read-fits : (h : List ℕ) (x : ℕ) {r : List ℕ} → rowOf h x ≡ r → ((i : ℕ) → getD h i 0 < 256) → DepsFit r
+pub read-fits : (h : List ℕ) (x : ℕ) {r : List ℕ} → marksAt h x ≡ r → ((i : ℕ) → getD h i 0 < 256) → DepsFit r
 read-fits h x e b = rw e at (row-fits h x b)
 
 -- a row that takes in two others
@@ -61,7 +61,7 @@ module _ (n s : ℕ) (t g : List ℕ) (z : Sized n s t) (r : Rows n s (recordsIn
   x = slotOf o j
 
   abbrev old : List ℕ
-  old = rowOf g x
+  old = marksAt g x
 
   abbrev more : List ℕ
   more = beyondIn n n g (u o j .vote .deps)
@@ -82,7 +82,7 @@ module _ (n s : ℕ) (t g : List ℕ) (z : Sized n s t) (r : Rows n s (recordsIn
   seven-more = beyond-seven n s g (u o j .vote .deps) raise-taking
 
   -- the beginning before: no instance, or a shorter beginning
-  before-by : (P : List ℕ → Type 0) → P noDeps → (1 < j → P (rowOf g (slotOf o (j - 1)))) → P before
+  before-by : (P : List ℕ → Type 0) → P noDeps → (1 < j → P (marksAt g (slotOf o (j - 1)))) → P before
   before-by P a b = go (decLt 1 j)
     where
       go : Dec (1 < j) → P before
@@ -97,13 +97,13 @@ module _ (n s : ℕ) (t g : List ℕ) (z : Sized n s t) (r : Rows n s (recordsIn
 
   -- the entries in h, where what o.j reaches is worked out
   pub raise-first : (h : List ℕ) → length h ≡ 6272 → ((i : ℕ) → getD t i 0 < 256) → {y : ℕ} {d h₁ : List ℕ} → y ≡ x → d ≡ u o j .vote .deps → h₁ ≡ putRow h y d
-      → (rowOf h₁ y ≡ u o j .vote .deps) × Within h₁ y
+      → (marksAt h₁ y ≡ u o j .vote .deps) × Within h₁ y
   raise-first h l b {y = y} {d = d} ey e eh =
       let w = put-first h y d (record { long = l; place = rw ey (at-place .place) }) (rw e (fits-in s t o j b .vote .deps)) eh in
       (w .0 ∙ e, w .1)
 
   -- as it was read, with h₁ the list where what o.j reaches was worked out
-  pub raise-read : (h₁ : List ℕ) {y : ℕ} {v m w b k : List ℕ} → y ≡ slotOf o j → rowOf h₁ y ≡ beyondIn n n g (u o j .vote .deps) → v ≡ rowOf g y → m ≡ rowOf h₁ y → w ≡ join v m → b ≡ beforeIn g o j
+  pub raise-read : (h₁ : List ℕ) {y : ℕ} {v m w b k : List ℕ} → y ≡ slotOf o j → marksAt h₁ y ≡ beyondIn n n g (u o j .vote .deps) → v ≡ marksAt g y → m ≡ marksAt h₁ y → w ≡ join v m → b ≡ beforeIn g o j
       → k ≡ join w b → k ≡ row
   raise-read h₁ ey eh ev em ew eb ek = ek ∙ rw (ew, eb, ev, em, eh, ey)
 
@@ -115,23 +115,23 @@ module _ (n s : ℕ) (t g : List ℕ) (z : Sized n s t) (r : Rows n s (recordsIn
     fits = join-fits (join old more) before (join-fits old more (row-fits g x bytes) reached)
         (before-by DepsFit none-fits (λ l. row-fits g (slotOf o (j - 1)) bytes))
 
-    own : rowOf g′ x ≡ row
+    own : marksAt g′ x ≡ row
     own = put-own g x row at-place fits
 
     -- o.j's own row, or another's
-    by : (P : ℕ → ℕ → List ℕ → Type 0) → P o j row → ((q i : ℕ) → Inst n s q i → P q i (rowOf g (slotOf q i))) → (q i : ℕ) → Inst n s q i → P q i (rowOf g′ (slotOf q i))
+    by : (P : ℕ → ℕ → List ℕ → Type 0) → P o j row → ((q i : ℕ) → Inst n s q i → P q i (marksAt g (slotOf q i))) → (q i : ℕ) → Inst n s q i → P q i (marksAt g′ (slotOf q i))
     by P a b q i iq = go (ℕ-discrete q o) (ℕ-discrete i j)
       where
-        apart : (slotOf q i ≡ x → ⊥) → P q i (rowOf g′ (slotOf q i))
+        apart : (slotOf q i ≡ x → ⊥) → P q i (marksAt g′ (slotOf q i))
         apart d = rw (put-other g x row at-place (slotOf q i) (omega (arith, iq .owner, iq .first, iq .last, z .copies, z .numbers)) d) (b q i iq)
 
-        go : Dec (q ≡ o) → Dec (i ≡ j) → P q i (rowOf g′ (slotOf q i))
+        go : Dec (q ≡ o) → Dec (i ≡ j) → P q i (marksAt g′ (slotOf q i))
         go (yes v) (yes w) = rw (v, w, own) a
         go (yes v) (no w) = apart (λ d. w (omega (arith, iq .first, iq .last, io .first, io .last, z .numbers)))
         go (no v) w = apart (λ d. v (omega (arith, iq .first, iq .last, io .first, io .last, z .numbers)))
 
     -- a mark of the new row is one of three rows'
-    one : (P : ℕ → Type 0) (m : ℕ) → P (getD old m 0) → P (getD more m 0) → P 0 → (1 < j → P (getD (rowOf g (slotOf o (j - 1))) m 0)) → P (getD row m 0)
+    one : (P : ℕ → Type 0) (m : ℕ) → P (getD old m 0) → P (getD more m 0) → P 0 → (1 < j → P (getD (marksAt g (slotOf o (j - 1))) m 0)) → P (getD row m 0)
     one P m a b c d =
         ⊎-elim (λ (f : getD row m 0 ≡ getD old m 0). rw f a)
         (⊎-elim (λ (f : getD row m 0 ≡ getD more m 0). rw f b)
@@ -156,7 +156,7 @@ module _ (n s : ℕ) (t g : List ℕ) (z : Sized n s t) (r : Rows n s (recordsIn
         longer p k w (y, iy, ly, c) = (y, iy, omega arith, c)
 
     kept : Kept n s g g′
-    kept q i iq m = by (λ q i v. (m : ℕ) → getD (rowOf g (slotOf q i)) m 0 ≤ getD v m 0) (λ m. new-old old more before (row-seven g x) seven-more seven-before m) (λ q i iq m. omega arith) q i iq m
+    kept q i iq m = by (λ q i v. (m : ℕ) → getD (marksAt g (slotOf q i)) m 0 ≤ getD v m 0) (λ m. new-old old more before (row-seven g x) seven-more seven-before m) (λ q i iq m. omega arith) q i iq m
 
     holds : Holds n s u (marksOf g) o (j - 1) → Holds n s u (marksOf g′) o j
     holds h i ii l q = rw own (⊎-elim (λ (e : i ≡ j). rw e last) (λ (e : i < j). sooner e) (eq-or-lt-of-le {n = i} {m = j} l))
@@ -167,7 +167,7 @@ module _ (n s : ℕ) (t g : List ℕ) (z : Sized n s t) (r : Rows n s (recordsIn
         sooner : i < j → entryOf u o i q ≤ getD row q 0
         sooner e =
             let w : 1 < j = omega (arith, ii .first) in
-            let b : getD (rowOf g (slotOf o (j - 1))) q 0 ≤ getD row q 0 = rw (before-later g o j w) (new-before old more before (row-seven g x) seven-more seven-before q) in
+            let b : getD (marksAt g (slotOf o (j - 1))) q 0 ≤ getD row q 0 = rw (before-later g o j w) (new-before old more before (row-seven g x) seven-more seven-before q) in
             omega (arith, h i ii (omega arith) q)
 
     pub raise-raised : Raised n s u g g′ o j

@@ -12,7 +12,7 @@ use Rattle.table.specs.Place.{tableLength}
 use Rattle.rules.specs.Seen.{Records}
 use Rattle.seen.specs.Records.{recordsIn}
 use Rattle.reach.specs.High.{Inst, entryOf, Fit, Comes, Highs, Marks, From, Holds}
-use Rattle.rows.specs.Rows.{slotOf, rowOf, markAt}
+use Rattle.rows.specs.Rows.{slotOf, marksAt, markAt}
 
 -- a table of the setup, whose dependencies name instances
 pub record Sized (n s : ℕ) (t : List ℕ) : Type 0 where
@@ -41,7 +41,7 @@ pub record Charting (n s : ℕ) (t g h : List ℕ) : Type 0 where
 
 -- a row takes in that of the beginning of owner q's row which an entry names
 unfoldable pub withNamed : ℕ → List ℕ → ℕ → ℕ → List ℕ → List ℕ
-withNamed n g q entry row = cond (ltb q n && leb 1 entry) (join row (rowOf g (slotOf q entry))) row
+withNamed n g q entry row = cond (ltb q n && leb 1 entry) (join row (marksAt g (slotOf q entry))) row
 
 -- a row takes in those that it names itself, for the first k owners
 unfoldable pub beyondIn : ℕ → ℕ → List ℕ → List ℕ → List ℕ
@@ -50,7 +50,7 @@ beyondIn (suc k) n g row = withNamed n g k (getD (beyondIn k n g row) k 0) (beyo
 
 -- the row of the beginning before the one that ends at o.j
 unfoldable pub beforeIn : List ℕ → ℕ → ℕ → List ℕ
-beforeIn g o j = cond (leb j 1) noDeps (rowOf g (slotOf o (j - 1)))
+beforeIn g o j = cond (leb j 1) noDeps (marksAt g (slotOf o (j - 1)))
 
 abbrev pub marksOf : List ℕ → Marks
 marksOf g q i o = markAt g (slotOf q i) o
@@ -127,7 +127,7 @@ pub record Closed (n s : ℕ) (u : Records) (g : List ℕ) (p k : ℕ) (row : Li
 -- a row of h and nothing else was written
 pub record Wrote (h h′ : List ℕ) (x : ℕ) : Type 0 where
   pub long : length h′ ≡ 6272
-  pub others : (y : ℕ) → y < 448 → (y ≡ x → ⊥) → rowOf h′ y ≡ rowOf h y
+  pub others : (y : ℕ) → y < 448 → (y ≡ x → ⊥) → marksAt h′ y ≡ marksAt h y
 
 pub record Closing (n s : ℕ) (t g h : List ℕ) (p k : ℕ) : Type 0 where
   pub sized : Sized n s t

@@ -5,8 +5,8 @@ use nouns::deps::join;
 use nouns::deps::no_deps;
 use nouns::deps::same_deps;
 use rows::mark_at;
+use rows::marks_at;
 use rows::put_row;
-use rows::row_of;
 use rows::slot_of;
 use table::records::deps_of;
 ghost use mathlib.Core.Path.{_≡_};
@@ -15,24 +15,24 @@ ghost use lib.ListN.{length};
 ghost use Rattle.seen.specs.Records.{recordsIn};
 ghost use Rattle.reach.specs.High.{Inst};
 ghost use Rattle.paper.specs.Deps.{join};
-ghost use Rattle.rows.specs.Rows.{slotOf, rowOf, markAt, Within};
+ghost use Rattle.rows.specs.Rows.{slotOf, marksAt, markAt, Within};
 ghost use Rattle.sweep.specs.Sweeping.{Charting, Charted, withNamed, beyondIn, beforeIn, turned, Raised, Numbered, Swept};
 ghost use Rattle.sweep.specs.Sweeping.{Sweeping, Naming, Taking, Opened, Closed, Wrote, Closing, Reaching};
 
 // The row at x of h takes in that at y of g.
 fn take_row(g: &[u8], y: usize, h: &mut [u8], x: usize)
     requires { ⌜ Within (now g) y × Within (now h) x ⌝ }
-    ensures row { λ _. ⌜ rowOf (now (h .exit)) x ≡ join (rowOf (now (h .entry)) x) (rowOf (now (g .entry)) y) ⌝ }
+    ensures row { λ _. ⌜ marksAt (now (h .exit)) x ≡ join (marksAt (now (h .entry)) x) (marksAt (now (g .entry)) y) ⌝ }
     ensures wrote { λ _. ⌜ Wrote (now (h .entry)) (now (h .exit)) x ⌝ }
 {
-    let row = join(row_of(&*h, x), row_of(g, y));
+    let row = join(marks_at(&*h, x), marks_at(g, y));
     put_row(h, x, row);
 }
 
 // It takes in that of the beginning of owner q's row which its own mark names.
 fn take_named(n: usize, g: &[u8], h: &mut [u8], x: usize, q: usize)
     requires { ⌜ Naming n (now g) q (markAt (now h) x q) × Within (now h) x ⌝ }
-    ensures row { λ _. ⌜ rowOf (now (h .exit)) x ≡ withNamed n (now (g .entry)) q (markAt (now (h .entry)) x q) (rowOf (now (h .entry)) x) ⌝ }
+    ensures row { λ _. ⌜ marksAt (now (h .exit)) x ≡ withNamed n (now (g .entry)) q (markAt (now (h .entry)) x q) (marksAt (now (h .entry)) x) ⌝ }
     ensures wrote { λ _. ⌜ Wrote (now (h .entry)) (now (h .exit)) x ⌝ }
 {
     let entry = mark_at(&*h, x, q);
@@ -44,8 +44,8 @@ fn take_named(n: usize, g: &[u8], h: &mut [u8], x: usize, q: usize)
 
 // It takes in those that it names, owner by owner.
 fn beyond(n: usize, s: usize, g: &[u8], h: &mut [u8], x: usize)
-    requires { ⌜ Taking n s (now g) (rowOf (now h) x) × Within (now h) x ⌝ }
-    ensures row { λ _. ⌜ rowOf (now (h .exit)) x ≡ beyondIn n n (now (g .entry)) (rowOf (now (h .entry)) x) ⌝ }
+    requires { ⌜ Taking n s (now g) (marksAt (now h) x) × Within (now h) x ⌝ }
+    ensures row { λ _. ⌜ marksAt (now (h .exit)) x ≡ beyondIn n n (now (g .entry)) (marksAt (now (h .entry)) x) ⌝ }
     ensures wrote { λ _. ⌜ Wrote (now (h .entry)) (now (h .exit)) x ⌝ }
 {
     for q in 0..n {
@@ -61,7 +61,7 @@ fn before(g: &[u8], o: usize, j: usize) -> [u16; 7]
     if j <= 1 {
         return no_deps();
     }
-    row_of(g, slot_of(o, j - 1))
+    marks_at(g, slot_of(o, j - 1))
 }
 
 // The row of the beginning that ends at o.j takes in the beginning before, and what o.j reaches; that is worked out in h.
@@ -73,7 +73,7 @@ fn raise(t: &[u8], n: usize, s: usize, g: &mut [u8], h: &mut [u8], o: usize, j: 
     let x = slot_of(o, j);
     put_row(&mut *h, x, deps_of(t, n, s, o, j));
     beyond(n, s, &*g, &mut *h, x);
-    let with_last = join(row_of(&*g, x), row_of(&*h, x));
+    let with_last = join(marks_at(&*g, x), marks_at(&*h, x));
     let row = join(with_last, before(&*g, o, j));
     put_row(g, x, row);
 }
@@ -108,22 +108,22 @@ fn sweep(t: &[u8], n: usize, s: usize, g: &mut [u8], h: &mut [u8], back: bool)
 
 // The row at p.k's place, which holds its entries, takes in those that it names until nothing changes.
 fn close(t: &[u8], n: usize, s: usize, g: &[u8], h: &mut [u8], p: usize, k: usize)
-    requires { ⌜ Closing n s (now t) (now g) (now h) p k × Opened n s (recordsIn s (now t)) p k (rowOf (now h) (slotOf p k)) ⌝ }
-    ensures closed { λ _. ⌜ Closed n s (recordsIn s (now (t .entry))) (now (g .entry)) p k (rowOf (now (h .exit)) (slotOf p k)) ⌝ }
+    requires { ⌜ Closing n s (now t) (now g) (now h) p k × Opened n s (recordsIn s (now t)) p k (marksAt (now h) (slotOf p k)) ⌝ }
+    ensures closed { λ _. ⌜ Closed n s (recordsIn s (now (t .entry))) (now (g .entry)) p k (marksAt (now (h .exit)) (slotOf p k)) ⌝ }
     ensures wrote { λ _. ⌜ Wrote (now (h .entry)) (now (h .exit)) (slotOf p k) ⌝ }
 {
     let x = slot_of(p, k);
     let mut changed = true;
     while changed {
-        let row = row_of(&*h, x);
+        let row = marks_at(&*h, x);
         beyond(n, s, g, &mut *h, x);
-        changed = !same_deps(row_of(&*h, x), row);
+        changed = !same_deps(marks_at(&*h, x), row);
     }
 }
 
 fn reach_one(t: &[u8], n: usize, s: usize, g: &[u8], h: &mut [u8], p: usize, k: usize)
     requires { ⌜ Closing n s (now t) (now g) (now h) p k ⌝ }
-    ensures closed { λ _. ⌜ Closed n s (recordsIn s (now (t .entry))) (now (g .entry)) p k (rowOf (now (h .exit)) (slotOf p k)) ⌝ }
+    ensures closed { λ _. ⌜ Closed n s (recordsIn s (now (t .entry))) (now (g .entry)) p k (marksAt (now (h .exit)) (slotOf p k)) ⌝ }
     ensures wrote { λ _. ⌜ Wrote (now (h .entry)) (now (h .exit)) (slotOf p k) ⌝ }
 {
     let d = deps_of(t, n, s, p, k);

@@ -16,13 +16,13 @@ sub-slot-of c = search needs
 slot-of-requires : tie.Need-slot-of-requires
 slot-of-requires c κs = search needs
 
-row-of-requires : tie.Need-row-of-requires
-row-of-requires c κs = search needs
+marks-at-requires : tie.Need-marks-at-requires
+marks-at-requires c κs = search needs
 
 returns-2 : tie.Need-returns-2
-returns-2 c = c .row-of .ensures ∙ rw (c .before .slot-of .ensures .0) (before-later _ _ _ (c .before .before .if1 .left))
+returns-2 c = c .marks-at .ensures ∙ rw (c .before .slot-of .ensures .0) (before-later _ _ _ (c .before .before .if1 .left))
 
 pub before-spec : {M : Type 1} → statement M
 before-spec =
     tie.close
-    (tie.spec no-deps-requires returns sub-slot-of slot-of-requires row-of-requires returns-2)
+    (tie.spec no-deps-requires returns sub-slot-of slot-of-requires marks-at-requires returns-2)

@@ -3,12 +3,12 @@ use Rattle.sweep.proofs.beyond.Tie as tie
 use Prim.Native.Nat.{_-_, _≤_}
 use mathlib.Core.Path.{_≡_, sym, _∙_}
 use native.Mathlib.Omega.{arith}
-use Rattle.rows.specs.Rows.{rowOf}
+use Rattle.rows.specs.Rows.{marksAt}
 use Rattle.sweep.specs.Sweeping.{beyondIn, Wrote}
 use Rattle.sweep.proofs.Named.{wrote-same, wrote-on, beyond-first, beyond-next, beyond-named, beyond-last}
 
 abbrev Inv-loop : tie.InvT-loop
-Inv-loop n s g h₀ x q₀ h q = (rowOf h x ≡ beyondIn q n g (rowOf h₀ x)) × Wrote h₀ h x × (q ≤ n)
+Inv-loop n s g h₀ x q₀ h q = (marksAt h x ≡ beyondIn q n g (marksAt h₀ x)) × Wrote h₀ h x × (q ≤ n)
 
 abbrev μ-loop : tie.MeasureT-loop
 μ-loop n s g h₀ x q₀ h q = n - q
