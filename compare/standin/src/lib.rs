@@ -40,6 +40,11 @@ fn answered(answer: Result<Event, u8>, values: &mut [usize; 3]) -> u32 {
 }
 
 #[no_mangle]
+pub extern "C" fn pumxaqert_table_length(n: usize, s: usize) -> usize {
+    second::table_len(n, s)
+}
+
+#[no_mangle]
 pub unsafe extern "C" fn pumxaqert_blank(
     table: *mut u8,
     table_len: usize,

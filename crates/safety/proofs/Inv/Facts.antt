@@ -57,7 +57,7 @@ module _ {F owner : ℕ} {s : Sys} (I : Inv F owner s) where
     collected-now = go (I .current r)
       where
         go : Was s r (s .now r) ⊎ Blank (s .now r) → Collected s (s .now r)
-        go (inl m) = I .collect r (s .now r) m
+        go (inl m) = I .collected r (s .now r) m
         go (inr q) = record { promises = λ e. clash (cc (q .3)); pre-accepts = λ e. clash (cc (q .3)); accepts = λ e. clash (cc (q .3)) }
 
     pub backed-now : Backed owner s (s .now r)

@@ -198,7 +198,7 @@ module _ (s : Sys) (r : ℕ) (R : Rec) (ms : List Msg) where
       current = t-cur;
       local = all (λ i X. Local owner i X) (G .local) (I .local);
       backed = all (λ i X. Backed owner t X) (G .backed) (λ i X h. up-back old X (I .backed i X h));
-      collected = all (λ i X. Collected t X) (G .collect) (λ i X h. up-coll old X (I .collect i X h));
+      collected = all (λ i X. Collected t X) (G .collected) (λ i X h. up-coll old X (I .collected i X h));
       reasons = all (λ i X. X .status ≡ s4 → Reason F owner t (X .value)) (G .reason) (λ i X h e. up-com (G .older) _ (I .reasons i X h e));
       msgs = t-msgs;
       decisions = t-decs;
