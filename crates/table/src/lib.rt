@@ -68,7 +68,7 @@ pub fn length_of(n: usize, s: usize) -> usize
 }
 
 // What refusal 1 asks.
-pub fn fits(t: &[u8], n: usize, s: usize, c: usize) -> bool
+pub fn fits_setup(t: &[u8], n: usize, s: usize, c: usize) -> bool
     ensures { λ r. ⌜ r ≡ fits n s c (now (t .entry)) ⌝ }
 {
     if !setup_ok(n, s, c) {
@@ -176,7 +176,7 @@ pub fn sound_table(t: &[u8], n: usize, s: usize, c: usize) -> bool
 pub fn judge_table(t: &[u8], n: usize, s: usize, c: usize) -> Judging
     ensures { λ r. ⌜ r ≡ judged n s c (now (t .entry)) ⌝ }
 {
-    if !fits(t, n, s, c) {
+    if !fits_setup(t, n, s, c) {
         return Judging::Refused(Refusal::Setup);
     }
     if !sound_table(t, n, s, c) {
@@ -218,7 +218,7 @@ pub fn blank_table(t: &mut [u8], n: usize, s: usize, c: usize) -> Blanking
     ensures answers { λ r. ⌜ r ≡ blanked n s c (now (t .entry)) ⌝ }
     ensures table { λ _. ⌜ now (t .exit) ≡ blankedTable n s c (now (t .entry)) ⌝ }
 {
-    if !fits(&*t, n, s, c) {
+    if !fits_setup(&*t, n, s, c) {
         return Blanking::Refused(Refusal::Setup);
     }
     put_blank(t, n, s, c);
@@ -228,7 +228,7 @@ pub fn blank_table(t: &mut [u8], n: usize, s: usize, c: usize) -> Blanking
 fn has_part(t: &[u8], n: usize, s: usize, c: usize, o: usize, j: usize) -> bool
     ensures { λ r. ⌜ r ≡ (fits n s c (now (t .entry)) && instanceOk n s o j) ⌝ }
 {
-    both(fits(t, n, s, c), instance_ok(n, s, o, j))
+    both(fits_setup(t, n, s, c), instance_ok(n, s, o, j))
 }
 
 // The part of the table that holds the record of o.j, for saving; empty for a bad instance or where 1 would be refused.

@@ -3,8 +3,8 @@ use borrow.Author.Tests.{not-true, not-false}
 use Rattle.table.specs.Table.{fits}
 use Rattle.table.proofs.Laws.{setup-bounds}
 use borrow.Author.Needs.{needs}
-use Rattle.table.proofs.fits.Statement.{statement}
-use Rattle.table.proofs.fits.Tie as tie
+use Rattle.table.proofs.fits_setup.Statement.{statement}
+use Rattle.table.proofs.fits_setup.Tie as tie
 
 setup-ok-requires : tie.Need-setup-ok-requires
 setup-ok-requires c κs = search needs
@@ -27,5 +27,5 @@ returns-2 c =
     let p = sym (c .before .before .setup-ok .ensures) ∙ not-false _ (c .before .if1 .left) in
     rw (p, c .table-length .ensures)
 
-pub fits-spec : {M : Type 1} → statement M
-fits-spec = tie.close (tie.spec setup-ok-requires returns table-length-requires returns-2)
+pub fits-setup-spec : {M : Type 1} → statement M
+fits-setup-spec = tie.close (tie.spec setup-ok-requires returns table-length-requires returns-2)
