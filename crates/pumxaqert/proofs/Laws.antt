@@ -4,7 +4,6 @@ use mathlib.Core.Bool.{Bool, true, false, _&&_}
 use mathlib.Core.List.{List, [], _∷_}
 use Prim.Native.Nat.{ℕ}
 use lib.ListN.{replicate, take, drop}
-use borrow.Author.Tests.{eq-eqb, ne-eqb}
 use Rattle.paper.specs.Instance.{instanceOk}
 use Rattle.paper.specs.Message.{partsIn, votedIn, joinedIn, noMessage}
 use Rattle.paper.specs.Refusal.{numberOf}
