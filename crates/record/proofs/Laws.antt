@@ -22,7 +22,7 @@ use Rattle.sound.specs.Front.{front}
 use Rattle.sound.specs.Asked.{ballotsOk, markedOk, phasedOk}
 use Rattle.paper.specs.declared.Vote.{Vote}
 use Rattle.paper.specs.declared.Record.{Record}
-use Rattle.record.specs.Layout.{replyPlace, votesAt, votesBytes, frontBytes, recordAt}
+use Rattle.record.specs.Layout.{voteLength, repliesLength, recordLength, replyPlace, votesAt, votesBytes, frontBytes, recordAt, recordBytes}
 use Rattle.record.specs.Part.{opFits, opsFit, soundPart, commandFits, frontOk, plainOk, busyPart, replyPart}
 
 pub length-voteBytes : (v : Vote) → length (voteBytes v) ≡ 32
@@ -37,6 +37,12 @@ length-votesBytes (v ∷ vs) = simp (length-append, length-voteBytes, length-vot
 pub length-frontBytes : (r : Record) → length (frontBytes r) ≡ 39
 unfolding frontBytes
 length-frontBytes r = simp (length-append, length-voteBytes)
+
+pub length-recordBytes : (r : Record) → length (r .replies) ≡ 7 → length (recordBytes r) ≡ recordLength
+unfolding recordBytes
+length-recordBytes r h =
+    let m : length (votesBytes (r .replies)) ≡ repliesLength = length-votesBytes (r .replies) ∙ ap (λ (k : ℕ). voteLength * k) h in
+    simp (length-append, length-frontBytes) (omega arith)
 
 votesBytes-append : (vs ws : List Vote) → votesBytes (vs ++ ws) ≡ votesBytes vs ++ votesBytes ws
 unfolding votesBytes

@@ -4,20 +4,21 @@ use mathlib.Core.Bool.{true}
 use mathlib.Core.List.{List, [], _∷_, _++_, append-assoc}
 use Prim.Native.Nat.{ℕ, zero, suc, _+_, _*_, _≤_, _<_}
 use native.Mathlib.Omega.{arith}
-use lib.ListN.{length, getD, take, drop, length-append}
+use lib.ListN.{length, take, drop, length-append}
 use lib.Seq.{take-all, take-add, drop-drop}
 use borrow.Author.Tests.{leb-true}
-use Rattle.num.specs.Num.{numAt}
+use Rattle.num.specs.Num.{numAt, Bytes}
 use Rattle.num.proofs.Laws.{numAt-bytesOf, bytesOf-numAt}
 use Rattle.codec.specs.Parts.{voteAt, voteBytes}
 use Rattle.codec.proofs.Laws.{voteAt-voteBytes, voteBytes-voteAt}
 use Rattle.paper.specs.Fits.{VotesFit, RecordFits}
 use Rattle.paper.specs.Logic.{allBelow}
+use Rattle.paper.specs.Sound.{soundRecord}
 use Rattle.paper.proofs.Laws.{and-true, allBelow-at}
 use Rattle.paper.specs.declared.Vote.{Vote}
 use Rattle.paper.specs.declared.Record.{Record}
-use Rattle.record.specs.Layout.{replyPlace, votesAt, votesBytes, recordAt, frontBytes, recordBytes}
-use Rattle.record.specs.Part.{opFits, opsFit}
+use Rattle.record.specs.Layout.{recordLength, replyPlace, votesAt, votesBytes, recordAt, frontBytes, recordBytes}
+use Rattle.record.specs.Part.{opFits, opsFit, soundPart}
 use Rattle.record.proofs.Laws.{length-voteBytes, length-frontBytes}
 
 votesAt-votesBytes : (vs : List Vote) (p : List ℕ) (at : ℕ) → length p ≡ at → VotesFit vs → votesAt (length vs) (p ++ votesBytes vs) at ≡ vs
@@ -69,8 +70,8 @@ module _ (r : Record) (f : RecordFits r) where
   }
 
 -- what was read is written back, where each op byte is the number of an op
-module _ (b : List ℕ) (byte : (i : ℕ) → getD b i 0 < 256) (long : length b ≡ 263) where
-  votes-back : (k at : ℕ) → at + 32 * k ≤ 263 → ((q : ℕ) → q < k → numAt 1 b (at + 32 * q + 5) ≤ 2) → votesBytes (votesAt k b at) ≡ take (32 * k) (drop at b)
+module _ (b : List ℕ) (byte : Bytes b) (long : length b ≡ recordLength) where
+  votes-back : (k at : ℕ) → at + 32 * k ≤ recordLength → ((q : ℕ) → q < k → numAt 1 b (at + 32 * q + 5) ≤ 2) → votesBytes (votesAt k b at) ≡ take (32 * k) (drop at b)
   unfolding votesAt votesBytes
   votes-back zero at h o = refl
   votes-back (suc k) at h o =
@@ -91,7 +92,7 @@ module _ (b : List ℕ) (byte : (i : ℕ) → getD b i 0 < 256) (long : length b
   unfolding opsFit
   op-at h = leb-true _ 2 (and-true (opFits b 4) (allBelow 7 (λ k. opFits b (replyPlace k))) h .0)
 
-  pub recordBytes-recordAt : opsFit b ≡ true → recordBytes (recordAt b) ≡ b
+  recordBytes-recordAt : opsFit b ≡ true → recordBytes (recordAt b) ≡ b
   unfolding recordBytes frontBytes recordAt
   recordBytes-recordAt h =
       let j = bytesOf-numAt 4 b 0 byte (omega arith) in
@@ -106,4 +107,14 @@ module _ (b : List ℕ) (byte : (i : ℕ) → getD b i 0 < 256) (long : length b
           → w ≡ take 224 (drop 39 b) → (j ++ v ++ m ++ p ++ s ++ w) ≡ b
       whole ej ev em ep es ew =
           rw (ej, ev, em, ep, es, ew, ← take-add 4 32 b, ← take-add 36 1 b, ← take-add 37 1 b, ← take-add 38 1 b, ← take-add 39 224 b)
-          (take-all 263 b (omega arith))
+          (take-all recordLength b (omega arith))
+
+-- of bytes that are sound: the record is, and they are what it is written as
+module _ (n s c o : ℕ) (b : List ℕ) (h : soundPart n s c o b ≡ true) where
+  pub part-sound : soundRecord n s c o (recordAt b) ≡ true
+  unfolding soundPart
+  part-sound = and-true (opsFit b) (soundRecord n s c o (recordAt b)) h .1
+
+  pub part-whole : Bytes b → length b ≡ recordLength → recordBytes (recordAt b) ≡ b
+  unfolding soundPart
+  part-whole byte long = recordBytes-recordAt b byte long (and-true (opsFit b) (soundRecord n s c o (recordAt b)) h .0)

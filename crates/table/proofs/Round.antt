@@ -8,7 +8,7 @@ use native.Mathlib.Omega.{arith}
 use native.Mathlib.Nat.{mul-le-mul-right, suc-mul, eq-or-lt-of-le}
 use lib.Dec.{leb}
 use borrow.Author.Tests.{leb-true, leb-false}
-use lib.ListN.{length, getD, take, drop, length-take, length-drop, length-append}
+use lib.ListN.{length, getD, take, drop, length-take, length-drop}
 use lib.Seq.{getD-take, getD-drop}
 use Rattle.num.specs.Num.{splice}
 use Rattle.num.proofs.Laws.{splice-same, splice-before, splice-after, splice-own, length-splice}
@@ -16,11 +16,11 @@ use Rattle.paper.specs.Logic.{allBelow}
 use Rattle.paper.specs.Sound.{soundRecord}
 use Rattle.paper.proofs.Laws.{and-true, allBelow-at}
 use Rattle.paper.specs.declared.Record.{Record}
-use Rattle.record.specs.Layout.{recordAt, recordBytes, votesBytes}
+use Rattle.record.specs.Layout.{recordLength, recordAt, recordBytes}
 use Rattle.num.specs.Num.{Bytes}
-use Rattle.record.specs.Part.{soundPart, opsFit}
-use Rattle.record.proofs.Laws.{length-frontBytes, length-votesBytes}
-use Rattle.record.proofs.Round.{recordAt-recordBytes, recordBytes-recordAt}
+use Rattle.record.specs.Part.{soundPart}
+use Rattle.record.proofs.Laws.{length-recordBytes}
+use Rattle.record.proofs.Round.{recordAt-recordBytes, part-sound, part-whole}
 use Rattle.record.proofs.Written as written
 use Rattle.record.proofs.Written.{recordAt-fits}
 use Rattle.paper.specs.Fits.{RecordFits}
@@ -28,13 +28,6 @@ use Rattle.table.specs.Place.{tableLength, placeAt, placeOf, partAt}
 use Rattle.table.specs.Table.{headIs, soundRow, soundTable, recordIn, putRecord, Whole, Kept}
 use Rattle.table.specs.Sizes.{Names}
 use Rattle.table.proofs.Laws.{sizes, place-end}
-use Rattle.record.specs.Layout.{recordLength}
-
-pub length-recordBytes : (r : Record) → length (r .replies) ≡ 7 → length (recordBytes r) ≡ recordLength
-unfolding recordBytes
-length-recordBytes r h =
-    let m : length (votesBytes (r .replies)) ≡ 224 = length-votesBytes (r .replies) ∙ ap (λ (k : ℕ). 32 * k) h in
-    simp (length-append, length-frontBytes) (omega arith)
 
 le-or-gt : (a b : ℕ) → (a ≤ b) ⊎ (b < a)
 le-or-gt a b = go (leb a b) refl
@@ -124,10 +117,6 @@ sound-at n s c t h o j a =
     let row = allBelow-at n (soundRow n s c t) rows o (a .owner) in
     allBelow-at s (λ i. soundPart n s c o (partAt t (placeAt s o i))) row (j - 1) (omega (arith, a .first, a .last))
 
-ops-fit : (n s c o : ℕ) (b : List ℕ) → soundPart n s c o b ≡ true → opsFit b ≡ true
-unfolding soundPart
-ops-fit n s c o b h = and-true (opsFit b) (soundRecord n s c o (recordAt b)) h .0
-
 getD-past : (l : List ℕ) (i : ℕ) → length l ≤ i → getD l i 0 ≡ 0
 getD-past [] i h = refl
 getD-past (x ∷ l) zero h = absurd (omega arith)
@@ -155,9 +144,8 @@ deps-seven s t o j = written.deps-seven (partAt t (placeOf s o j))
 
 -- a record of a sound table is sound
 pub record-sound : (n s c : ℕ) (t : List ℕ) → soundTable n s c t ≡ true → (o j : ℕ) → Names n s o j → soundRecord n s c o (recordIn s t o j) ≡ true
-unfolding soundPart recordIn
-record-sound n s c t h o j a =
-    and-true (opsFit (partAt t (placeOf s o j))) (soundRecord n s c o (recordAt (partAt t (placeOf s o j)))) (sound-at n s c t h o j a) .1
+unfolding recordIn
+record-sound n s c t h o j a = part-sound n s c o (partAt t (placeOf s o j)) (sound-at n s c t h o j a)
 
 -- and is written back as its bytes
 pub record-whole : (n s c : ℕ) (t : List ℕ) → Kept n s c t → (o j : ℕ) → Names n s o j → Whole s t o j
@@ -165,7 +153,7 @@ unfolding Whole recordIn
 record-whole n s c t k o j a =
     let p : List ℕ = partAt t (placeOf s o j) in
     let l : length p ≡ recordLength = simp (length-take, length-drop) (omega (arith, place-end n s o j a, sizes n s c t (k .setup) .long)) in
-    recordBytes-recordAt p (part-bytes t (placeOf s o j) (k .bytes)) l (ops-fit n s c o p (sound-at n s c t (k .sound) o j a))
+    part-whole n s c o p (sound-at n s c t (k .sound) o j a) (part-bytes t (placeOf s o j) (k .bytes)) l
 
 -- writing back what was read
 pub put-get : (n s : ℕ) (t : List ℕ) → length t ≡ tableLength n s → (o j : ℕ) → Names n s o j → Whole s t o j → putRecord s t o j (recordIn s t o j) ≡ t

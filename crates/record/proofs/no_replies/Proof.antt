@@ -4,13 +4,14 @@ use mathlib.Core.Path.{refl}
 use Prim.Native.Nat.{_-_, _≤_}
 use native.Mathlib.Omega.{arith}
 use lib.ListN.{length}
+use Rattle.record.specs.Layout.{recordLength}
 use Rattle.record.proofs.Quick.{Clear, clear-start, clear-next, clear-all}
 
 abbrev Inv-loop : tie.InvT-loop
-Inv-loop b any₀ i₀ any i = Clear b any i × (263 ≤ length b)
+Inv-loop b any₀ i₀ any i = Clear b any i × (recordLength ≤ length b)
 
 abbrev μ-loop : tie.MeasureT-loop
-μ-loop b any₀ i₀ any i = 263 - i
+μ-loop b any₀ i₀ any i = recordLength - i
 
 loop-holds : tie.Need-loop-holds Inv-loop μ-loop
 loop-holds c = (clear-start _, c .pre)

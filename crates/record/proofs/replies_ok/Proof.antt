@@ -5,10 +5,11 @@ use Prim.Native.Nat.{_-_, _≤_}
 use native.Mathlib.Omega.{arith}
 use lib.ListN.{length}
 use borrow.Author.Tests.{not-true, not-false}
+use Rattle.record.specs.Layout.{recordLength}
 use Rattle.record.proofs.Laws.{Judged, judged-start, judged-next, bad-reply, judged-all}
 
 abbrev Inv-loop : tie.InvT-loop
-Inv-loop b n s c left₀ left = Judged n s c b left × (263 ≤ length b)
+Inv-loop b n s c left₀ left = Judged n s c b left × (recordLength ≤ length b)
 
 abbrev μ-loop : tie.MeasureT-loop
 μ-loop b n s c left₀ left = left

@@ -17,7 +17,7 @@ loop-holds : tie.Need-loop-holds Inv-loop μ-loop
 loop-holds c = states-start _ _ _ _ (c .before .before .before .before .pre .0 .long)
 
 settle-row-requires : tie.Need-settle-row-requires Inv-loop μ-loop
-settle-row-requires c κs = let g = c .before .before .before .before .before .before .before .pre in record { seen = record { sized = g .0 .sized; charted = g .0 .charted; leads = g .1 }; owner = c .before .loop-test .taken; states = c .before .before .loop .inv }
+settle-row-requires c κs = let g = c .before .before .before .before .before .before .before .pre in record { seen = record { sized = g .0 .sized; charted = g .0 .charted; prefixes = g .1 }; owner = c .before .loop-test .taken; states = c .before .before .loop .inv }
 
 add-o : tie.Need-add-o Inv-loop μ-loop
 add-o c = omega arith
