@@ -54,7 +54,7 @@ led-more s u lead o z c l d q m = go (ℕ-discrete q o)
     go (yes e) = rw (e, getD-set-same lead o z 0 l) d
     go (no e) = rw (getD-set-other lead o q z 0 e) (c q (omega arith))
 
--- marks up to an owner, within the leads
+-- marks up to an owner, within the prefixes
 abbrev Within-to : ℕ → List ℕ → ℕ → List ℕ → Type 0
 Within-to o h x lead = (q : ℕ) → q < o → markAt h x q ≤ getD lead q 0
 
