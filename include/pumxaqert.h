@@ -30,8 +30,8 @@ enum {
     PUMXAQERT_UNSOUND = 11,          /* the table is not sound */
     PUMXAQERT_ROOM = 2,              /* room for outgoing bytes is under 256 */
     PUMXAQERT_MESSAGE = 3,           /* a message is not valid */
-    PUMXAQERT_OP = 4,                /* a request's op is not 1 or 2 */
-    PUMXAQERT_INSTANCE = 6,          /* an instance named by the host is out of range */
+    PUMXAQERT_OP = 4,                /* a request with another op than 1 or 2 */
+    PUMXAQERT_INSTANCE = 6,          /* there is no such owner or number */
     PUMXAQERT_RECOVER_COMMITTED = 8, /* recover of a committed instance */
     PUMXAQERT_NUDGE_IDLE = 9,        /* nudge, not committed and phase 0 */
     PUMXAQERT_BALLOTS_USED_UP = 7,   /* recover with joined >= 4,294,967,288 */
@@ -49,7 +49,7 @@ uint32_t pumxaqert_blank(uint8_t *table, size_t table_len, size_t n, size_t s, s
 uint32_t pumxaqert_judge(const uint8_t *table, size_t table_len, size_t n, size_t s, size_t c);
 
 /* The part of the table that holds the record of owner.number, for saving: its start is returned and its length is put
- * in *length; both are 0 for a bad instance, or where 1 would be refused. The table need not be sound. */
+ * in *length; both are 0 if there is no such record, or with a wrong setup or length. The table need not be sound. */
 size_t pumxaqert_part(const uint8_t *table, size_t table_len, size_t n, size_t s, size_t c, size_t owner, size_t number,
                       size_t *length);
 

@@ -37,7 +37,7 @@ impl Instance {
 #[derive(Clone, Copy, Debug, PartialEq, Eq)]
 #[repr(u32)]
 pub enum Refusal {
-    /// N, S, copy number or table length is wrong.
+    /// A wrong N, S or copy, or a table of another length.
     Setup = 1,
     /// Room for outgoing bytes is under 256.
     Room = 2,
@@ -47,7 +47,7 @@ pub enum Refusal {
     Op = 4,
     /// A request finds no blank own record.
     NoBlank = 5,
-    /// An instance named by the host is out of range.
+    /// There is no such owner or number.
     Instance = 6,
     /// Recover with joined >= 4,294,967,288.
     BallotsUsedUp = 7,

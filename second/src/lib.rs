@@ -1,5 +1,4 @@
-//! One copy of a replicated edit log by basic Egalitarian Paxos, working in
-//! place on lent bytes. Written from the paper alone, to be compared with the
+//! One copy of the edit log, working in place on lent bytes. Written from the paper alone, to be compared with the
 //! proved library call by call.
 //!
 //! Without `std` there is no heap to reach for.

@@ -54,7 +54,7 @@ pub fn write_deps(deps: &Deps, bytes: &mut [u8; DEPS_LEN]) {
     }
 }
 
-/// Two commands interfere if neither is a no-op and their keys are equal.
+/// Neither command is a no-op, and both have one key.
 #[inline]
 pub fn interfere(a: &Command, b: &Command) -> bool {
     a.op != NO_OP && b.op != NO_OP && a.key == b.key
@@ -84,8 +84,8 @@ pub fn lead(ballot: u32, owner: usize) -> usize {
     }
 }
 
-/// For each owner, the highest number of a record other than o.j with status
-/// at least 1 whose command interferes with this one.
+/// In each owner's row the last record of status 1 or more, o.j itself left
+/// out, whose command interferes.
 pub fn seen(setup: &Setup, table: &[u8], command: &Command, o: usize, j: usize) -> Deps {
     let mut highest = [0; MAX_COPIES];
     if command.op == NO_OP {

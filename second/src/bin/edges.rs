@@ -285,7 +285,7 @@ fn entries(n: usize, s: usize, base: [u16; 7]) -> Vec<[u16; 7]> {
 }
 
 /// What only kinds 7 and 8 carry.
-fn rest_changed(n: usize, s: usize, m: Message) -> Vec<Message> {
+fn rest_changed(n: usize, m: Message) -> Vec<Message> {
     let mut all = Vec::new();
     if m.kind == 7 {
         let near = [m.ballot - 1, m.ballot, m.ballot + 1, m.ballot + 8];
@@ -342,7 +342,7 @@ fn messages(script: &mut Script, c: usize) {
         let mut all = names_changed(n, s, m);
         all.extend(command_changed(m));
         all.extend(deps_changed(n, s, m));
-        all.extend(rest_changed(n, s, m));
+        all.extend(rest_changed(n, m));
         if !matches!(kind, 6 | 7) {
             let first = valid(n, c, kind, 0);
             all.push(first);
