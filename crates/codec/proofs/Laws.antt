@@ -4,10 +4,10 @@ use mathlib.Core.List.{List, _++_}
 use Prim.Native.Nat.{ℕ, zero, suc, _+_, _^_, _≤_, _<_}
 use native.Mathlib.Omega.{arith}
 use lib.ListN.{length, getD, take, drop}
-use Rattle.num.specs.Num.{numAt}
-use Rattle.num.specs.Fields.{FieldsFit}
-use Rattle.num.proofs.Laws.{numAt-small}
-use Rattle.num.proofs.Fields.{fieldsAt-fieldsBytes, fieldsBytes-fieldsAt, entries-all}
+use Rattle.numbers.specs.Num.{numAt}
+use Rattle.numbers.specs.Fields.{FieldsFit}
+use Rattle.numbers.proofs.Laws.{numAt-small}
+use Rattle.numbers.proofs.Fields.{fieldsAt-fieldsBytes, fieldsBytes-fieldsAt, entries-all}
 use Rattle.paper.specs.Command.{opNumber}
 use Rattle.paper.specs.Fits.{DepsFit, VoteFits}
 use Rattle.paper.specs.declared.Op.{Op}

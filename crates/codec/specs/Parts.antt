@@ -3,7 +3,7 @@
 use Prim.Native.Nat.{ℕ, zero, suc, _+_}
 use mathlib.Core.List.{List, [], _∷_, _++_}
 use lib.ListN.{getD, drop}
-use Rattle.num.specs.Fields.{fieldsAt, fieldsBytes, entries}
+use Rattle.numbers.specs.Fields.{fieldsAt, fieldsBytes, entries}
 use Rattle.paper.specs.Command.{opNumber}
 use Rattle.paper.specs.declared.Op.{Op}
 use Rattle.paper.specs.declared.Op.the-variants.{Noop, Read, Write}

@@ -5,7 +5,7 @@ use paper::Vote;
 ghost use mathlib.Core.Path.{_≡_};
 ghost use Prim.Native.Nat.{_+_, _≤_};
 ghost use lib.ListN.{length};
-ghost use Rattle.num.specs.Num.{splice};
+ghost use Rattle.numbers.specs.Num.{splice};
 ghost use Rattle.paper.specs.Command.{opNumber};
 ghost use Rattle.codec.specs.Parts.{opOf, commandAt, depsAt, voteAt, commandBytes, depsBytes, voteBytes};
 
@@ -61,9 +61,9 @@ pub fn read_command(s: &[u8], at: usize) -> Command
 {
     let a1 = at + OP;
     let a2 = a1 + KEY;
-    let op = op_of(num::get_u8(s, at));
-    let key = num::get_u32(s, a1);
-    let edit = num::get_u64(s, a2);
+    let op = op_of(numbers::get_u8(s, at));
+    let key = numbers::get_u32(s, a1);
+    let edit = numbers::get_u64(s, a2);
     Command { op, key, edit }
 }
 
@@ -77,13 +77,13 @@ pub fn read_deps(s: &[u8], at: usize) -> [u16; 7]
     let a4 = a3 + ENTRY;
     let a5 = a4 + ENTRY;
     let a6 = a5 + ENTRY;
-    let d0 = num::get_u16(s, at);
-    let d1 = num::get_u16(s, a1);
-    let d2 = num::get_u16(s, a2);
-    let d3 = num::get_u16(s, a3);
-    let d4 = num::get_u16(s, a4);
-    let d5 = num::get_u16(s, a5);
-    let d6 = num::get_u16(s, a6);
+    let d0 = numbers::get_u16(s, at);
+    let d1 = numbers::get_u16(s, a1);
+    let d2 = numbers::get_u16(s, a2);
+    let d3 = numbers::get_u16(s, a3);
+    let d4 = numbers::get_u16(s, a4);
+    let d5 = numbers::get_u16(s, a5);
+    let d6 = numbers::get_u16(s, a6);
     [d0, d1, d2, d3, d4, d5, d6]
 }
 
@@ -94,8 +94,8 @@ pub fn read_vote(s: &[u8], at: usize) -> Vote
     let a1 = at + BALLOT;
     let a2 = a1 + STATUS;
     let a3 = a2 + COMMAND;
-    let voted = num::get_u32(s, at);
-    let status = num::get_u8(s, a1);
+    let voted = numbers::get_u32(s, at);
+    let status = numbers::get_u8(s, a1);
     let command = read_command(s, a2);
     let deps = read_deps(s, a3);
     Vote {
@@ -112,22 +112,22 @@ pub fn write_command(s: &mut [u8], at: usize, c: Command)
 {
     let op = c.op;
     let b = op_byte(op);
-    num::put_u8(&mut *s, at, b);
-    num::put_u32(&mut *s, at + OP, c.key);
-    num::put_u64(&mut *s, at + EDIT_AT, c.edit);
+    numbers::put_u8(&mut *s, at, b);
+    numbers::put_u32(&mut *s, at + OP, c.key);
+    numbers::put_u64(&mut *s, at + EDIT_AT, c.edit);
 }
 
 pub fn write_deps(s: &mut [u8], at: usize, d: [u16; 7])
     requires { ⌜ at + 14 ≤ length (now s) ⌝ }
     ensures { λ _. ⌜ now (s .exit) ≡ splice (now (s .entry)) at (depsBytes d) ⌝ }
 {
-    num::put_u16(&mut *s, at, d[0]);
-    num::put_u16(&mut *s, at + 2, d[1]);
-    num::put_u16(&mut *s, at + 4, d[2]);
-    num::put_u16(&mut *s, at + 6, d[3]);
-    num::put_u16(&mut *s, at + 8, d[4]);
-    num::put_u16(&mut *s, at + 10, d[5]);
-    num::put_u16(&mut *s, at + 12, d[6]);
+    numbers::put_u16(&mut *s, at, d[0]);
+    numbers::put_u16(&mut *s, at + 2, d[1]);
+    numbers::put_u16(&mut *s, at + 4, d[2]);
+    numbers::put_u16(&mut *s, at + 6, d[3]);
+    numbers::put_u16(&mut *s, at + 8, d[4]);
+    numbers::put_u16(&mut *s, at + 10, d[5]);
+    numbers::put_u16(&mut *s, at + 12, d[6]);
 }
 
 pub fn write_vote(s: &mut [u8], at: usize, v: Vote)
@@ -136,8 +136,8 @@ pub fn write_vote(s: &mut [u8], at: usize, v: Vote)
 {
     let command = v.command;
     let deps = v.deps;
-    num::put_u32(&mut *s, at, v.voted);
-    num::put_u8(&mut *s, at + BALLOT, v.status);
+    numbers::put_u32(&mut *s, at, v.voted);
+    numbers::put_u8(&mut *s, at + BALLOT, v.status);
     write_command(&mut *s, at + COMMAND_AT, command);
     write_deps(&mut *s, at + DEPS_AT, deps);
 }

@@ -7,7 +7,7 @@ use native.Mathlib.Omega.{arith}
 use lib.ListN.{length, take, drop, getD}
 use lib.Dec.{eqb}
 use borrow.Author.Tests.{eqb-true, not-true}
-use Rattle.num.proofs.Laws.{splice-same}
+use Rattle.numbers.proofs.Laws.{splice-same}
 use Rattle.paper.specs.Instance.{instanceOk}
 use Rattle.paper.specs.declared.Record.{Record}
 use Rattle.rules.specs.declared.First.{First}

@@ -7,8 +7,8 @@ use mathlib.Core.List.{List, [], _∷_, _++_, map, List·Memᴰ, List·Memᴰ·h
 use native.Mathlib.Omega.{arith}
 use lib.ListN.{length, take, drop, length-append}
 use lib.Seq.{take-at, drop-at}
-use Rattle.num.specs.Num.{splice}
-use Rattle.num.proofs.Laws.{splice-same}
+use Rattle.numbers.specs.Num.{splice}
+use Rattle.numbers.proofs.Laws.{splice-same}
 use Rattle.paper.specs.Setup.{setupOk}
 use Rattle.paper.specs.Message.{kindOf}
 use Rattle.paper.specs.Valid.{valid}

@@ -16,9 +16,9 @@ use Rattle.rules.specs.Events.{onMessage}
 use Rattle.wire.specs.Wire.{messageAt, validBytes}
 use Rattle.wire.specs.Calls as wire
 use Rattle.seen.specs.Records.{recordsIn}
-use Rattle.num.specs.Num.{splice}
+use Rattle.numbers.specs.Num.{splice}
 use Rattle.rules.specs.declared.Step.{Step}
-use Rattle.table.specs.Table.{fits, soundTable, recordIn, putRecord}
+use Rattle.table.specs.Table.{fitsSetup, soundTable, recordIn, putRecord}
 use Rattle.log.specs.declared.Answer.{Answer}
 use Rattle.log.specs.declared.Answer.the-variants.{Event, Refused}
 use Rattle.log.specs.declared.Gate.the-variants.{Open, Shut}
@@ -27,19 +27,19 @@ use Rattle.log.specs.Events.{Outcome, refuse, acted, gateOf, gated, Pass
 
 -- the gate
 module _ (n s c : ℕ) (t : List ℕ) (room : ℕ) where
-  pub gate-1 : fits n s c t ≡ false → Shut why.Setup ≡ gateOf n s c t room
+  pub gate-1 : fitsSetup n s c t ≡ false → Shut why.Setup ≡ gateOf n s c t room
   unfolding gateOf
   gate-1 p = rw p
 
-  pub gate-11 : fits n s c t ≡ true → soundTable n s c t ≡ false → Shut why.Unsound ≡ gateOf n s c t room
+  pub gate-11 : fitsSetup n s c t ≡ true → soundTable n s c t ≡ false → Shut why.Unsound ≡ gateOf n s c t room
   unfolding gateOf
   gate-11 p q = rw (p, q)
 
-  pub gate-2 : fits n s c t ≡ true → soundTable n s c t ≡ true → room < 256 → Shut why.Room ≡ gateOf n s c t room
+  pub gate-2 : fitsSetup n s c t ≡ true → soundTable n s c t ≡ true → room < 256 → Shut why.Room ≡ gateOf n s c t room
   unfolding gateOf
   gate-2 p q r = rw (p, q, lt-ltb room 256 r)
 
-  pub gate-open : fits n s c t ≡ true → soundTable n s c t ≡ true → 256 ≤ room → Open ≡ gateOf n s c t room
+  pub gate-open : fitsSetup n s c t ≡ true → soundTable n s c t ≡ true → 256 ≤ room → Open ≡ gateOf n s c t room
   unfolding gateOf
   gate-open p q r = rw (p, q, le-ltb room 256 r)
 
@@ -48,9 +48,9 @@ clash : {A : Type 0} (r : Refusal) → Open ≡ Shut r → A
 clash r e = let z : _≡_ {A = ℕ} 0 1 = cc in absurd (omega arith)
 
 pub passed : (n s c : ℕ) (t : List ℕ) (room : ℕ) → Open ≡ gateOf n s c t room → Passed n s c t room
-passed n s c t room e = go (fits n s c t) (soundTable n s c t) (ltb room 256) refl refl refl
+passed n s c t room e = go (fitsSetup n s c t) (soundTable n s c t) (ltb room 256) refl refl refl
   where
-    go : (a b d : Bool) → fits n s c t ≡ a → soundTable n s c t ≡ b → ltb room 256 ≡ d → Passed n s c t room
+    go : (a b d : Bool) → fitsSetup n s c t ≡ a → soundTable n s c t ≡ b → ltb room 256 ≡ d → Passed n s c t room
     go true true false p q r = record { setup = p; sound = q; long = ltb-false room 256 r }
     go true true true p q r = clash why.Room (e ∙ sym (gate-2 n s c t room p q (ltb-true room 256 r)))
     go true false d p q r = clash why.Unsound (e ∙ sym (gate-11 n s c t room p q))
@@ -85,8 +85,8 @@ acted-is s t out o j e a b c = (
   ),
 )
 
-pub setup-of : (n s c : ℕ) (t : List ℕ) → fits n s c t ≡ true → setupOk n s c ≡ true
-unfolding fits
+pub setup-of : (n s c : ℕ) (t : List ℕ) → fitsSetup n s c t ≡ true → setupOk n s c ≡ true
+unfolding fitsSetup
 setup-of n s c t h = and-true (setupOk n s c) _ h .0
 
 -- a received message: 3 exactly for bytes that are not valid, then 10. Past the gate the reader says nothing else
@@ -107,7 +107,7 @@ receive-open n s c t out b p = go (validBytes n s c b) refl
     go false e = rw (p, e)
 
 -- a setup has three copies or more
-pub three : (n s c : ℕ) (t : List ℕ) → fits n s c t ≡ true → 3 ≤ n
+pub three : (n s c : ℕ) (t : List ℕ) → fitsSetup n s c t ≡ true → 3 ≤ n
 unfolding setupOk
 three n s c t h = go (eqb n 3) (eqb n 5) refl refl (and-true (copiesOk n) (numbersOk s) (and-true (copiesOk n && numbersOk s) (copyOk n c) (setup-of n s c t h) .0) .0)
   where

@@ -9,10 +9,10 @@ use Rattle.paper.specs.Setup.{setupOk}
 use Rattle.paper.specs.Message.{kindOf}
 use Rattle.paper.specs.Vote.{member}
 use Rattle.paper.specs.declared.Message.{Message}
-use Rattle.num.specs.Num.{Bytes}
+use Rattle.numbers.specs.Num.{Bytes}
 use Rattle.rules.specs.declared.Step.{Step}
 use Rattle.rules.specs.Events.{addressed, messagesFrom}
-use Rattle.table.specs.Table.{fits, soundTable}
+use Rattle.table.specs.Table.{fitsSetup, soundTable}
 use Rattle.table.proofs.Laws.{names}
 use Rattle.table.proofs.Round.{record-sound, fits-in}
 use Rattle.wire.specs.Wire.{lengthOf, messageBytes}
@@ -23,7 +23,7 @@ use Rattle.closed.proofs.Closed.{room}
 use Rattle.log.specs.Out.{allBytes, outBytes}
 
 -- a sound table's records are sound and fit
-pub sound-records : (n s c : ℕ) (t : List ℕ) → Bytes t → fits n s c t ≡ true → soundTable n s c t ≡ true → SoundRecords n s c (recordsIn s t)
+pub sound-records : (n s c : ℕ) (t : List ℕ) → Bytes t → fitsSetup n s c t ≡ true → soundTable n s c t ≡ true → SoundRecords n s c (recordsIn s t)
 sound-records n s c t b f h o j i =
     record { sound = record-sound n s c t h o j (names n s c t o j f i); fits = fits-in s t o j b }
 

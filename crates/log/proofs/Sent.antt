@@ -6,8 +6,8 @@ use Prim.Native.Nat.{ℕ, zero, suc, _+_, _-_, _≤_, _<_}
 use native.Mathlib.Omega.{arith}
 use lib.ListN.{length, take, drop, length-append, length-drop}
 use lib.Seq.{take-add, drop-drop, take-at, drop-at, take-all, length-take-le}
-use Rattle.num.specs.Num.{splice}
-use Rattle.num.proofs.Laws.{splice-step, splice-nil}
+use Rattle.numbers.specs.Num.{splice}
+use Rattle.numbers.proofs.Laws.{splice-step, splice-nil}
 use Rattle.paper.specs.Message.{kindOf}
 use Rattle.paper.specs.Vote.{member}
 use Rattle.paper.specs.declared.Message.{Message}

@@ -6,7 +6,7 @@ use mathlib.Core.Bool.{Bool, true, _||_, not, cond}
 use mathlib.Core.List.{List}
 use lib.Dec.{ltb, eqb}
 use lib.ListN.{length}
-use Rattle.num.specs.Num.{splice}
+use Rattle.numbers.specs.Num.{splice}
 use Rattle.codec.specs.Parts.{opOf}
 use Rattle.paper.specs.Instance.{instanceOk}
 use Rattle.paper.specs.Refusal.{numberOf}
@@ -23,7 +23,7 @@ use Rattle.rules.specs.Events.{requestNumber, onRequest, onMessage, onRecover, 
 use Rattle.wire.specs.declared.Reading.{Reading}
 use Rattle.wire.specs.declared.Reading.the-variants as reading
 use Rattle.wire.specs.Calls as wire
-use Rattle.table.specs.Table.{fits, soundTable, recordIn, putRecord}
+use Rattle.table.specs.Table.{fitsSetup, soundTable, recordIn, putRecord}
 use Rattle.seen.specs.Records.{recordsIn}
 use Rattle.log.specs.declared.Answer.{Answer}
 use Rattle.log.specs.declared.Answer.the-variants.{Event, Refused}
@@ -51,7 +51,7 @@ acted s t out o j x =
 -- 1, 11, then 2
 unfoldable pub gateOf : ℕ → ℕ → ℕ → List ℕ → ℕ → Gate
 gateOf n s c t room =
-    cond (not (fits n s c t)) (Shut why.Setup) (cond (not (soundTable n s c t)) (Shut why.Unsound) (cond (ltb room 256) (Shut why.Room) Open))
+    cond (not (fitsSetup n s c t)) (Shut why.Setup) (cond (not (soundTable n s c t)) (Shut why.Unsound) (cond (ltb room 256) (Shut why.Room) Open))
 
 abbrev pub through : Gate → List ℕ → List ℕ → Outcome → Outcome
 through Open t out rest = rest
@@ -138,6 +138,6 @@ answerWritten (Refused r) = 0
 
 -- what a call past the gate rests on
 pub record Passed (n s c : ℕ) (t : List ℕ) (room : ℕ) : Type 0 where
-  pub setup : fits n s c t ≡ true
+  pub setup : fitsSetup n s c t ≡ true
   pub sound : soundTable n s c t ≡ true
   pub long : 256 ≤ room

@@ -6,7 +6,7 @@ use table::records::store;
 ghost use mathlib.Core.Path.{_≡_};
 ghost use Prim.Native.Nat.{_≤_, _<_};
 ghost use lib.ListN.{length};
-ghost use Rattle.num.specs.Num.{splice};
+ghost use Rattle.numbers.specs.Num.{splice};
 ghost use Rattle.table.specs.Sizes.{Has};
 ghost use Rattle.table.specs.Table.{putRecord};
 ghost use Rattle.log.specs.Out.{outBytes};

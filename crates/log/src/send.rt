@@ -3,13 +3,13 @@ use nouns::logic::wide8;
 use nouns::message::kind_of;
 use nouns::vote::member;
 use paper::Message;
-use wire::encode;
 use wire::length_of;
+use wire::message_bytes;
 ghost use mathlib.Core.Path.{_≡_};
 ghost use mathlib.Core.Bool.{cond};
 ghost use Prim.Native.Nat.{_+_, _≤_, _<_};
 ghost use lib.ListN.{length};
-ghost use Rattle.num.specs.Num.{splice};
+ghost use Rattle.numbers.specs.Num.{splice};
 ghost use Rattle.paper.specs.Message.{kindOf};
 ghost use Rattle.rules.specs.Events.{addressed, messagesFrom};
 ghost use Rattle.paper.specs.Vote.{member};
@@ -58,7 +58,7 @@ fn send_one(out: &mut [u8], at: usize, q: usize, to: u8, m: Message) -> usize
     if !member(q, to) {
         return at;
     }
-    encode(out, at, addressed(m, q));
+    message_bytes(out, at, addressed(m, q));
     at + size_of(m)
 }
 

@@ -87,7 +87,7 @@ fn pass_all(n: usize, s: usize, st: &[u8], past: &mut [u8]) -> usize
 }
 
 // The one at a place was handed out, or reaches p.k.
-fn passes(h: &[u8], st: &[u8], p: usize, k: usize, y: usize) -> bool
+fn passes_at(h: &[u8], st: &[u8], p: usize, k: usize, y: usize) -> bool
     requires { ⌜ (length (now h) ≡ 6272) × (length (now st) ≡ 448) × (p < 7) × (y < 448) ⌝ }
     ensures { λ r. ⌜ r ≡ passesAt (now (h .entry)) (now (st .entry)) p k y ⌝ }
 {
@@ -103,7 +103,7 @@ fn row_holder(h: &[u8], st: &[u8], p: usize, k: usize, q: usize, from: usize, to
     let mut i = from;
     while i < top {
         let y = base + i;
-        if !passes(h, st, p, k, y) {
+        if !passes_at(h, st, p, k, y) {
             return y;
         }
         i += 1;
@@ -222,7 +222,7 @@ fn is_held(st: &[u8], seen: usize) -> bool
 
 // p.k is settled, was not handed out, and all let it out. One that was held back is asked again where it was, once that one was
 // handed out: what let it out still does.
-fn is_next(
+fn ready_in(
     n: usize,
     s: usize,
     h: &[u8],
@@ -251,7 +251,7 @@ fn is_next(
 }
 
 // The lowest that is.
-pub fn next_out(n: usize, s: usize, h: &[u8], st: &[u8], know: &mut [u16], past: &mut [u8]) -> First
+pub fn next_in(n: usize, s: usize, h: &[u8], st: &[u8], know: &mut [u16], past: &mut [u8]) -> First
     requires { ⌜ Going n s (now h) (now st) (now know) (now past) ⌝ }
     ensures says { λ r. ⌜ r ≡ nextIn n s (now (h .entry)) (now (st .entry)) ⌝ }
     ensures kept { λ _. ⌜ Going n s (now (h .entry)) (now (st .entry)) (now (know .exit)) (now (past .exit)) ⌝ }
@@ -260,7 +260,7 @@ pub fn next_out(n: usize, s: usize, h: &[u8], st: &[u8], know: &mut [u16], past:
     let first = pass_all(n, s, st, &mut *past) + 1;
     'walk: for j in first..=s {
         for o in 0..n {
-            if is_next(n, s, h, st, &mut *know, &*past, o, j) {
+            if ready_in(n, s, h, st, &mut *know, &*past, o, j) {
                 found = First::At {
                     owner: o,
                     number: j,

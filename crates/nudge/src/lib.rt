@@ -1,5 +1,4 @@
 // "Nudge I", as a public call.
-use lead::nudge::on_nudge;
 use log::Answer;
 use log::Gate;
 use log::act::act;
@@ -39,7 +38,7 @@ fn nudge_open(
     if both(!is_committed(r), equal(wide8(r.phase), 0)) {
         return Answer::Refused(Refusal::NudgeIdle);
     }
-    let x = on_nudge(n, byte(c), byte(o), short(j), r);
+    let x = lead::again::nudge(n, byte(c), byte(o), short(j), r);
     act(t, out, n, s, o, j, x)
 }
 

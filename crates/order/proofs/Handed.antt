@@ -4,10 +4,10 @@ use mathlib.Core.Path.{_≡_, refl, ap, _∙_}
 use mathlib.Core.List.{List}
 use native.Mathlib.Omega.{arith}
 use lib.ListN.{length, getD, replicate, length-replicate}
-use Rattle.num.specs.Num.{splice}
+use Rattle.numbers.specs.Num.{splice}
 use Rattle.codec.specs.Parts.{depsAt}
 use Rattle.paper.specs.declared.Refusal.{Refusal}
-use Rattle.num.specs.Num.{Bytes}
+use Rattle.numbers.specs.Num.{Bytes}
 use Rattle.table.specs.Table.{Whole}
 use Rattle.table.specs.Calls.{judged}
 use Rattle.table.specs.declared.Judging.the-variants as judging

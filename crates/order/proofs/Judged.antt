@@ -16,7 +16,7 @@ use Rattle.paper.specs.declared.Refusal.{Refusal}
 use Rattle.paper.specs.declared.Refusal.the-variants as why
 use Rattle.table.specs.Place.{tableLength}
 use Rattle.table.specs.Sizes.{Names}
-use Rattle.table.specs.Table.{fits, soundTable, recordIn}
+use Rattle.table.specs.Table.{fitsSetup, soundTable, recordIn}
 use Rattle.table.specs.Calls.{judged}
 use Rattle.table.specs.declared.Judging.the-variants as judging
 use Rattle.table.proofs.Laws.{sizes}
@@ -45,9 +45,9 @@ clash r e = let z : _≡_ {A = ℕ} 0 1 = cc in absurd (omega arith)
 
 pub passed : (n s c : ℕ) (t : List ℕ) → judging.Sound ≡ judged n s c t → Judged n s c t
 unfolding judged
-passed n s c t e = go (fits n s c t) (soundTable n s c t) refl refl
+passed n s c t e = go (fitsSetup n s c t) (soundTable n s c t) refl refl
   where
-    go : (a b : Bool) → fits n s c t ≡ a → soundTable n s c t ≡ b → Judged n s c t
+    go : (a b : Bool) → fitsSetup n s c t ≡ a → soundTable n s c t ≡ b → Judged n s c t
     go true true p q = record { setup = p; sound = q }
     go true false p q = clash why.Unsound (e ∙ rw (p, q))
     go false b p q = clash why.Setup (e ∙ rw p)

@@ -9,7 +9,7 @@ use native.Mathlib.Numerals.{add-one}
 use lib.Dec.{leb, eqb}
 use lib.ListN.{length, set, take, drop, length-set, take-append-drop}
 use lib.Seq.{take-suc-set, drop-set-lt, length-take-le, drop-drop, append-snoc}
-use Rattle.num.specs.Num.{splice}
+use Rattle.numbers.specs.Num.{splice}
 use Rattle.paper.specs.Logic.{implies}
 use Rattle.rules.specs.declared.First.the-variants.{At, Nowhere}
 use Rattle.rules.specs.Seen.{Records}

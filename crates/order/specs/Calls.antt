@@ -4,7 +4,7 @@ use Prim.Native.Nat.{ℕ, zero, suc}
 use mathlib.Core.Bool.{not, cond}
 use mathlib.Core.List.{List}
 use lib.ListN.{length}
-use Rattle.num.specs.Num.{splice}
+use Rattle.numbers.specs.Num.{splice}
 use Rattle.paper.specs.Instance.{instanceOk}
 use Rattle.paper.specs.Refusal.{numberOf}
 use Rattle.paper.specs.declared.Refusal.the-variants.{Instance}

@@ -2,7 +2,7 @@
 use crate::Handing;
 use crate::codes::code_of;
 use crate::states::settle_all;
-use next::next_out;
+use next::next_in;
 use rows::slot_of;
 use rules::First;
 use sweep::reach_all;
@@ -12,7 +12,7 @@ use table::records::put_mark;
 ghost use mathlib.Core.Path.{_≡_};
 ghost use Prim.Native.Nat.{_+_, _<_};
 ghost use lib.ListN.{length};
-ghost use Rattle.num.specs.Num.{splice};
+ghost use Rattle.numbers.specs.Num.{splice};
 ghost use Rattle.table.specs.Table.{Judged};
 ghost use Rattle.order.specs.States.{Marking, Listing};
 ghost use Rattle.order.specs.Calls.{markedIn, handedTable, handedCodes, handedOpen, handed};
@@ -43,7 +43,7 @@ fn list_all(
 {
     let mut count = 0;
     while count < list.len() {
-        let found = next_out(n, s, h, &*st, &mut *know, &mut *past);
+        let found = next_in(n, s, h, &*st, &mut *know, &mut *past);
         let First::At { owner, number } = found else {
             return count;
         };

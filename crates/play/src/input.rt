@@ -1,5 +1,5 @@
 // Reads the script and plays it line by line, until a line cannot be played.
-use crate::step::play_line;
+use crate::line::play_line;
 use course::turn::Turn;
 use course::turn::went;
 use say::reason::put_reason;

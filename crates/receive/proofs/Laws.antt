@@ -24,7 +24,7 @@ use Rattle.rules.specs.PrepareOk.{afreshCommand, decide, quorum, preparedBy, on
 use Rattle.rules.specs.Received.{conflict, refused10, receive}
 use Rattle.rules.specs.Events.{onMessage}
 use Rattle.rules.specs.Seen.{seen}
-use Rattle.num.specs.Num.{Bytes}
+use Rattle.numbers.specs.Num.{Bytes}
 use Rattle.table.specs.Sizes.{Names}
 use Rattle.table.specs.Table.{recordIn}
 use Rattle.table.proofs.Laws.{sizes, names}

@@ -6,7 +6,7 @@ use Prim.Native.Nat.{ℕ, zero, suc, _≤_}
 use native.Mathlib.Omega.{arith}
 use lib.Dec.{leb, eqb}
 use borrow.Author.Tests.{lt-ltb, eq-eqb, ne-eqb}
-use Rattle.num.specs.Num.{numAt}
+use Rattle.numbers.specs.Num.{numAt}
 use Rattle.codec.specs.Parts.{opOf, commandAt, depsAt, voteAt}
 use Rattle.paper.specs.Command.{opNumber, commandOk}
 use Rattle.paper.specs.Logic.{allBelow}

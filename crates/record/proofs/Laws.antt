@@ -7,8 +7,8 @@ use native.Mathlib.Omega.{arith}
 use native.Mathlib.Numerals.{add-one}
 use lib.ListN.{length, length-append, take, getD}
 use lib.Seq.{take-suc, length-take-le}
-use Rattle.num.specs.Num.{numAt, splice}
-use Rattle.num.proofs.Laws.{splice-step}
+use Rattle.numbers.specs.Num.{numAt, splice}
+use Rattle.numbers.proofs.Laws.{splice-step}
 use Rattle.codec.specs.Parts.{commandAt, depsAt, voteAt, voteBytes}
 use lib.Dec.{leb, ltb}
 use Rattle.paper.specs.Logic.{allBelow}

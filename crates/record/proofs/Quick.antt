@@ -9,8 +9,8 @@ use lib.Dec.{eqb}
 use lib.Pow.{pow-pos}
 use lib.ListN.{length, getD, replicate}
 use borrow.Author.Tests.{eqb-true, eqb-false, eq-eqb, ne-eqb, lt-ltb, le-leb}
-use Rattle.num.specs.Num.{numAt}
-use Rattle.num.specs.Fields.{sizeOf, fieldsAt}
+use Rattle.numbers.specs.Num.{numAt}
+use Rattle.numbers.specs.Fields.{sizeOf, fieldsAt}
 use Rattle.codec.specs.Parts.{voteWidths, voteOf, voteAt}
 use Rattle.paper.specs.Logic.{allBelow}
 use Rattle.paper.specs.Vote.{noVote, sameVote, member}

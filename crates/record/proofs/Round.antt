@@ -7,8 +7,8 @@ use native.Mathlib.Omega.{arith}
 use lib.ListN.{length, take, drop, length-append}
 use lib.Seq.{take-all, take-add, drop-drop}
 use borrow.Author.Tests.{leb-true}
-use Rattle.num.specs.Num.{numAt, Bytes}
-use Rattle.num.proofs.Laws.{numAt-bytesOf, bytesOf-numAt}
+use Rattle.numbers.specs.Num.{numAt, Bytes}
+use Rattle.numbers.proofs.Laws.{numAt-bytesOf, bytesOf-numAt}
 use Rattle.codec.specs.Parts.{voteAt, voteBytes}
 use Rattle.codec.proofs.Laws.{voteAt-voteBytes, voteBytes-voteAt}
 use Rattle.paper.specs.Fits.{VotesFit, RecordFits}

@@ -8,9 +8,9 @@ use native.Mathlib.Omega.{arith}
 use lib.ListN.{length, getD, set, replicate}
 use lib.Seq.{getD-append-add}
 use borrow.Author.Tests.{le-leb}
-use Rattle.num.specs.Num.{numAt, bytesOf}
-use Rattle.num.specs.Fields.{fieldsBytes}
-use Rattle.num.proofs.Laws.{numAt-small}
+use Rattle.numbers.specs.Num.{numAt, bytesOf}
+use Rattle.numbers.specs.Fields.{fieldsBytes}
+use Rattle.numbers.proofs.Laws.{numAt-small}
 use Rattle.codec.specs.Parts.{voteWidths, voteNumbers, voteAt, voteBytes}
 use Rattle.codec.proofs.Laws.{op-small, voteAt-fits}
 use Rattle.paper.specs.Fits.{VotesFit, RecordFits}
@@ -20,7 +20,7 @@ use Rattle.paper.specs.Vote.{blank}
 use Rattle.paper.specs.declared.Vote.{Vote}
 use Rattle.paper.specs.declared.Record.{Record}
 use Rattle.record.specs.Layout.{voteLength, opInVote, votePlace, markPlace, phasePlace, setPlace, repliesPlace, replyPlace, recordLength, withMark, votesAt, votesBytes, recordAt, frontBytes, recordBytes}
-use Rattle.num.specs.Num.{Bytes}
+use Rattle.numbers.specs.Num.{Bytes}
 use Rattle.record.specs.Part.{opFits, opsFit, soundPart}
 use Rattle.record.proofs.Laws.{length-frontBytes, length-voteBytes}
 use Rattle.record.proofs.Round.{recordAt-recordBytes}

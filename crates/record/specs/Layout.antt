@@ -2,8 +2,8 @@
 -- Assumes nothing.
 use Prim.Native.Nat.{ℕ, zero, suc, _+_, _*_}
 use mathlib.Core.List.{List, [], _∷_, _++_}
-use Rattle.num.specs.Num.{numAt, bytesOf}
-use Rattle.num.specs.Fields.{sizeOf}
+use Rattle.numbers.specs.Num.{numAt, bytesOf}
+use Rattle.numbers.specs.Fields.{sizeOf}
 use Rattle.codec.specs.Parts.{commandWidths, voteWidths, voteAt, voteBytes}
 use Rattle.paper.specs.declared.Vote.{Vote}
 use Rattle.paper.specs.declared.Record.{Record}

@@ -5,7 +5,7 @@ use mathlib.Core.Bool.{Bool, _&&_}
 use mathlib.Core.List.{List}
 use lib.Dec.{leb, eqb}
 use lib.ListN.{getD}
-use Rattle.num.specs.Num.{numAt}
+use Rattle.numbers.specs.Num.{numAt}
 use Rattle.paper.specs.Logic.{allBelow}
 use Rattle.paper.specs.Command.{commandOk}
 use Rattle.paper.specs.Deps.{depsOk}

@@ -15,7 +15,7 @@ pub fn joined_in(b: &[u8]) -> u32
     requires { ⌜ recordLength ≤ length (now b) ⌝ }
     ensures { λ r. ⌜ r ≡ recordAt (now (b .entry)) .joined ⌝ }
 {
-    num::get_u32(b, JOINED)
+    numbers::get_u32(b, JOINED)
 }
 
 pub fn vote_in(b: &[u8]) -> Vote
@@ -29,7 +29,7 @@ pub fn status_in(b: &[u8]) -> u8
     requires { ⌜ recordLength ≤ length (now b) ⌝ }
     ensures { λ r. ⌜ r ≡ recordAt (now (b .entry)) .vote .status ⌝ }
 {
-    num::get_u8(b, STATUS)
+    numbers::get_u8(b, STATUS)
 }
 
 pub fn deps_in(b: &[u8]) -> [u16; 7]
@@ -43,12 +43,12 @@ pub fn mark_in(b: &[u8]) -> u8
     requires { ⌜ recordLength ≤ length (now b) ⌝ }
     ensures { λ r. ⌜ r ≡ recordAt (now (b .entry)) .mark ⌝ }
 {
-    num::get_u8(b, MARK)
+    numbers::get_u8(b, MARK)
 }
 
 pub fn phase_in(b: &[u8]) -> u8
     requires { ⌜ recordLength ≤ length (now b) ⌝ }
     ensures { λ r. ⌜ r ≡ recordAt (now (b .entry)) .phase ⌝ }
 {
-    num::get_u8(b, PHASE)
+    numbers::get_u8(b, PHASE)
 }

@@ -28,7 +28,7 @@ use sound::phases_ok;
 ghost use mathlib.Core.Path.{_≡_};
 ghost use Prim.Native.Nat.{_+_, _*_, _≤_, _<_};
 ghost use lib.ListN.{length};
-ghost use Rattle.num.specs.Num.{splice};
+ghost use Rattle.numbers.specs.Num.{splice};
 ghost use Rattle.paper.specs.Logic.{allBelow};
 ghost use Rattle.paper.specs.Sound.{phasesOk};
 ghost use Rattle.paper.specs.Deps.{depsOk};
@@ -64,11 +64,11 @@ pub fn read_record(b: &[u8]) -> Record
     requires { ⌜ recordLength ≤ length (now b) ⌝ }
     ensures { λ r. ⌜ r ≡ recordAt (now (b .entry)) ⌝ }
 {
-    let joined = num::get_u32(b, JOINED);
+    let joined = numbers::get_u32(b, JOINED);
     let vote = codec::read_vote(b, VOTE);
-    let mark = num::get_u8(b, MARK);
-    let phase = num::get_u8(b, PHASE);
-    let set = num::get_u8(b, SET);
+    let mark = numbers::get_u8(b, MARK);
+    let phase = numbers::get_u8(b, PHASE);
+    let set = numbers::get_u8(b, SET);
     let replies = read_votes(b, REPLIES);
     Record {
         joined,
@@ -96,11 +96,11 @@ fn write_front(b: &mut [u8], r: Record)
     ensures { λ _. ⌜ now (b .exit) ≡ splice (now (b .entry)) 0 (frontBytes r) ⌝ }
 {
     let vote = r.vote;
-    num::put_u32(&mut *b, JOINED, r.joined);
+    numbers::put_u32(&mut *b, JOINED, r.joined);
     codec::write_vote(&mut *b, VOTE, vote);
-    num::put_u8(&mut *b, MARK, r.mark);
-    num::put_u8(&mut *b, PHASE, r.phase);
-    num::put_u8(&mut *b, SET, r.set);
+    numbers::put_u8(&mut *b, MARK, r.mark);
+    numbers::put_u8(&mut *b, PHASE, r.phase);
+    numbers::put_u8(&mut *b, SET, r.set);
 }
 
 pub fn write_record(b: &mut [u8], r: Record)
@@ -112,11 +112,11 @@ pub fn write_record(b: &mut [u8], r: Record)
     write_votes(&mut *b, REPLIES, replies);
 }
 
-fn op_ok(b: &[u8], at: usize) -> bool
+fn op_fits(b: &[u8], at: usize) -> bool
     requires { ⌜ at + voteLength ≤ length (now b) ⌝ }
     ensures { λ r. ⌜ r ≡ opFits (now (b .entry)) at ⌝ }
 {
-    at_most(wide8(num::get_u8(b, at + codec::COMMAND_AT)), 2)
+    at_most(wide8(numbers::get_u8(b, at + codec::COMMAND_AT)), 2)
 }
 
 // The op byte, and the command: a no-op has zero key and edit.
@@ -124,23 +124,23 @@ fn command_fits(b: &[u8]) -> bool
     requires { ⌜ recordLength ≤ length (now b) ⌝ }
     ensures { λ r. ⌜ r ≡ commandFits (now (b .entry)) ⌝ }
 {
-    let op = num::get_u8(b, COMMAND);
+    let op = numbers::get_u8(b, COMMAND);
     if op != 0 {
         return op <= 2;
     }
-    let key = num::get_u32(b, KEY);
+    let key = numbers::get_u32(b, KEY);
     if key != 0 {
         return false;
     }
-    let edit = num::get_u64(b, EDIT);
+    let edit = numbers::get_u64(b, EDIT);
     edit == 0
 }
 
-fn none_ok(b: &[u8]) -> bool
+fn none_is_blank_in(b: &[u8]) -> bool
     requires { ⌜ recordLength ≤ length (now b) ⌝ }
     ensures { λ r. ⌜ r ≡ noneIsBlank (voteAt (now (b .entry)) votePlace) ⌝ }
 {
-    let status = num::get_u8(b, STATUS);
+    let status = numbers::get_u8(b, STATUS);
     if status != 0 {
         return true;
     }
@@ -148,7 +148,7 @@ fn none_ok(b: &[u8]) -> bool
 }
 
 // With seven copies every entry has the same limit: said as a number, it is compared with as it stands.
-fn deps_fit(b: &[u8], n: usize, s: usize) -> bool
+fn deps_ok_in(b: &[u8], n: usize, s: usize) -> bool
     requires { ⌜ recordLength ≤ length (now b) ⌝ }
     ensures { λ r. ⌜ r ≡ depsOk n s (depsAt (now (b .entry)) depsPlace) ⌝ }
 {
@@ -164,19 +164,19 @@ fn front_ok(b: &[u8], n: usize, s: usize) -> bool
     requires { ⌜ recordLength ≤ length (now b) ⌝ }
     ensures { λ r. ⌜ r ≡ frontOk n s (now (b .entry)) ⌝ }
 {
-    if !ballots_ok(n, num::get_u32(b, JOINED), num::get_u32(b, VOTE)) {
+    if !ballots_ok(n, numbers::get_u32(b, JOINED), numbers::get_u32(b, VOTE)) {
         return false;
     }
     if !command_fits(b) {
         return false;
     }
-    if !marked_ok(num::get_u8(b, STATUS), num::get_u8(b, MARK)) {
+    if !marked_ok(numbers::get_u8(b, STATUS), numbers::get_u8(b, MARK)) {
         return false;
     }
-    if !none_ok(b) {
+    if !none_is_blank_in(b) {
         return false;
     }
-    deps_fit(b, n, s)
+    deps_ok_in(b, n, s)
 }
 
 // What holds in any phase.
@@ -187,36 +187,36 @@ fn plain_ok(b: &[u8], n: usize, s: usize) -> bool
     if !front_ok(b, n, s) {
         return false;
     }
-    phased_ok(n, num::get_u8(b, PHASE), num::get_u8(b, SET))
+    phased_ok(n, numbers::get_u8(b, PHASE), numbers::get_u8(b, SET))
 }
 
 // What the phase asks.
-fn phase_ok(b: &[u8], n: usize, c: usize, o: usize) -> bool
+fn phases_ok_in(b: &[u8], n: usize, c: usize, o: usize) -> bool
     requires { ⌜ (recordLength ≤ length (now b)) × (1 ≤ n) × (c < 8) ⌝ }
     ensures { λ r. ⌜ r ≡ phasesOk n c o (recordAt (now (b .entry))) ⌝ }
 {
-    let joined = num::get_u32(b, JOINED);
+    let joined = numbers::get_u32(b, JOINED);
     let v = codec::read_vote(b, VOTE);
-    let phase = num::get_u8(b, PHASE);
-    let set = num::get_u8(b, SET);
+    let phase = numbers::get_u8(b, PHASE);
+    let set = numbers::get_u8(b, SET);
     phases_ok(n, c, o, joined, v, phase, set)
 }
 
 // The place of the reply of copy q.
-fn reply_ok(b: &[u8], n: usize, s: usize, c: usize, q: usize) -> bool
+fn reply_part(b: &[u8], n: usize, s: usize, c: usize, q: usize) -> bool
     requires { ⌜ (recordLength ≤ length (now b)) × (q < 7) ⌝ }
     ensures { λ r. ⌜ r ≡ replyPart n s c (now (b .entry)) q ⌝ }
 {
     let at = REPLIES + codec::VOTE * q;
-    if !op_ok(b, at) {
+    if !op_fits(b, at) {
         return false;
     }
     let v = codec::read_vote(b, at);
-    let set = num::get_u8(b, SET);
+    let set = numbers::get_u8(b, SET);
     if member(q, set) {
-        let joined = num::get_u32(b, JOINED);
+        let joined = numbers::get_u32(b, JOINED);
         let own = codec::read_vote(b, VOTE);
-        let phase = num::get_u8(b, PHASE);
+        let phase = numbers::get_u8(b, PHASE);
         return collected_ok(n, s, c, phase, joined, own, q, v);
     }
     same_vote(v, no_vote())
@@ -229,7 +229,7 @@ fn replies_ok(b: &[u8], n: usize, s: usize, c: usize) -> bool
     let mut left = 7;
     while 0 < left {
         left -= 1;
-        if !reply_ok(b, n, s, c, left) {
+        if !reply_part(b, n, s, c, left) {
             return false;
         }
     }
@@ -253,11 +253,11 @@ fn is_idle(b: &[u8]) -> bool
     requires { ⌜ recordLength ≤ length (now b) ⌝ }
     ensures { λ r. ⌜ r ≡ isIdle (now (b .entry)) ⌝ }
 {
-    let phase = num::get_u8(b, PHASE);
+    let phase = numbers::get_u8(b, PHASE);
     if phase != 0 {
         return false;
     }
-    let set = num::get_u8(b, SET);
+    let set = numbers::get_u8(b, SET);
     if set != 0 {
         return false;
     }
@@ -283,7 +283,7 @@ pub fn sound_part(b: &[u8], n: usize, s: usize, c: usize, o: usize) -> bool
     if !plain_ok(b, n, s) {
         return false;
     }
-    if !phase_ok(b, n, c, o) {
+    if !phases_ok_in(b, n, c, o) {
         return false;
     }
     replies_ok(b, n, s, c)

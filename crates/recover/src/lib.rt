@@ -1,5 +1,4 @@
 // "Recover I", as a public call.
-use lead::recover::on_recover;
 use log::Answer;
 use log::Gate;
 use log::act::act;
@@ -39,7 +38,7 @@ fn recover_open(
     if 4_294_967_288 <= r.joined {
         return Answer::Refused(Refusal::BallotsUsedUp);
     }
-    let x = on_recover(n, byte(c), byte(o), short(j), r);
+    let x = lead::preparing::recover(n, byte(c), byte(o), short(j), r);
     act(t, out, n, s, o, j, x)
 }
 

@@ -24,7 +24,7 @@ use Rattle.seen.specs.Records.{recordsIn}
 use Rattle.closed.proofs.Closed.{request-event}
 use Rattle.log.specs.Out.{outBytes}
 use Rattle.log.specs.Events.{refuse, acted, asked, commandOf, opTaken, Passed, requestOpen}
-use Rattle.num.specs.Num.{Bytes}
+use Rattle.numbers.specs.Num.{Bytes}
 use Rattle.log.proofs.Held.{sound-records, out-short}
 use Rattle.log.proofs.Calls.{setup-of}
 use Rattle.request.specs.Request.{Asking}

@@ -8,7 +8,6 @@ use Rattle.paper.specs.Command.{isNoop, commandOk}
 use Rattle.paper.specs.declared.Command.{Command}
 use Rattle.paper.specs.declared.Record.{Record}
 use Rattle.paper.specs.declared.Refusal.the-variants as why
-use Rattle.table.specs.Table.{fits, soundTable}
 use Rattle.paper.specs.Fits.{CommandFits}
 use Rattle.log.specs.Events.{Passed}
 

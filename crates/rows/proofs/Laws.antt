@@ -5,10 +5,10 @@ use mathlib.Core.List.{List, [], _∷_}
 use native.Mathlib.Omega.{arith}
 use native.Mathlib.Decide.{decLt}
 use lib.ListN.{length, getD, take, drop}
-use Rattle.num.specs.Num.{numAt, splice}
-use Rattle.num.specs.Fields.{fieldsAt}
-use Rattle.num.proofs.Laws.{numAt-part, length-splice, splice-same, splice-before, splice-after}
-use Rattle.num.proofs.Fields.{fieldsAt-fieldsBytes}
+use Rattle.numbers.specs.Num.{numAt, splice}
+use Rattle.numbers.specs.Fields.{fieldsAt}
+use Rattle.numbers.proofs.Laws.{numAt-part, length-splice, splice-same, splice-before, splice-after}
+use Rattle.numbers.proofs.Fields.{fieldsAt-fieldsBytes}
 use Rattle.codec.specs.Parts.{depsAt, depsBytes, depsWidths, depsNumbers}
 use Rattle.codec.proofs.Laws.{deps-are, depsAt-fits}
 use Rattle.paper.specs.Fits.{DepsFit}

@@ -4,7 +4,7 @@ use Prim.Native.Nat.{ℕ, _+_, _*_, _-_, _<_}
 use mathlib.Core.Path.{_≡_}
 use mathlib.Core.List.{List}
 use lib.ListN.{length, getD}
-use Rattle.num.specs.Num.{splice}
+use Rattle.numbers.specs.Num.{splice}
 use Rattle.codec.specs.Parts.{depsAt, depsBytes}
 
 -- 64 places to an owner

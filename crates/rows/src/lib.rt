@@ -24,7 +24,7 @@ pub fn mark_at(h: &[u8], x: usize, o: usize) -> usize
     requires { ⌜ Within (now h) x × (o < 7) ⌝ }
     ensures { λ r. ⌜ r ≡ markAt (now (h .entry)) x o ⌝ }
 {
-    wide16(num::get_u16(h, 14 * x + 2 * o))
+    wide16(numbers::get_u16(h, 14 * x + 2 * o))
 }
 
 pub fn put_row(h: &mut [u8], x: usize, d: [u16; 7])

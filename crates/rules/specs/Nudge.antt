@@ -1,9 +1,11 @@
 -- "Nudge I". Assumes nothing.
 use Prim.Native.Nat.{ℕ}
 use mathlib.Core.Bool.{Bool, _&&_, not, cond}
+use mathlib.Core.List.{List}
 use lib.Dec.{eqb}
 use Rattle.paper.specs.Deps.{noDeps}
 use Rattle.paper.specs.declared.Record.{Record}
+use Rattle.paper.specs.declared.Body.{Body}
 use Rattle.paper.specs.declared.Body.the-variants.{PreAccept, Accept, Commit, Prepare}
 use Rattle.rules.specs.declared.Step.{Step}
 use Rattle.rules.specs.Sets.{others, absent}
@@ -15,12 +17,16 @@ use Rattle.rules.specs.PreAcceptOk.{someEnough}
 abbrev pub nothingToNudge : Record → Bool
 nothingToNudge r = not (isCommitted r) && eqb (r .phase) 0
 
--- the phase's message to those not yet replied
+-- to those not yet replied
+abbrev pub toAbsent : ℕ → ℕ → ℕ → ℕ → Record → Body → List ℕ → Step
+toAbsent n c o j r b d = sending r (absent n c (r .set)) (say c o j (r .joined) b d)
+
+-- the phase's message
 unfoldable pub again : ℕ → ℕ → ℕ → ℕ → Record → Step
 again n c o j r =
-    cond (eqb (r .phase) 1) (sending r (absent n c (r .set)) (say c o j (r .joined) Prepare noDeps))
-    (cond (eqb (r .phase) 2) (sending r (absent n c (r .set)) (say c o j (r .joined) (PreAccept (r .vote .command)) (r .vote .deps)))
-    (sending r (absent n c (r .set)) (say c o j (r .joined) (Accept (r .vote .command)) (r .vote .deps))))
+    cond (eqb (r .phase) 1) (toAbsent n c o j r Prepare noDeps)
+    (cond (eqb (r .phase) 2) (toAbsent n c o j r (PreAccept (r .vote .command)) (r .vote .deps))
+    (toAbsent n c o j r (Accept (r .vote .command)) (r .vote .deps)))
 
 -- phase 2 at ballot 0 with F or more replies goes to accepting
 unfoldable pub nudge : ℕ → ℕ → ℕ → ℕ → Record → Step

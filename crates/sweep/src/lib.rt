@@ -54,7 +54,7 @@ fn beyond(n: usize, s: usize, g: &[u8], h: &mut [u8], x: usize)
 }
 
 // The row of the beginning before.
-fn before(g: &[u8], o: usize, j: usize) -> [u16; 7]
+fn before_in(g: &[u8], o: usize, j: usize) -> [u16; 7]
     requires { ⌜ (length (now g) ≡ 6272) × (o < 7) × (j ≤ 64) ⌝ }
     ensures { λ r. ⌜ r ≡ beforeIn (now (g .entry)) o j ⌝ }
 {
@@ -74,12 +74,12 @@ fn raise(t: &[u8], n: usize, s: usize, g: &mut [u8], h: &mut [u8], o: usize, j: 
     put_row(&mut *h, x, deps_of(t, n, s, o, j));
     beyond(n, s, &*g, &mut *h, x);
     let with_last = join(marks_at(&*g, x), marks_at(&*h, x));
-    let row = join(with_last, before(&*g, o, j));
+    let row = join(with_last, before_in(&*g, o, j));
     put_row(g, x, row);
 }
 
 // The i-th of so many, from the first or from the last.
-fn turn(many: usize, i: usize, back: bool) -> usize
+fn turned(many: usize, i: usize, back: bool) -> usize
     requires { ⌜ i < many ⌝ }
     ensures { λ r. ⌜ r ≡ turned many i back ⌝ }
 {
@@ -92,7 +92,7 @@ fn raise_number(t: &[u8], n: usize, s: usize, g: &mut [u8], h: &mut [u8], j: usi
     ensures raised { λ _. ⌜ Numbered n s (recordsIn s (now (t .entry))) (now (g .entry)) (now (g .exit)) j ⌝ }
 {
     for i in 0..n {
-        raise(t, n, s, &mut *g, &mut *h, turn(n, i, back), j);
+        raise(t, n, s, &mut *g, &mut *h, turned(n, i, back), j);
     }
 }
 
@@ -102,7 +102,7 @@ fn sweep(t: &[u8], n: usize, s: usize, g: &mut [u8], h: &mut [u8], back: bool)
     ensures raised { λ _. ⌜ Swept n s (recordsIn s (now (t .entry))) (now (g .entry)) (now (g .exit)) back ⌝ }
 {
     for i in 0..s {
-        raise_number(t, n, s, &mut *g, &mut *h, turn(s, i, back) + 1, back);
+        raise_number(t, n, s, &mut *g, &mut *h, turned(s, i, back) + 1, back);
     }
 }
 

@@ -4,8 +4,8 @@ use mathlib.Core.List.{List, _++_}
 use Prim.Native.Nat.{ℕ, zero, suc, _+_, _*_, _%_}
 use native.Mathlib.Omega.{arith}
 use lib.ListN.{length, replicate, drop, length-replicate}
-use Rattle.num.specs.Num.{bytesOf, splice}
-use Rattle.num.proofs.Laws.{splice-step}
+use Rattle.numbers.specs.Num.{bytesOf, splice}
+use Rattle.numbers.proofs.Laws.{splice-step}
 use Rattle.table.specs.Place.{headLength, tableLength}
 use Rattle.table.specs.Table.{blankTable}
 use Rattle.table.specs.Sizes.{Sizes}

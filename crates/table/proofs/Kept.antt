@@ -10,7 +10,7 @@ use lib.Dec.{eqb}
 use lib.ListN.{length, getD, take, drop, replicate, length-replicate, length-take, length-drop}
 use lib.Seq.{getD-take, getD-drop, ext-getD}
 use borrow.Author.Tests.{eq-eqb}
-use Rattle.num.specs.Num.{splice}
+use Rattle.numbers.specs.Num.{splice}
 use Rattle.paper.specs.Fits.{RecordFits}
 use Rattle.paper.specs.Setup.{setupOk}
 use Rattle.paper.specs.Instance.{instanceOk}
@@ -19,12 +19,12 @@ use Rattle.paper.specs.Vote.{blank}
 use Rattle.paper.proofs.Laws.{and-true}
 use Rattle.paper.specs.declared.Record.{Record}
 use Rattle.record.specs.Layout.{recordLength, recordAt, recordBytes}
-use Rattle.num.specs.Num.{Bytes}
+use Rattle.numbers.specs.Num.{Bytes}
 use Rattle.record.specs.Part.{soundPart}
 use Rattle.record.proofs.Round.{recordAt-recordBytes}
 use Rattle.record.proofs.Written.{Are, append, written-bytes, all-in, written-sound, blank-bytes}
 use Rattle.table.specs.Place.{headLength, tableLength, placeAt, placeOf, partAt}
-use Rattle.table.specs.Table.{fits, headIs, soundRow, soundTable, blankTable, recordIn, putRecord, Whole, Kept}
+use Rattle.table.specs.Table.{fitsSetup, headIs, soundRow, soundTable, blankTable, recordIn, putRecord, Whole, Kept}
 use Rattle.table.specs.Calls.{partOf, partStart, putPart}
 use Rattle.table.specs.Sizes.{Names}
 use Rattle.table.proofs.Laws.{sizes, names, place-end, setup-bounds}
@@ -90,7 +90,7 @@ module _ (n s c : ℕ) (t : List ℕ) (k : Kept n s c t) (o j : ℕ) (i : instan
   put-bytes = splice-at t (placeOf s o j) (recordBytes r) (k .bytes) (written-bytes r)
 
   pub put-kept : Kept n s c (putRecord s t o j r)
-  unfolding fits soundTable
+  unfolding fitsSetup soundTable
   put-kept = record {
     bytes = put-bytes;
     setup = rw (put-long n s t long o j here r (f .seven)) (k .setup);
@@ -98,13 +98,13 @@ module _ (n s c : ℕ) (t : List ℕ) (k : Kept n s c t) (o j : ℕ) (i : instan
   }
 
 -- what is saved of o.j is the record that stands in the table t
-pub saved-is : (n s c : ℕ) (disk t : List ℕ) (o j : ℕ) → fits n s c t ≡ true → instanceOk n s o j ≡ true → Whole s t o j
+pub saved-is : (n s c : ℕ) (disk t : List ℕ) (o j : ℕ) → fitsSetup n s c t ≡ true → instanceOk n s o j ≡ true → Whole s t o j
     → putPart s disk o j (partOf n s c t o j) ≡ putRecord s disk o j (recordIn s t o j)
 unfolding putPart partOf putRecord Whole
 saved-is n s c disk t o j f i w = rw (f, i) (ap (splice disk (placeOf s o j)) (sym w))
 
 -- and that part goes where the library says that it starts
-pub saved-at : (n s c : ℕ) (disk t : List ℕ) (o j : ℕ) → fits n s c t ≡ true → instanceOk n s o j ≡ true
+pub saved-at : (n s c : ℕ) (disk t : List ℕ) (o j : ℕ) → fitsSetup n s c t ≡ true → instanceOk n s o j ≡ true
     → putPart s disk o j (partOf n s c t o j) ≡ splice disk (partStart n s c t o j) (partOf n s c t o j)
 unfolding putPart partOf partStart
 saved-at n s c disk t o j f i = rw (f, i)
@@ -149,8 +149,8 @@ module _ (n s c : ℕ) where
   head n1 n7 s1 s64 cn (suc (suc zero)) = omega arith
   head n1 n7 s1 s64 cn (suc (suc (suc i))) = rw (zero-at (recordLength * (n * s)) i) (omega arith)
 
-  fit : setupOk n s c ≡ true → fits n s c (blankTable n s c) ≡ true
-  unfolding fits
+  fit : setupOk n s c ≡ true → fitsSetup n s c (blankTable n s c) ≡ true
+  unfolding fitsSetup
   fit h = both _ _ h (eq-eqb _ _ blank-long)
 
   heads : headIs n s c (blankTable n s c) ≡ true

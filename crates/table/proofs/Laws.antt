@@ -9,12 +9,12 @@ use lib.Dec.{leb, eqb}
 use lib.ListN.{length, take, drop}
 use borrow.Author.Tests.{leb-true, ltb-true, eqb-true}
 use borrow.Rule.Slice.PartMut.{putMid, post-is}
-use Rattle.num.specs.Num.{splice}
+use Rattle.numbers.specs.Num.{splice}
 use Rattle.paper.specs.Setup.{setupOk, copiesOk, numbersOk, copyOk}
 use Rattle.paper.specs.Instance.{instanceOk, ownerOk, numberOk}
 use Rattle.paper.proofs.Laws.{and-true}
 use Rattle.table.specs.Place.{headLength, tableLength, placeAt, placeOf}
-use Rattle.table.specs.Table.{fits}
+use Rattle.table.specs.Table.{fitsSetup}
 use Rattle.table.specs.Sizes.{Sizes, Names, Has}
 use Rattle.record.specs.Layout.{recordLength}
 
@@ -36,14 +36,14 @@ setup-bounds n s c h =
     let m = and-true (leb 1 s) (leb s 64) (q .1) in
     (k .0, k .1, leb-true 1 s (m .0), leb-true s 64 (m .1), ltb-true c n (p .1))
 
-pub sizes : (n s c : ℕ) (t : List ℕ) → fits n s c t ≡ true → Sizes n s c t
-unfolding fits
+pub sizes : (n s c : ℕ) (t : List ℕ) → fitsSetup n s c t ≡ true → Sizes n s c t
+unfolding fitsSetup
 sizes n s c t h =
     let p = and-true (setupOk n s c) _ h in
     let b = setup-bounds n s c (p .0) in
     record { least = b .0; copies = b .1; numbers = b .3; copy = b .4; long = eqb-true _ _ (p .1) }
 
-pub names : (n s c : ℕ) (t : List ℕ) (o j : ℕ) → fits n s c t ≡ true → instanceOk n s o j ≡ true → Names n s o j
+pub names : (n s c : ℕ) (t : List ℕ) (o j : ℕ) → fitsSetup n s c t ≡ true → instanceOk n s o j ≡ true → Names n s o j
 unfolding instanceOk
 names n s c t o j h i =
     let z = sizes n s c t h in
@@ -51,9 +51,9 @@ names n s c t o j h i =
     let q = and-true (leb 1 j) (leb j s) (p .1) in
     record { copies = z .copies; numbers = z .numbers; owner = ltb-true o n (p .0); first = leb-true 1 j (q .0); last = leb-true j s (q .1) }
 
-pub has : (n s c : ℕ) (t : List ℕ) (o j : ℕ) → (fits n s c t && instanceOk n s o j) ≡ true → Has n s o j t
+pub has : (n s c : ℕ) (t : List ℕ) (o j : ℕ) → (fitsSetup n s c t && instanceOk n s o j) ≡ true → Has n s o j t
 has n s c t o j h =
-    let p = and-true (fits n s c t) (instanceOk n s o j) h in
+    let p = and-true (fitsSetup n s c t) (instanceOk n s o j) h in
     record { names = names n s c t o j (p .0) (p .1); long = sizes n s c t (p .0) .long }
 
 -- an owner's row ends within the table

@@ -5,8 +5,8 @@ use mathlib.Core.List.{List}
 use native.Mathlib.Omega.{arith}
 use lib.ListN.{length, set, take, drop, length-set, length-take, length-drop}
 use lib.Seq.{take-set-le, take-set-lt, drop-set-lt, drop-set-add}
-use Rattle.num.specs.Num.{splice}
-use Rattle.num.proofs.Laws.{splice-own}
+use Rattle.numbers.specs.Num.{splice}
+use Rattle.numbers.proofs.Laws.{splice-own}
 use Rattle.record.specs.Layout.{markPlace, recordLength, recordAt, recordBytes, withMark}
 use Rattle.record.proofs.Written.{marked-bytes, marked-back}
 use Rattle.table.specs.Place.{placeOf, partAt}

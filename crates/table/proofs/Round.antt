@@ -10,14 +10,14 @@ use lib.Dec.{leb}
 use borrow.Author.Tests.{leb-true, leb-false}
 use lib.ListN.{length, getD, take, drop, length-take, length-drop}
 use lib.Seq.{getD-take, getD-drop}
-use Rattle.num.specs.Num.{splice}
-use Rattle.num.proofs.Laws.{splice-same, splice-before, splice-after, splice-own, length-splice}
+use Rattle.numbers.specs.Num.{splice}
+use Rattle.numbers.proofs.Laws.{splice-same, splice-before, splice-after, splice-own, length-splice}
 use Rattle.paper.specs.Logic.{allBelow}
 use Rattle.paper.specs.Sound.{soundRecord}
 use Rattle.paper.proofs.Laws.{and-true, allBelow-at}
 use Rattle.paper.specs.declared.Record.{Record}
 use Rattle.record.specs.Layout.{recordLength, recordAt, recordBytes}
-use Rattle.num.specs.Num.{Bytes}
+use Rattle.numbers.specs.Num.{Bytes}
 use Rattle.record.specs.Part.{soundPart}
 use Rattle.record.proofs.Laws.{length-recordBytes}
 use Rattle.record.proofs.Round.{recordAt-recordBytes, part-sound, part-whole}

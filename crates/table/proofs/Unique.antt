@@ -11,7 +11,7 @@ use Rattle.table.specs.declared.Blanking.{Blanking}
 use Rattle.table.specs.declared.Blanking.the-variants as blanking
 use Rattle.table.specs.declared.Judging.{Judging}
 use Rattle.table.specs.declared.Judging.the-variants as judging
-use Rattle.table.specs.Table.{fits}
+use Rattle.table.specs.Table.{fitsSetup}
 use Rattle.table.specs.Calls.{blanked, blankedTable, judged, partOf, partStart, partLength, blankingNumber, judgingNumber}
 
 pub blank-table-unique : (n s c : ℕ) (t : List ℕ) (x y : Blanking) (u v : List ℕ) → x ≡ blanked n s c t → u ≡ blankedTable n s c t → y ≡ blanked n s c t
@@ -39,8 +39,8 @@ judging-apart (judging.Refused r) (judging.Refused t) e = ap judging.Refused (nu
 -- start and length are those of the part that is handed back
 pub part-is : (n s c : ℕ) (t : List ℕ) (o j : ℕ) → take (partLength n s c t o j) (drop (partStart n s c t o j) t) ≡ partOf n s c t o j
 unfolding partStart partLength partOf
-part-is n s c t o j = go (fits n s c t && instanceOk n s o j) refl
+part-is n s c t o j = go (fitsSetup n s c t && instanceOk n s o j) refl
   where
-    go : (b : Bool) → (fits n s c t && instanceOk n s o j) ≡ b → take (partLength n s c t o j) (drop (partStart n s c t o j) t) ≡ partOf n s c t o j
+    go : (b : Bool) → (fitsSetup n s c t && instanceOk n s o j) ≡ b → take (partLength n s c t o j) (drop (partStart n s c t o j) t) ≡ partOf n s c t o j
     go true e = rw e
     go false e = rw e

@@ -2,7 +2,7 @@
 use Prim.Native.Nat.{ℕ}
 use mathlib.Core.Bool.{_&&_, not, cond}
 use mathlib.Core.List.{List, []}
-use Rattle.num.specs.Num.{splice}
+use Rattle.numbers.specs.Num.{splice}
 use Rattle.paper.specs.Setup.{setupOk}
 use Rattle.paper.specs.Instance.{instanceOk}
 use Rattle.paper.specs.Refusal.{numberOf}
@@ -13,30 +13,30 @@ use Rattle.table.specs.declared.Blanking.the-variants as blanking
 use Rattle.table.specs.declared.Judging.{Judging}
 use Rattle.table.specs.declared.Judging.the-variants as judging
 use Rattle.table.specs.Place.{tableLength, placeOf, partAt}
-use Rattle.table.specs.Table.{fits, soundTable, blankTable}
+use Rattle.table.specs.Table.{fitsSetup, soundTable, blankTable}
 
 -- refusal 1 only, and nothing is written then
 unfoldable pub blanked : ℕ → ℕ → ℕ → List ℕ → Blanking
-blanked n s c t = cond (fits n s c t) blanking.Blank (blanking.Refused Setup)
+blanked n s c t = cond (fitsSetup n s c t) blanking.Blank (blanking.Refused Setup)
 
 unfoldable pub blankedTable : ℕ → ℕ → ℕ → List ℕ → List ℕ
-blankedTable n s c t = cond (fits n s c t) (blankTable n s c) t
+blankedTable n s c t = cond (fitsSetup n s c t) (blankTable n s c) t
 
 -- 1, then 11
 unfoldable pub judged : ℕ → ℕ → ℕ → List ℕ → Judging
 judged n s c t =
-    cond (not (fits n s c t)) (judging.Refused Setup) (cond (not (soundTable n s c t)) (judging.Refused Unsound) judging.Sound)
+    cond (not (fitsSetup n s c t)) (judging.Refused Setup) (cond (not (soundTable n s c t)) (judging.Refused Unsound) judging.Sound)
 
 -- the part of the table that holds the record of o.j, for saving; empty for a bad instance or where 1 would be refused
 unfoldable pub partOf : ℕ → ℕ → ℕ → List ℕ → ℕ → ℕ → List ℕ
-partOf n s c t o j = cond (fits n s c t && instanceOk n s o j) (partAt t (placeOf s o j)) []
+partOf n s c t o j = cond (fitsSetup n s c t && instanceOk n s o j) (partAt t (placeOf s o j)) []
 
 -- where it starts and how long it is; both 0 where it is empty
 unfoldable pub partStart : ℕ → ℕ → ℕ → List ℕ → ℕ → ℕ → ℕ
-partStart n s c t o j = cond (fits n s c t && instanceOk n s o j) (placeOf s o j) 0
+partStart n s c t o j = cond (fitsSetup n s c t && instanceOk n s o j) (placeOf s o j) 0
 
 unfoldable pub partLength : ℕ → ℕ → ℕ → List ℕ → ℕ → ℕ → ℕ
-partLength n s c t o j = cond (fits n s c t && instanceOk n s o j) recordLength 0
+partLength n s c t o j = cond (fitsSetup n s c t && instanceOk n s o j) recordLength 0
 
 -- how long a table of a setup is; 0 of a bad one
 unfoldable pub lengthOf : ℕ → ℕ → ℕ

@@ -5,18 +5,18 @@ use mathlib.Core.Bool.{Bool, true, _&&_, cond}
 use mathlib.Core.List.{List, [], _∷_, _++_}
 use lib.Dec.{eqb}
 use lib.ListN.{length, replicate}
-use Rattle.num.specs.Num.{numAt, splice}
+use Rattle.numbers.specs.Num.{numAt, splice}
 use Rattle.paper.specs.Logic.{allBelow}
 use Rattle.paper.specs.Setup.{setupOk}
 use Rattle.paper.specs.declared.Record.{Record}
 use Rattle.record.specs.Layout.{recordLength, recordAt, recordBytes}
-use Rattle.num.specs.Num.{Bytes}
+use Rattle.numbers.specs.Num.{Bytes}
 use Rattle.record.specs.Part.{idleOk, soundPart}
 use Rattle.table.specs.Place.{tableLength, placeAt, placeOf, partAt}
 
 -- what refusal 1 asks
-unfoldable pub fits : ℕ → ℕ → ℕ → List ℕ → Bool
-fits n s c t = setupOk n s c && eqb (length t) (tableLength n s)
+unfoldable pub fitsSetup : ℕ → ℕ → ℕ → List ℕ → Bool
+fitsSetup n s c t = setupOk n s c && eqb (length t) (tableLength n s)
 
 -- setup and copy number are the caller's
 unfoldable pub headIs : ℕ → ℕ → ℕ → List ℕ → Bool
@@ -51,11 +51,11 @@ Whole s t o j = recordBytes (recordIn s t o j) ≡ partAt t (placeOf s o j)
 
 -- a table that neither 1 nor 11 refuses
 pub record Judged (n s c : ℕ) (t : List ℕ) : Type 0 where
-  pub setup : fits n s c t ≡ true
+  pub setup : fitsSetup n s c t ≡ true
   pub sound : soundTable n s c t ≡ true
 
 -- and whose bytes are bytes
 pub record Kept (n s c : ℕ) (t : List ℕ) : Type 0 where
   pub bytes : Bytes t
-  pub setup : fits n s c t ≡ true
+  pub setup : fitsSetup n s c t ≡ true
   pub sound : soundTable n s c t ≡ true

@@ -15,7 +15,7 @@ ghost use Rattle.paper.specs.Logic.{allBelow};
 ghost use Rattle.record.specs.Layout.{recordLength};
 ghost use Rattle.record.specs.Part.{soundPart};
 ghost use Rattle.table.specs.Place.{headLength, tableLength, placeOf, partAt};
-ghost use Rattle.table.specs.Table.{fits, headIs, pastIdle, soundRow, soundTable, blankTable};
+ghost use Rattle.table.specs.Table.{fitsSetup, headIs, pastIdle, soundRow, soundTable, blankTable};
 ghost use Rattle.table.specs.Calls.{blanked, blankedTable, judged, partOf, partStart, partLength, lengthOf};
 ghost use Rattle.table.specs.Sizes.{Sizes, Row, Names, Has};
 
@@ -69,7 +69,7 @@ pub fn length_of(n: usize, s: usize) -> usize
 
 // What refusal 1 asks.
 pub fn fits_setup(t: &[u8], n: usize, s: usize, c: usize) -> bool
-    ensures { λ r. ⌜ r ≡ fits n s c (now (t .entry)) ⌝ }
+    ensures { λ r. ⌜ r ≡ fitsSetup n s c (now (t .entry)) ⌝ }
 {
     if !setup_ok(n, s, c) {
         return false;
@@ -100,9 +100,12 @@ fn head_is(t: &[u8], n: usize, s: usize, c: usize) -> bool
     requires { ⌜ headLength ≤ length (now t) ⌝ }
     ensures { λ r. ⌜ r ≡ headIs n s c (now (t .entry)) ⌝ }
 {
-    let copies = equal(wide8(num::get_u8(t, COPIES)), n);
-    let numbers = equal(wide8(num::get_u8(t, NUMBERS)), s);
-    both(both(copies, numbers), equal(wide8(num::get_u8(t, COPY)), c))
+    let copies = equal(wide8(numbers::get_u8(t, COPIES)), n);
+    let numbers = equal(wide8(numbers::get_u8(t, NUMBERS)), s);
+    both(
+        both(copies, numbers),
+        equal(wide8(numbers::get_u8(t, COPY)), c),
+    )
 }
 
 // What is left of the first k records of owner o's row when those at their end that are idle and right are passed over:
@@ -208,9 +211,9 @@ fn put_blank(t: &mut [u8], n: usize, s: usize, c: usize)
     ensures { λ _. ⌜ now (t .exit) ≡ blankTable n s c ⌝ }
 {
     clear(&mut *t);
-    num::put_u8(&mut *t, COPIES, small(n));
-    num::put_u8(&mut *t, NUMBERS, small(s));
-    num::put_u8(&mut *t, COPY, small(c));
+    numbers::put_u8(&mut *t, COPIES, small(n));
+    numbers::put_u8(&mut *t, NUMBERS, small(s));
+    numbers::put_u8(&mut *t, COPY, small(c));
 }
 
 // Writes a blank table.
@@ -226,7 +229,7 @@ pub fn blank_table(t: &mut [u8], n: usize, s: usize, c: usize) -> Blanking
 }
 
 fn has_part(t: &[u8], n: usize, s: usize, c: usize, o: usize, j: usize) -> bool
-    ensures { λ r. ⌜ r ≡ (fits n s c (now (t .entry)) && instanceOk n s o j) ⌝ }
+    ensures { λ r. ⌜ r ≡ (fitsSetup n s c (now (t .entry)) && instanceOk n s o j) ⌝ }
 {
     both(fits_setup(t, n, s, c), instance_ok(n, s, o, j))
 }

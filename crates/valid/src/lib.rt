@@ -18,7 +18,6 @@ use nouns::message::is_recovery;
 use nouns::message::is_reply;
 use nouns::message::is_word;
 use nouns::message::joined_in;
-use nouns::message::row_in;
 use nouns::message::vote_in;
 use nouns::vote::none_is_blank;
 use nouns::vote::vote_ok;
@@ -26,6 +25,7 @@ use paper::Message;
 use paper::Row;
 use paper::Vote;
 ghost use mathlib.Core.Path.{_≡_};
+ghost use Rattle.paper.specs.Message.{rowIn};
 ghost use Rattle.paper.specs.Valid.{
   leadOf,
   fromRange,
@@ -46,7 +46,7 @@ ghost use Rattle.paper.specs.Valid.{
 };
 ghost use Rattle.valid.specs.Groups.{headOk, wayOk, toldAll, bodyOk};
 
-fn lead_in(m: Message) -> usize
+fn lead_of(m: Message) -> usize
     ensures { λ r. ⌜ r ≡ leadOf m ⌝ }
 {
     lead(wide8(m.owner), m.ballot)
@@ -105,14 +105,14 @@ fn from_lead(w: Row, m: Message) -> bool
     ensures { λ r. ⌜ r ≡ fromLead w m ⌝ }
 {
     let role = w.role;
-    implies(is_word(role), equal(wide8(m.from), lead_in(m)))
+    implies(is_word(role), equal(wide8(m.from), lead_of(m)))
 }
 
 fn to_lead(w: Row, m: Message) -> bool
     ensures { λ r. ⌜ r ≡ toLead w m ⌝ }
 {
     let role = w.role;
-    implies(is_reply(role), equal(wide8(m.to), lead_in(m)))
+    implies(is_reply(role), equal(wide8(m.to), lead_of(m)))
 }
 
 fn told_all(w: Row, m: Message, v: Vote) -> bool
@@ -180,14 +180,14 @@ fn body_ok(n: usize, s: usize, w: Row, m: Message, v: Vote, j: u32) -> bool
     both(both(joined, joined_above(w, m, j)), deps_carried(w, m))
 }
 
-// The message m is valid as received by copy c.
-pub fn valid_message(n: usize, s: usize, c: usize, m: Message) -> bool
+// The message m is valid as received by copy c; w is the row of its kind, which a reader or writer has already.
+pub fn valid_message(n: usize, s: usize, c: usize, w: Row, m: Message) -> bool
+    requires { ⌜ w ≡ rowIn (m .body) ⌝ }
     ensures { λ r. ⌜ r ≡ valid n s c m ⌝ }
 {
-    let body = m.body;
-    let w = row_in(body);
     if !both(head_ok(n, s, w, m), way_ok(c, w, m)) {
         return false;
     }
+    let body = m.body;
     body_ok(n, s, w, m, vote_in(m), joined_in(body))
 }

@@ -4,8 +4,8 @@ use mathlib.Core.Bool.{Bool, true, false, cond}
 use mathlib.Core.List.{List}
 use Prim.Native.Nat.{ℕ, _^_, _<_}
 use native.Mathlib.Omega.{arith}
-use Rattle.num.specs.Num.{numAt, Bytes}
-use Rattle.num.proofs.Laws.{numAt-small}
+use Rattle.numbers.specs.Num.{numAt, Bytes}
+use Rattle.numbers.proofs.Laws.{numAt-small}
 use Rattle.codec.specs.Parts.{commandAt, depsAt}
 use Rattle.codec.proofs.Laws.{depsAt-fits}
 use Rattle.paper.specs.Command.{noop}

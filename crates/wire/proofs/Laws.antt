@@ -1,5 +1,5 @@
 -- The places of the parts, lengths of messages, and the outcomes of the two calls, one law each. Assumes nothing.
-use mathlib.Core.Path.{_≡_, refl}
+use mathlib.Core.Path.{_≡_, refl, sym, ap, _∙_}
 use mathlib.Core.Bool.{Bool, true, false, _&&_, _||_, cond, and-eq-true-iff}
 use mathlib.Core.List.{List, [], _∷_, _++_}
 use Prim.Native.Nat.{ℕ, _+_, _≤_, _<_}
@@ -7,21 +7,22 @@ use native.Mathlib.Omega.{arith}
 use lib.Dec.{leb}
 use lib.ListN.{length, length-append}
 use borrow.Author.Tests.{leb-true, eqb-true, lt-ltb, le-ltb}
-use Rattle.num.specs.Num.{splice}
-use Rattle.num.specs.Fields.{sizeOf}
+use Rattle.numbers.specs.Num.{splice}
+use Rattle.numbers.specs.Fields.{sizeOf}
 use Rattle.codec.specs.Parts.{commandWidths, depsWidths, commandBytes, depsBytes}
 use Rattle.paper.specs.Setup.{setupOk}
-use Rattle.paper.specs.Message.{rowOf, partsOf, partsIn, kindOf, carriedIn}
+use Rattle.paper.specs.Message.{rowOf, rowIn, partsOf, partsIn, kindOf, carriedIn}
 use Rattle.paper.specs.Valid.{valid}
 use Rattle.paper.specs.declared.Refusal.the-variants.{Setup, Room}
 use Rattle.paper.specs.declared.Refusal.the-variants as why
 use Rattle.paper.specs.declared.Carried.{Carried}
 use Rattle.paper.specs.declared.Parts.{Parts}
+use Rattle.paper.specs.declared.Row.{Row}
 use Rattle.paper.specs.declared.Message.{Message}
 use Rattle.wire.specs.declared.Reading.the-variants as reading
 use Rattle.wire.specs.declared.Writing.the-variants as writing
-use Rattle.paper.proofs.Bodies.{allOf, everyRow, every-row}
-use Rattle.wire.specs.Wire.{toldWidths, joinedWidths, headSize, past, commandStart, depsStart, joinedStart, restEnd, kindAt, lengthOf, part, toldBytes, joinedBytes, restBytes, headBytes, messageAt, messageBytes, framed, opFits, validBytes}
+use Rattle.paper.proofs.Bodies.{allOf, everyRow, every-row, kind-is}
+use Rattle.wire.specs.Wire.{toldWidths, joinedWidths, headSize, past, commandStart, depsStart, joinedStart, restEnd, kindAt, lengthOf, part, toldBytes, joinedBytes, restBytes, headBytes, carriedAt, messageAt, messageBytes, framed, OfKind, opFits, validBytes}
 use Rattle.wire.specs.Calls.{unread, readMessage, unwritten, Wrote, wrote}
 
 -- a part moves what stands after it by its bytes or not at all
@@ -135,6 +136,18 @@ unfolding framed
 framed-is b h =
     let p = and-eq-true-iff (rowOf (kindAt b) .known) _ .0 h in
     record { known = p .0; exact = eqb-true _ _ (p .1) }
+
+-- what the reader has of them: their kind, its row, and with that the row of the message that they hold
+module _ (b : List ℕ) (k : ℕ) (r : Row) (kind : k ≡ kindAt b) (row : r ≡ rowOf k) (h : framed b ≡ true) where
+  pub of-kind : OfKind k (r .parts) b
+  unfolding lengthOf
+  of-kind =
+      let f = framed-is b h in
+      record { kind = kind; known = rw kind (f .known); parts = ap (λ (w : Row). w .parts) row; exact = rw (row, kind) (f .exact) }
+
+  pub row-held : r ≡ rowIn (messageAt b .body)
+  unfolding messageAt
+  row-held = row ∙ ap rowOf (kind ∙ sym (kind-is (kindAt b) (carriedAt (partsOf (kindAt b)) b) (framed-is b h .known)))
 
 pub length-headBytes : (m : Message) → length (headBytes m) ≡ 10
 unfolding headBytes

@@ -8,10 +8,10 @@ use lib.Dec.{leb}
 use lib.ListN.{length, getD, take, drop, take-append-drop, length-drop}
 use lib.Seq.{take-all, take-add, drop-drop}
 use borrow.Author.Tests.{leb-true, le-leb, eq-eqb, eqb-true}
-use Rattle.num.specs.Num.{numAt, splice}
-use Rattle.num.specs.Fields.{sizeOf, fieldsAt, FieldsFit}
-use Rattle.num.proofs.Laws.{splice-same}
-use Rattle.num.proofs.Fields.{fieldsAt-fieldsBytes, fieldsBytes-fieldsAt}
+use Rattle.numbers.specs.Num.{numAt, splice}
+use Rattle.numbers.specs.Fields.{sizeOf, fieldsAt, FieldsFit}
+use Rattle.numbers.proofs.Laws.{splice-same}
+use Rattle.numbers.proofs.Fields.{fieldsAt-fieldsBytes, fieldsBytes-fieldsAt}
 use Rattle.codec.specs.Parts.{commandWidths, depsWidths, commandNumbers, commandOf, commandAt, commandBytes, depsAt, depsBytes}
 use Rattle.codec.proofs.Laws.{op-small, command-is, depsAt-depsBytes, commandBytes-commandAt, depsBytes-depsAt}
 use Rattle.paper.specs.Command.{noop}

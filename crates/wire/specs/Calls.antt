@@ -4,7 +4,7 @@ use mathlib.Core.Bool.{not, cond}
 use mathlib.Core.List.{List}
 use lib.Dec.{ltb}
 use lib.ListN.{length}
-use Rattle.num.specs.Num.{splice}
+use Rattle.numbers.specs.Num.{splice}
 use Rattle.paper.specs.Setup.{setupOk}
 use Rattle.paper.specs.Message.{noMessage, kindOf}
 use Rattle.paper.specs.Valid.{valid}

@@ -1,12 +1,13 @@
 -- "Messages": the bytes of each kind: the head, then the parts that its row has, in their order. Length, reader and writer go by
 -- the places that follow from the parts' widths. Assumes nothing.
 use Prim.Native.Nat.{ℕ, _+_}
-use mathlib.Core.Bool.{Bool, _&&_, cond}
+use mathlib.Core.Path.{_≡_}
+use mathlib.Core.Bool.{Bool, true, _&&_, cond}
 use mathlib.Core.List.{List, [], _∷_, _++_}
 use lib.Dec.{leb, eqb}
 use lib.ListN.{length}
-use Rattle.num.specs.Num.{numAt}
-use Rattle.num.specs.Fields.{sizeOf, fieldsBytes}
+use Rattle.numbers.specs.Num.{numAt}
+use Rattle.numbers.specs.Fields.{sizeOf, fieldsBytes}
 use Rattle.codec.specs.Parts.{commandWidths, depsWidths, commandAt, depsAt, commandBytes, depsBytes}
 use Rattle.paper.specs.Deps.{noDeps}
 use Rattle.paper.specs.Message.{rowOf, partsOf, partsIn, kindOf, carriedIn, bodyOf, kept}
@@ -112,6 +113,13 @@ messageAt b =
 -- a known kind, at its exact length
 unfoldable pub framed : List ℕ → Bool
 framed b = rowOf (kindAt b) .known && eqb (length b) (lengthOf (kindAt b))
+
+-- bytes of this kind, which has these parts, at its exact length
+pub record OfKind (k : ℕ) (p : Parts) (b : List ℕ) : Type 0 where
+  pub kind : k ≡ kindAt b
+  pub known : rowOf k .known ≡ true
+  pub parts : p ≡ partsOf k
+  pub exact : length b ≡ restEnd p headSize
 
 -- the op byte, 0 where there is none
 unfoldable pub opAt : Parts → List ℕ → ℕ

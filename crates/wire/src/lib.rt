@@ -17,16 +17,17 @@ use paper::Command;
 use paper::Message;
 use paper::Parts;
 use paper::Refusal;
+use paper::Row;
 use valid::valid_message;
 ghost use mathlib.Core.Path.{_≡_};
 ghost use Prim.Native.Nat.{_+_, _≤_, _<_};
 ghost use mathlib.Core.Bool.{true, cond};
 ghost use lib.ListN.{length};
-ghost use Rattle.num.specs.Num.{numAt, splice};
+ghost use Rattle.numbers.specs.Num.{numAt, splice};
 ghost use Rattle.codec.specs.Parts.{commandAt, commandBytes, depsBytes};
 ghost use Rattle.paper.specs.Command.{noop};
-ghost use Rattle.paper.specs.Message.{bodyOf, noMessage};
-ghost use Rattle.wire.specs.Wire.{headSize, commandStart, depsStart, joinedStart, restEnd, lengthOf, kindAt, carriedAt, besideAt, messageAt, framed, opAt, opFits, toldBytes, joinedBytes, part, headBytes, restBytes, messageBytes};
+ghost use Rattle.paper.specs.Message.{rowOf, bodyOf, noMessage};
+ghost use Rattle.wire.specs.Wire.{headSize, commandStart, depsStart, joinedStart, restEnd, lengthOf, kindAt, carriedAt, besideAt, messageAt, framed, OfKind, opAt, opFits, toldBytes, joinedBytes, part, headBytes, restBytes, messageBytes};
 ghost use Rattle.wire.specs.Calls.{unread, readMessage, wrote};
 
 // How many bytes the head takes, and each part of the rest.
@@ -103,15 +104,14 @@ fn kind_at(b: &[u8]) -> usize
     if b.len() == 0 {
         return 0;
     }
-    wide8(num::get_u8(b, 0))
+    wide8(numbers::get_u8(b, 0))
 }
 
-fn framed(b: &[u8]) -> bool
+fn framed(row: Row, b: &[u8]) -> bool
+    requires { ⌜ row ≡ rowOf (kindAt (now b)) ⌝ }
     ensures { λ r. ⌜ r ≡ framed (now (b .entry)) ⌝ }
 {
-    let k = kind_at(b);
-    let row = row_of(k);
-    both(row.known, equal(b.len(), length_of(k)))
+    both(row.known, equal(b.len(), rest_end(row.parts, HEAD)))
 }
 
 // The op byte, or 0 where there is none.
@@ -123,15 +123,7 @@ fn op_at(p: Parts, b: &[u8]) -> usize
         return 0;
     }
     let at = command_start(p, HEAD);
-    wide8(num::get_u8(b, at))
-}
-
-fn op_fits(b: &[u8]) -> bool
-    requires { ⌜ framed (now b) ≡ true ⌝ }
-    ensures { λ r. ⌜ r ≡ opFits (now (b .entry)) ⌝ }
-{
-    let row = row_of(kind_at(b));
-    at_most(op_at(row.parts, b), 2)
+    wide8(numbers::get_u8(b, at))
 }
 
 fn read_voted(p: Parts, b: &[u8]) -> u32
@@ -141,7 +133,7 @@ fn read_voted(p: Parts, b: &[u8]) -> u32
     if !p.told {
         return 0;
     }
-    num::get_u32(b, HEAD)
+    numbers::get_u32(b, HEAD)
 }
 
 fn read_status(p: Parts, b: &[u8]) -> u8
@@ -151,7 +143,7 @@ fn read_status(p: Parts, b: &[u8]) -> u8
     if !p.told {
         return 0;
     }
-    num::get_u8(b, HEAD + 4)
+    numbers::get_u8(b, HEAD + 4)
 }
 
 fn read_command(p: Parts, b: &[u8]) -> Command
@@ -173,7 +165,7 @@ fn read_joined(p: Parts, b: &[u8]) -> u32
         return 0;
     }
     let at = joined_start(p, HEAD);
-    num::get_u32(b, at)
+    numbers::get_u32(b, at)
 }
 
 fn read_carried(p: Parts, b: &[u8]) -> Carried
@@ -210,20 +202,18 @@ fn read_body(k: usize, p: Parts, b: &[u8]) -> Body
     body_of(k, read_carried(p, b))
 }
 
-// The message that framed bytes hold.
-pub fn decode(b: &[u8]) -> Message
-    requires { ⌜ framed (now b) ≡ true ⌝ }
+// The message that framed bytes of kind k hold.
+fn message_at(k: usize, p: Parts, b: &[u8]) -> Message
+    requires { ⌜ OfKind k p (now b) ⌝ }
     ensures { λ r. ⌜ r ≡ messageAt (now (b .entry)) ⌝ }
 {
-    let k = kind_at(b);
-    let row = row_of(k);
-    let from = num::get_u8(b, 1);
-    let to = num::get_u8(b, 2);
-    let owner = num::get_u8(b, 3);
-    let number = num::get_u16(b, 4);
-    let ballot = num::get_u32(b, 6);
-    let body = read_body(k, row.parts, b);
-    let deps = read_beside(row.parts, b);
+    let from = numbers::get_u8(b, 1);
+    let to = numbers::get_u8(b, 2);
+    let owner = numbers::get_u8(b, 3);
+    let number = numbers::get_u16(b, 4);
+    let ballot = numbers::get_u32(b, 6);
+    let body = read_body(k, p, b);
+    let deps = read_beside(p, b);
     Message {
         from,
         to,
@@ -250,7 +240,7 @@ fn no_message() -> Message
     }
 }
 
-fn unread_of(why: Refusal) -> Received
+fn unread(why: Refusal) -> Received
     ensures { λ r. ⌜ r ≡ unread why ⌝ }
 {
     let message = no_message();
@@ -265,14 +255,17 @@ pub fn read_message(n: usize, s: usize, c: usize, b: &[u8]) -> Received
     ensures { λ r. ⌜ r ≡ readMessage n s c (now (b .entry)) ⌝ }
 {
     if !setup_ok(n, s, c) {
-        return unread_of(Refusal::Setup);
+        return unread(Refusal::Setup);
     }
-    if !framed(b) {
-        return unread_of(Refusal::Message);
+    let k = kind_at(b);
+    let row = row_of(k);
+    if !framed(row, b) {
+        return unread(Refusal::Message);
     }
-    let m = decode(b);
-    if !both(op_fits(b), valid_message(n, s, c, m)) {
-        return unread_of(Refusal::Message);
+    let op = op_at(row.parts, b);
+    let m = message_at(k, row.parts, b);
+    if !both(at_most(op, 2), valid_message(n, s, c, row, m)) {
+        return unread(Refusal::Message);
     }
     Received {
         answer: Reading::Valid,
@@ -286,12 +279,12 @@ fn write_head(out: &mut [u8], at: usize, m: Message)
 {
     let body = m.body;
     let kind = kind_of(body);
-    num::put_u8(&mut *out, at, kind);
-    num::put_u8(&mut *out, at + 1, m.from);
-    num::put_u8(&mut *out, at + 2, m.to);
-    num::put_u8(&mut *out, at + 3, m.owner);
-    num::put_u16(&mut *out, at + 4, m.number);
-    num::put_u32(&mut *out, at + 6, m.ballot);
+    numbers::put_u8(&mut *out, at, kind);
+    numbers::put_u8(&mut *out, at + 1, m.from);
+    numbers::put_u8(&mut *out, at + 2, m.to);
+    numbers::put_u8(&mut *out, at + 3, m.owner);
+    numbers::put_u16(&mut *out, at + 4, m.number);
+    numbers::put_u32(&mut *out, at + 6, m.ballot);
 }
 
 fn write_told(out: &mut [u8], at: usize, has: bool, x: Carried)
@@ -299,8 +292,8 @@ fn write_told(out: &mut [u8], at: usize, has: bool, x: Carried)
     ensures { λ _. ⌜ now (out .exit) ≡ splice (now (out .entry)) at (part has (toldBytes x)) ⌝ }
 {
     if has {
-        num::put_u32(&mut *out, at, x.voted);
-        num::put_u8(&mut *out, at + 4, x.status);
+        numbers::put_u32(&mut *out, at, x.voted);
+        numbers::put_u8(&mut *out, at + 4, x.status);
     }
 }
 
@@ -327,7 +320,7 @@ fn write_joined(out: &mut [u8], at: usize, has: bool, x: Carried)
     ensures { λ _. ⌜ now (out .exit) ≡ splice (now (out .entry)) at (part has (joinedBytes x)) ⌝ }
 {
     if has {
-        num::put_u32(out, at, x.joined);
+        numbers::put_u32(out, at, x.joined);
     }
 }
 
@@ -345,7 +338,7 @@ fn write_rest(out: &mut [u8], at: usize, p: Parts, x: Carried, d: [u16; 7])
 }
 
 // Writes a message at an offset, and nothing beyond its length.
-pub fn encode(out: &mut [u8], at: usize, m: Message)
+pub fn message_bytes(out: &mut [u8], at: usize, m: Message)
     requires { ⌜ at + 42 ≤ length (now out) ⌝ }
     ensures { λ _. ⌜ now (out .exit) ≡ splice (now (out .entry)) at (messageBytes m) ⌝ }
 {
@@ -367,10 +360,11 @@ pub fn write_message(n: usize, s: usize, c: usize, out: &mut [u8], m: Message) -
     if out.len() < 256 {
         return Writing::Refused(Refusal::Room);
     }
-    if !valid_message(n, s, wide8(m.to), m) {
+    let body = m.body;
+    let row = row_in(body);
+    if !valid_message(n, s, wide8(m.to), row, m) {
         return Writing::Refused(Refusal::Message);
     }
-    let body = m.body;
-    encode(out, 0, m);
-    Writing::Bytes(length_of(wide8(kind_of(body))))
+    message_bytes(out, 0, m);
+    Writing::Bytes(rest_end(row.parts, HEAD))
 }

@@ -24,13 +24,13 @@ loop-holds c = (omega arith, refl, λ j a b. absurd (omega arith))
 add-y : tie.Need-add-y Inv-loop μ-loop
 add-y c = omega (arith, c .before .before .before .before .pre .other, c .before .before .before .before .pre .last)
 
-passes-requires : tie.Need-passes-requires Inv-loop μ-loop
-passes-requires c κs = let g = c .before .before .before .before .pre in (g .marks, g .states, g .owner, omega (arith, g .other, g .last, c .loop-test .taken, c .before .loop .inv .1))
+passes-at-requires : tie.Need-passes-at-at-requires Inv-loop μ-loop
+passes-at-requires c κs = let g = c .before .before .before .before .pre in (g .marks, g .states, g .owner, omega (arith, g .other, g .last, c .loop-test .taken, c .before .loop .inv .1))
 
 returns : tie.Need-returns Inv-loop μ-loop
 returns c =
     let l = c .before .before .before in
-    sought-some _ _ _ _ _ _ _ (l .loop .i) _ (l .before .before .before .pre) (l .loop .inv .0) (c .before .before .loop-test .taken) (l .loop .inv .2) (omega (arith, l .loop .inv .1)) (sym (c .before .passes .ensures) ∙ not-true _ (c .if1 .taken))
+    sought-some _ _ _ _ _ _ _ (l .loop .i) _ (l .before .before .before .pre) (l .loop .inv .0) (c .before .before .loop-test .taken) (l .loop .inv .2) (omega (arith, l .loop .inv .1)) (sym (c .before .passes-at .ensures) ∙ not-true _ (c .if1 .taken))
 
 add-i : tie.Need-add-i Inv-loop μ-loop
 add-i c = omega arith
@@ -41,7 +41,7 @@ loop-less c = omega arith
 loop-again : tie.Need-loop-again Inv-loop μ-loop
 loop-again c =
     let l = c .before .before .before in
-    (omega (arith, l .loop .inv .0), l .loop .inv .1, pass-more _ _ _ _ _ _ _ _ (l .loop .inv .2) (omega (arith, l .loop .inv .1)) (sym (c .before .passes .ensures) ∙ not-false _ (c .if1 .left)))
+    (omega (arith, l .loop .inv .0), l .loop .inv .1, pass-more _ _ _ _ _ _ _ _ (l .loop .inv .2) (omega (arith, l .loop .inv .1)) (sym (c .before .passes-at .ensures) ∙ not-false _ (c .if1 .left)))
 
 returns-2 : tie.Need-returns-2 Inv-loop μ-loop
 returns-2 c = sought-none _ _ _ _ _ _ _ _ (c .before .loop .inv .2) (c .loop-test .left)
@@ -55,7 +55,7 @@ row-holder-spec =
     mul-base
     loop-holds
     add-y
-    passes-requires
+    passes-at-requires
     returns
     add-i
     loop-less

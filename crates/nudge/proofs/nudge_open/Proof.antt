@@ -3,7 +3,7 @@ use native.Mathlib.Omega.{arith}
 use borrow.Author.Tests.{not-true, not-false}
 use Rattle.paper.specs.declared.Refusal.the-variants as why
 use Rattle.table.proofs.Laws.{sizes, names}
-use Rattle.num.specs.Num.{Bytes}
+use Rattle.numbers.specs.Num.{Bytes}
 use Rattle.rules.specs.Nudge.{nothingToNudge}
 use Rattle.log.proofs.Calls.{three, met, refused, acted-is}
 use Rattle.nudge.proofs.Laws.{nudge-6, nudge-9, nudge-ok, nudge-room, nudge-step}
@@ -86,8 +86,8 @@ short-requires c κs =
     let sz = sizes (a .n) (a .s) (a .c) t (z .pre .setup) in
     omega (arith, nm .last, nm .numbers)
 
-on-nudge-requires : tie.Need-on-nudge-requires
-on-nudge-requires c κs =
+nudge-requires : tie.Need-nudge-requires
+nudge-requires c κs =
     let z = c .before .before .before .before .before .before .before .before .before .before .before .before .before .before in
     let a = z .args in
     let t = a .t .now in
@@ -108,7 +108,7 @@ act-requires c κs =
     let r = c .before .before .before .before .before .before .before .before .before .before .before .load .result in
     let e : nothingToNudge r ≡ c .before .before .before .before .before .before .before .both .result = sym (c .before .before .before .before .before .before .before .both .ensures ∙ rw (c .before .before .before .before .before .before .before .before .equal .ensures, c .before .before .before .before .before .before .before .before .before .wide8 .ensures, c .before .before .before .before .before .before .before .before .before .before .is-committed .ensures)) in
     let q = ap nothingToNudge (sym rr) ∙ e ∙ c .before .before .before .before .before .before .if2 .left in
-    let x = nudge-step (a .n) (a .s) (a .c) t (a .out .now) (a .o) (a .j) (c .before .before .before .before .before .byte .ensures) (c .before .before .before .before .byte2 .ensures) (c .before .before .before .short .ensures) (c .before .before .before .before .before .before .before .before .before .before .before .load .ensures) (c .before .before .on-nudge .ensures) in
+    let x = nudge-step (a .n) (a .s) (a .c) t (a .out .now) (a .o) (a .j) (c .before .before .before .before .before .byte .ensures) (c .before .before .before .before .byte2 .ensures) (c .before .before .before .short .ensures) (c .before .before .before .before .before .before .before .before .before .before .before .load .ensures) (c .before .before .nudge .ensures) in
     let bt : Bytes t = λ i. omega (arith, c .before .before .before .before .before .before .before .before .before .before .before .before .before .before .before .before .slice-known .given i) in
     (record { names = nm; long = sz .long }, z .pre .long, rw x (nudge-room (a .n) (a .s) (a .c) t (a .out .now) (a .o) (a .j) bt (z .pre) i q))
 
@@ -130,7 +130,7 @@ returns-3 c =
     let r = c .before .before .before .before .before .before .before .before .before .before .before .before .before .before .before .before .load .result in
     let e : nothingToNudge r ≡ c .before .before .before .before .before .before .before .before .before .before .before .before .both .result = sym (c .before .before .before .before .before .before .before .before .before .before .before .before .both .ensures ∙ rw (c .before .before .before .before .before .before .before .before .before .before .before .before .before .equal .ensures, c .before .before .before .before .before .before .before .before .before .before .before .before .before .before .wide8 .ensures, c .before .before .before .before .before .before .before .before .before .before .before .before .before .before .before .is-committed .ensures)) in
     let q = ap nothingToNudge (sym rr) ∙ e ∙ c .before .before .before .before .before .before .before .before .before .before .before .if2 .left in
-    let x = nudge-step (a .n) (a .s) (a .c) t (a .out .now) (a .o) (a .j) (c .before .before .before .before .before .before .before .before .before .before .byte .ensures) (c .before .before .before .before .before .before .before .before .before .byte2 .ensures) (c .before .before .before .before .before .before .before .before .short .ensures) (c .before .before .before .before .before .before .before .before .before .before .before .before .before .before .before .before .load .ensures) (c .before .before .before .before .before .before .before .on-nudge .ensures) in
+    let x = nudge-step (a .n) (a .s) (a .c) t (a .out .now) (a .o) (a .j) (c .before .before .before .before .before .before .before .before .before .before .byte .ensures) (c .before .before .before .before .before .before .before .before .before .byte2 .ensures) (c .before .before .before .before .before .before .before .before .short .ensures) (c .before .before .before .before .before .before .before .before .before .before .before .before .before .before .before .before .load .ensures) (c .before .before .before .before .before .before .before .nudge .ensures) in
     let w = c .before .before .before .before .act .ensures in
     met (nudge-ok (a .n) (a .s) (a .c) t (a .out .now) (a .o) (a .j) i q) (acted-is (a .s) t (a .out .now) (a .o) (a .j) x (w .0) (w .1 .0) (w .1 .1))
 
@@ -150,7 +150,7 @@ nudge-open-spec =
     byte-requires
     byte-requires-2
     short-requires
-    on-nudge-requires
+    nudge-requires
     act-requires
     same-length-2
     same-length-3

@@ -36,17 +36,17 @@ marked-ok-requires c κs = search needs
 returns-3 : tie.Need-returns-3
 returns-3 c = front-mark _ _ _ (sym (c .before .before .before .before .before .before .before .ballots-ok .ensures ∙ ap₂ (ballotsOk (c .before .before .before .before .before .before .before .before .before .before .before .args .n)) (c .before .before .before .before .before .before .before .before .before .get-u32 .ensures) (c .before .before .before .before .before .before .before .before .get-u322 .ensures)) ∙ not-false _ (c .before .before .before .before .before .before .if1 .left)) (sym (c .before .before .before .before .before .command-fits .ensures) ∙ not-false _ (c .before .before .before .before .if2 .left)) (sym (c .before .marked-ok .ensures ∙ ap₂ markedOk (c .before .before .before .get-u8 .ensures) (c .before .before .get-u82 .ensures)) ∙ not-true _ (c .if3 .taken))
 
-none-ok-requires : tie.Need-none-ok-requires
-none-ok-requires c κs = search needs
+none-is-blank-in-requires : tie.Need-none-is-blank-in-requires
+none-is-blank-in-requires c κs = search needs
 
 returns-4 : tie.Need-returns-4
-returns-4 c = front-none _ _ _ (sym (c .before .before .before .before .before .before .before .before .before .ballots-ok .ensures ∙ ap₂ (ballotsOk (c .before .before .before .before .before .before .before .before .before .before .before .before .before .args .n)) (c .before .before .before .before .before .before .before .before .before .before .before .get-u32 .ensures) (c .before .before .before .before .before .before .before .before .before .before .get-u322 .ensures)) ∙ not-false _ (c .before .before .before .before .before .before .before .before .if1 .left)) (sym (c .before .before .before .before .before .before .before .command-fits .ensures) ∙ not-false _ (c .before .before .before .before .before .before .if2 .left)) (sym (c .before .before .before .marked-ok .ensures ∙ ap₂ markedOk (c .before .before .before .before .before .get-u8 .ensures) (c .before .before .before .before .get-u82 .ensures)) ∙ not-false _ (c .before .before .if3 .left)) (sym (c .before .none-ok .ensures) ∙ not-true _ (c .if4 .taken))
+returns-4 c = front-none _ _ _ (sym (c .before .before .before .before .before .before .before .before .before .ballots-ok .ensures ∙ ap₂ (ballotsOk (c .before .before .before .before .before .before .before .before .before .before .before .before .before .args .n)) (c .before .before .before .before .before .before .before .before .before .before .before .get-u32 .ensures) (c .before .before .before .before .before .before .before .before .before .before .get-u322 .ensures)) ∙ not-false _ (c .before .before .before .before .before .before .before .before .if1 .left)) (sym (c .before .before .before .before .before .before .before .command-fits .ensures) ∙ not-false _ (c .before .before .before .before .before .before .if2 .left)) (sym (c .before .before .before .marked-ok .ensures ∙ ap₂ markedOk (c .before .before .before .before .before .get-u8 .ensures) (c .before .before .before .before .get-u82 .ensures)) ∙ not-false _ (c .before .before .if3 .left)) (sym (c .before .none-is-blank-in .ensures) ∙ not-true _ (c .if4 .taken))
 
-deps-fit-requires : tie.Need-deps-fit-requires
-deps-fit-requires c κs = search needs
+deps-ok-in-requires : tie.Need-deps-ok-in-requires
+deps-ok-in-requires c κs = search needs
 
 returns-5 : tie.Need-returns-5
-returns-5 c = c .deps-fit .ensures ∙ front-deps _ _ _ (sym (c .before .before .before .before .before .before .before .before .before .before .ballots-ok .ensures ∙ ap₂ (ballotsOk (c .before .before .before .before .before .before .before .before .before .before .before .before .before .before .args .n)) (c .before .before .before .before .before .before .before .before .before .before .before .before .get-u32 .ensures) (c .before .before .before .before .before .before .before .before .before .before .before .get-u322 .ensures)) ∙ not-false _ (c .before .before .before .before .before .before .before .before .before .if1 .left)) (sym (c .before .before .before .before .before .before .before .before .command-fits .ensures) ∙ not-false _ (c .before .before .before .before .before .before .before .if2 .left)) (sym (c .before .before .before .before .marked-ok .ensures ∙ ap₂ markedOk (c .before .before .before .before .before .before .get-u8 .ensures) (c .before .before .before .before .before .get-u82 .ensures)) ∙ not-false _ (c .before .before .before .if3 .left)) (sym (c .before .before .none-ok .ensures) ∙ not-false _ (c .before .if4 .left))
+returns-5 c = c .deps-ok-in .ensures ∙ front-deps _ _ _ (sym (c .before .before .before .before .before .before .before .before .before .before .ballots-ok .ensures ∙ ap₂ (ballotsOk (c .before .before .before .before .before .before .before .before .before .before .before .before .before .before .args .n)) (c .before .before .before .before .before .before .before .before .before .before .before .before .get-u32 .ensures) (c .before .before .before .before .before .before .before .before .before .before .before .get-u322 .ensures)) ∙ not-false _ (c .before .before .before .before .before .before .before .before .before .if1 .left)) (sym (c .before .before .before .before .before .before .before .before .command-fits .ensures) ∙ not-false _ (c .before .before .before .before .before .before .before .if2 .left)) (sym (c .before .before .before .before .marked-ok .ensures ∙ ap₂ markedOk (c .before .before .before .before .before .before .get-u8 .ensures) (c .before .before .before .before .before .get-u82 .ensures)) ∙ not-false _ (c .before .before .before .if3 .left)) (sym (c .before .before .none-is-blank-in .ensures) ∙ not-false _ (c .before .if4 .left))
 
 pub front-ok-spec : {M : Type 1} → statement M
 front-ok-spec =
@@ -62,7 +62,7 @@ front-ok-spec =
     get-u8-requires-2
     marked-ok-requires
     returns-3
-    none-ok-requires
+    none-is-blank-in-requires
     returns-4
-    deps-fit-requires
+    deps-ok-in-requires
     returns-5)

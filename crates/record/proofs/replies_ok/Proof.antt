@@ -20,17 +20,17 @@ loop-holds c = (judged-start _ _ _ _, c .before .pre)
 sub-left : tie.Need-sub-left Inv-loop μ-loop
 sub-left c = omega arith
 
-reply-ok-requires : tie.Need-reply-ok-requires Inv-loop μ-loop
-reply-ok-requires c κs = (c .before .loop .inv .1, omega (arith, c .before .loop .inv .0 .few))
+reply-part-requires : tie.Need-reply-part-requires Inv-loop μ-loop
+reply-part-requires c κs = (c .before .loop .inv .1, omega (arith, c .before .loop .inv .0 .few))
 
 returns : tie.Need-returns Inv-loop μ-loop
-returns c = bad-reply _ _ _ _ _ (c .before .before .loop-test .taken) (c .before .before .before .loop .inv .0) (sym (c .before .reply-ok .ensures) ∙ not-true _ (c .if1 .taken))
+returns c = bad-reply _ _ _ _ _ (c .before .before .loop-test .taken) (c .before .before .before .loop .inv .0) (sym (c .before .reply-part .ensures) ∙ not-true _ (c .if1 .taken))
 
 loop-less : tie.Need-loop-less Inv-loop μ-loop
 loop-less c = omega arith
 
 loop-again : tie.Need-loop-again Inv-loop μ-loop
-loop-again c = (judged-next _ _ _ _ _ (c .before .before .loop-test .taken) (c .before .before .before .loop .inv .0) (sym (c .before .reply-ok .ensures) ∙ not-false _ (c .if1 .left)), c .before .before .before .loop .inv .1)
+loop-again c = (judged-next _ _ _ _ _ (c .before .before .loop-test .taken) (c .before .before .before .loop .inv .0) (sym (c .before .reply-part .ensures) ∙ not-false _ (c .if1 .left)), c .before .before .before .loop .inv .1)
 
 returns-2 : tie.Need-returns-2 Inv-loop μ-loop
 returns-2 c = judged-all _ _ _ _ _ (omega arith) (c .before .loop .inv .0)
@@ -43,7 +43,7 @@ replies-ok-spec =
     μ-loop
     loop-holds
     sub-left
-    reply-ok-requires
+    reply-part-requires
     returns
     loop-less
     loop-again

@@ -11,19 +11,19 @@ plain-ok-requires c κs = search needs
 returns : tie.Need-returns
 returns c = unsound-plain _ _ _ _ _ (sym (c .before .plain-ok .ensures) ∙ not-true _ (c .if1 .taken))
 
-phase-ok-requires : tie.Need-phase-ok-requires
-phase-ok-requires c κs = search needs
+phases-ok-in-requires : tie.Need-phases-ok-in-requires
+phases-ok-in-requires c κs = search needs
 
 returns-2 : tie.Need-returns-2
-returns-2 c = unsound-phase _ _ _ _ _ (sym (c .before .before .before .plain-ok .ensures) ∙ not-false _ (c .before .before .if1 .left)) (sym (c .before .phase-ok .ensures) ∙ not-true _ (c .if2 .taken))
+returns-2 c = unsound-phase _ _ _ _ _ (sym (c .before .before .before .plain-ok .ensures) ∙ not-false _ (c .before .before .if1 .left)) (sym (c .before .phases-ok-in .ensures) ∙ not-true _ (c .if2 .taken))
 
 replies-ok-requires : tie.Need-replies-ok-requires
 replies-ok-requires c κs = search needs
 
 returns-3 : tie.Need-returns-3
-returns-3 c = c .replies-ok .ensures ∙ sound-replies _ _ _ _ _ (sym (c .before .before .before .before .plain-ok .ensures) ∙ not-false _ (c .before .before .before .if1 .left)) (sym (c .before .before .phase-ok .ensures) ∙ not-false _ (c .before .if2 .left))
+returns-3 c = c .replies-ok .ensures ∙ sound-replies _ _ _ _ _ (sym (c .before .before .before .before .plain-ok .ensures) ∙ not-false _ (c .before .before .before .if1 .left)) (sym (c .before .before .phases-ok-in .ensures) ∙ not-false _ (c .before .if2 .left))
 
 pub sound-part-spec : {M : Type 1} → statement M
 sound-part-spec =
     tie.close
-    (tie.spec plain-ok-requires returns phase-ok-requires returns-2 replies-ok-requires returns-3)
+    (tie.spec plain-ok-requires returns phases-ok-in-requires returns-2 replies-ok-requires returns-3)

@@ -3,7 +3,7 @@ use mathlib.Core.List.{List, _++_}
 use Prim.Native.Nat.{ℕ, _+_, _*_, _-_}
 use native.Mathlib.Omega.{arith}
 use lib.ListN.{length, length-append}
-use Rattle.num.proofs.Laws.{splice-step, splice-all}
+use Rattle.numbers.proofs.Laws.{splice-step, splice-all}
 use Rattle.record.specs.Layout.{frontBytes, votesBytes, recordBytes}
 use Rattle.record.proofs.Laws.{length-frontBytes, length-votesBytes}
 use borrow.Author.Needs.{needs}

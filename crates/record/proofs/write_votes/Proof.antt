@@ -4,8 +4,8 @@ use Prim.Native.Nat.{_+_, _-_, _≤_}
 use native.Mathlib.Omega.{arith}
 use lib.Seq.{take-all}
 use lib.ListN.{length, take}
-use Rattle.num.specs.Num.{splice}
-use Rattle.num.proofs.Laws.{splice-nil}
+use Rattle.numbers.specs.Num.{splice}
+use Rattle.numbers.proofs.Laws.{splice-nil}
 use Rattle.record.specs.Layout.{votesBytes}
 use Rattle.record.proofs.Laws.{votes-step}
 use Rattle.record.proofs.write_votes.Statement.{statement}

@@ -4,7 +4,7 @@ use borrow.Author.Tests.{not-true, not-false, le-leb, lt-leb}
 use Rattle.paper.specs.declared.Refusal.the-variants as why
 use Rattle.rules.specs.Step.{isCommitted}
 use Rattle.table.proofs.Laws.{sizes, names}
-use Rattle.num.specs.Num.{Bytes}
+use Rattle.numbers.specs.Num.{Bytes}
 use Rattle.rules.specs.Recover.{outOfBallots}
 use Rattle.log.proofs.Calls.{met, refused, acted-is}
 use Rattle.recover.proofs.Laws.{recover-6, recover-8, recover-7, recover-ok, recover-room, recover-step}
@@ -92,8 +92,8 @@ short-requires c κs =
     let sz = sizes (a .n) (a .s) (a .c) t (z .pre .setup) in
     omega (arith, nm .last, nm .numbers)
 
-on-recover-requires : tie.Need-on-recover-requires
-on-recover-requires c κs =
+recover-requires : tie.Need-recover-requires
+recover-requires c κs =
     let z = c .before .before .before .before .before .before .before .before .before .before .before .before .before in
     let a = z .args in
     let t = a .t .now in
@@ -113,7 +113,7 @@ act-requires c κs =
     let rr = c .before .before .before .before .before .before .before .before .before .before .load .ensures in
     let q = ap isCommitted (sym rr) ∙ sym (c .before .before .before .before .before .before .before .before .before .is-committed .ensures) ∙ c .before .before .before .before .before .before .before .before .if2 .left in
     let l = ap outOfBallots (sym rr) ∙ lt-leb _ _ (c .before .before .before .before .before .before .if3 .left) in
-    let x = recover-step (a .n) (a .s) (a .c) t (a .out .now) (a .o) (a .j) (c .before .before .before .before .before .byte .ensures) (c .before .before .before .before .byte2 .ensures) (c .before .before .before .short .ensures) (c .before .before .before .before .before .before .before .before .before .before .load .ensures) (c .before .before .on-recover .ensures) in
+    let x = recover-step (a .n) (a .s) (a .c) t (a .out .now) (a .o) (a .j) (c .before .before .before .before .before .byte .ensures) (c .before .before .before .before .byte2 .ensures) (c .before .before .before .short .ensures) (c .before .before .before .before .before .before .before .before .before .before .load .ensures) (c .before .before .recover .ensures) in
     let bt : Bytes t = λ i. omega (arith, c .before .before .before .before .before .before .before .before .before .before .before .before .before .before .before .slice-known .given i) in
     (record { names = nm; long = sz .long }, z .pre .long, rw x (recover-room (a .n) (a .s) (a .c) t (a .out .now) (a .o) (a .j) bt (z .pre) i q l))
 
@@ -134,7 +134,7 @@ returns-4 c =
     let rr = c .before .before .before .before .before .before .before .before .before .before .before .before .before .before .before .load .ensures in
     let q = ap isCommitted (sym rr) ∙ sym (c .before .before .before .before .before .before .before .before .before .before .before .before .before .before .is-committed .ensures) ∙ c .before .before .before .before .before .before .before .before .before .before .before .before .before .if2 .left in
     let l = ap outOfBallots (sym rr) ∙ lt-leb _ _ (c .before .before .before .before .before .before .before .before .before .before .before .if3 .left) in
-    let x = recover-step (a .n) (a .s) (a .c) t (a .out .now) (a .o) (a .j) (c .before .before .before .before .before .before .before .before .before .before .byte .ensures) (c .before .before .before .before .before .before .before .before .before .byte2 .ensures) (c .before .before .before .before .before .before .before .before .short .ensures) (c .before .before .before .before .before .before .before .before .before .before .before .before .before .before .before .load .ensures) (c .before .before .before .before .before .before .before .on-recover .ensures) in
+    let x = recover-step (a .n) (a .s) (a .c) t (a .out .now) (a .o) (a .j) (c .before .before .before .before .before .before .before .before .before .before .byte .ensures) (c .before .before .before .before .before .before .before .before .before .byte2 .ensures) (c .before .before .before .before .before .before .before .before .short .ensures) (c .before .before .before .before .before .before .before .before .before .before .before .before .before .before .before .load .ensures) (c .before .before .before .before .before .before .before .recover .ensures) in
     let w = c .before .before .before .before .act .ensures in
     met (recover-ok (a .n) (a .s) (a .c) t (a .out .now) (a .o) (a .j) i q l) (acted-is (a .s) t (a .out .now) (a .o) (a .j) x (w .0) (w .1 .0) (w .1 .1))
 
@@ -153,7 +153,7 @@ recover-open-spec =
     byte-requires
     byte-requires-2
     short-requires
-    on-recover-requires
+    recover-requires
     act-requires
     same-length-3
     same-length-4

@@ -28,8 +28,8 @@ marks-at-requires-2 c κs = search needs
 join-requires : tie.Need-join-requires
 join-requires c κs = search needs
 
-before-requires : tie.Need-before-requires
-before-requires c κs =
+before-in-requires : tie.Need-before-in-requires
+before-in-requires c κs =
     let e = c .before .before .before .before .before .before .before .before .before .before .before .before .before .before .before .before .before .before .before .before in
     (e .pre .0 .rows .long, omega (arith, e .pre .1 .owner, e .pre .0 .sized .copies), omega (arith, e .pre .1 .last, e .pre .0 .sized .numbers))
 
@@ -70,7 +70,7 @@ raise-spec =
     marks-at-requires
     marks-at-requires-2
     join-requires
-    before-requires
+    before-in-requires
     join-requires-2
     put-row-requires-2
     same-length

@@ -16,15 +16,15 @@ abbrev μ-loop : tie.MeasureT-loop
 loop-holds : tie.Need-loop-holds Inv-loop μ-loop
 loop-holds c = (owners-none _ _ _ _ _ _ (c .before .before .before .pre .0 .rows), c .before .before .before .pre .0 .long)
 
-turn-requires : tie.Need-turn-requires Inv-loop μ-loop
-turn-requires c κs = c .before .before .loop-test .taken
+turned-requires : tie.Need-turned-requires Inv-loop μ-loop
+turned-requires c κs = c .before .before .loop-test .taken
 
 raise-requires : tie.Need-raise-requires Inv-loop μ-loop
 raise-requires c κs =
     let l = c .before .before .before .before in
     let e = l .before .before .before .before in (
       record { sized = e .pre .0 .sized; rows = l .loop .inv .0 .rows; long = l .loop .inv .1 },
-      record { owner = rw (c .turn .ensures) (turned-below (e .args .n) (l .loop .i) (e .args .back) (c .before .before .before .loop-test .taken)); first = e .pre .1; last = e .pre .2 },
+      record { owner = rw (c .turned .ensures) (turned-below (e .args .n) (l .loop .i) (e .args .back) (c .before .before .before .loop-test .taken)); first = e .pre .1; last = e .pre .2 },
     )
 
 add-i : tie.Need-add-i Inv-loop μ-loop
@@ -37,7 +37,7 @@ loop-again : tie.Need-loop-again Inv-loop μ-loop
 loop-again c =
     let l = c .before .before .before .before .before .before .before .before .before in
     let r = c .before .before .before .before .raise .ensures in
-    (owners-more _ _ _ _ _ _ _ _ _ _ (l .before .before .before .before .pre .2) (c .before .before .before .before .before .before .before .before .loop-test .taken) (c .before .before .before .before .before .turn .ensures) (l .loop .inv .0) (r .1), r .0)
+    (owners-more _ _ _ _ _ _ _ _ _ _ (l .before .before .before .before .pre .2) (c .before .before .before .before .before .before .before .before .loop-test .taken) (c .before .before .before .before .before .turned .ensures) (l .loop .inv .0) (r .1), r .0)
 
 same-length : tie.Need-same-length Inv-loop μ-loop
 same-length c = c .before .loop .inv .0 .rows .long ∙ sym (c .before .before .before .before .before .pre .0 .rows .long)
@@ -55,7 +55,7 @@ raise-number-spec =
     Inv-loop
     μ-loop
     loop-holds
-    turn-requires
+    turned-requires
     raise-requires
     add-i
     loop-less

@@ -16,14 +16,14 @@ abbrev μ-loop : tie.MeasureT-loop
 loop-holds : tie.Need-loop-holds Inv-loop μ-loop
 loop-holds c = (numbers-none _ _ _ _ _ (c .before .before .before .pre .rows), c .before .before .before .pre .long)
 
-turn-requires : tie.Need-turn-requires Inv-loop μ-loop
-turn-requires c κs = c .before .before .loop-test .taken
+turned-requires : tie.Need-turned-requires Inv-loop μ-loop
+turned-requires c κs = c .before .before .loop-test .taken
 
 add-raise-number : tie.Need-add-raise-number Inv-loop μ-loop
 add-raise-number c =
     let l = c .before .before .before .before in
     let e = l .before .before .before .before in
-    omega (arith, c .turn .ensures, turned-below (e .args .s) (l .loop .i) (e .args .back) (c .before .before .before .loop-test .taken), e .pre .sized .numbers)
+    omega (arith, c .turned .ensures, turned-below (e .args .s) (l .loop .i) (e .args .back) (c .before .before .before .loop-test .taken), e .pre .sized .numbers)
 
 raise-number-requires : tie.Need-raise-number-requires Inv-loop μ-loop
 raise-number-requires c κs =
@@ -31,7 +31,7 @@ raise-number-requires c κs =
     let e = l .before .before .before .before in (
       record { sized = e .pre .sized; rows = l .loop .inv .0 .rows; long = l .loop .inv .1 },
       omega arith,
-      omega (arith, c .turn .ensures, turned-below (e .args .s) (l .loop .i) (e .args .back) (c .before .before .before .loop-test .taken)),
+      omega (arith, c .turned .ensures, turned-below (e .args .s) (l .loop .i) (e .args .back) (c .before .before .before .loop-test .taken)),
     )
 
 add-i : tie.Need-add-i Inv-loop μ-loop
@@ -44,7 +44,7 @@ loop-again : tie.Need-loop-again Inv-loop μ-loop
 loop-again c =
     let l = c .before .before .before .before .before .before .before .before .before in
     let r = c .before .before .before .before .raise-number .ensures in
-    (numbers-more _ _ _ _ _ _ _ _ _ (c .before .before .before .before .before .before .before .before .loop-test .taken) (c .before .before .before .before .before .turn .ensures) (l .loop .inv .0) (r .1), r .0)
+    (numbers-more _ _ _ _ _ _ _ _ _ (c .before .before .before .before .before .before .before .before .loop-test .taken) (c .before .before .before .before .before .turned .ensures) (l .loop .inv .0) (r .1), r .0)
 
 same-length : tie.Need-same-length Inv-loop μ-loop
 same-length c = c .before .loop .inv .0 .rows .long ∙ sym (c .before .before .before .before .before .pre .rows .long)
@@ -62,7 +62,7 @@ sweep-spec =
     Inv-loop
     μ-loop
     loop-holds
-    turn-requires
+    turned-requires
     add-raise-number
     raise-number-requires
     add-i

@@ -6,9 +6,6 @@ use borrow.Author.Needs.{needs}
 use Rattle.valid.proofs.valid_message.Statement.{statement}
 use Rattle.valid.proofs.valid_message.Tie as tie
 
-row-in-requires : tie.Need-row-in-requires
-row-in-requires c κs = search needs
-
 head-ok-requires : tie.Need-head-ok-requires
 head-ok-requires c κs = search needs
 
@@ -19,7 +16,7 @@ both-requires : tie.Need-both-requires
 both-requires c κs = search needs
 
 returns : tie.Need-returns
-returns c = invalid _ _ _ _ (c .before .before .before .before .row-in .ensures) (sym (c .before .both .ensures ∙ ap₂ _&&_ (c .before .before .before .head-ok .ensures) (c .before .before .way-ok .ensures)) ∙ not-true _ (c .if1 .taken))
+returns c = invalid _ _ _ _ (c .before .before .before .before .pre) (sym (c .before .both .ensures ∙ ap₂ _&&_ (c .before .before .before .head-ok .ensures) (c .before .before .way-ok .ensures)) ∙ not-true _ (c .if1 .taken))
 
 vote-in-requires : tie.Need-vote-in-requires
 vote-in-requires c κs = search needs
@@ -32,14 +29,13 @@ body-ok-requires c κs = search needs
 
 returns-2 : tie.Need-returns-2
 returns-2 c =
-    valid-body _ _ _ _ (c .before .before .before .before .before .before .before .row-in .ensures) (sym (c .before .before .before .before .both .ensures ∙ ap₂ _&&_ (c .before .before .before .before .before .before .head-ok .ensures) (c .before .before .before .before .before .way-ok .ensures)) ∙ not-false _ (c .before .before .before .if1 .left)) (c .before .before .vote-in .ensures) (c .before .joined-in .ensures)
+    valid-body _ _ _ _ (c .before .before .before .before .before .before .before .pre) (sym (c .before .before .before .before .both .ensures ∙ ap₂ _&&_ (c .before .before .before .before .before .before .head-ok .ensures) (c .before .before .before .before .before .way-ok .ensures)) ∙ not-false _ (c .before .before .before .if1 .left)) (c .before .before .vote-in .ensures) (c .before .joined-in .ensures)
     (c .body-ok .ensures)
 
 pub valid-message-spec : {M : Type 1} → statement M
 valid-message-spec =
     tie.close
     (tie.spec
-    row-in-requires
     head-ok-requires
     way-ok-requires
     both-requires

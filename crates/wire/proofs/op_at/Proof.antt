@@ -1,7 +1,7 @@
 use mathlib.Core.Path.{ap, _∙_}
 use native.Mathlib.Omega.{arith}
 use borrow.Author.Tests.{not-true, not-false}
-use Rattle.num.specs.Num.{numAt}
+use Rattle.numbers.specs.Num.{numAt}
 use Rattle.wire.specs.Wire.{opAt}
 use Rattle.wire.proofs.Laws.{command-room}
 use borrow.Author.Needs.{needs}

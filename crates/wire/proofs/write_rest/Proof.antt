@@ -2,7 +2,7 @@ use mathlib.Core.Path.{sym, _∙_}
 use mathlib.Core.List.{_++_}
 use native.Mathlib.Omega.{arith}
 use lib.ListN.{length-append}
-use Rattle.num.proofs.Laws.{splice-step}
+use Rattle.numbers.proofs.Laws.{splice-step}
 use Rattle.codec.specs.Parts.{commandBytes, depsBytes}
 use Rattle.wire.specs.Wire.{part, toldBytes, joinedBytes, restBytes}
 use Rattle.wire.proofs.Laws.{at-told, at-command, at-deps, at-joined, told-size, command-size, deps-size, joined-size}

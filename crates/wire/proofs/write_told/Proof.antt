@@ -1,8 +1,8 @@
 use mathlib.Core.Path.{refl}
 use Prim.Native.Nat.{_+_}
 use native.Mathlib.Omega.{arith}
-use Rattle.num.specs.Num.{bytesOf}
-use Rattle.num.proofs.Laws.{splice-nil, splice-step}
+use Rattle.numbers.specs.Num.{bytesOf}
+use Rattle.numbers.proofs.Laws.{splice-nil, splice-step}
 use borrow.Author.Needs.{needs}
 use Rattle.wire.proofs.write_told.Statement.{statement}
 use Rattle.wire.proofs.write_told.Tie as tie

@@ -2,7 +2,7 @@ use mathlib.Core.Path.{sym, ap, _∙_}
 use Prim.Native.Nat.{_-_}
 use native.Mathlib.Omega.{arith}
 use borrow.Author.Tests.{not-true, not-false}
-use Rattle.num.specs.Num.{splice}
+use Rattle.numbers.specs.Num.{splice}
 use Rattle.paper.specs.declared.Message.{Message}
 use Rattle.wire.specs.Wire.{messageBytes}
 use borrow.Author.Needs.{needs}
@@ -20,8 +20,8 @@ returns c =
 addressed-requires : tie.Need-addressed-requires
 addressed-requires c κs = search needs
 
-encode-requires : tie.Need-encode-requires
-encode-requires c κs = c .before .before .before .before .before .pre .fits (sym (c .before .before .before .member .ensures) ∙ not-false _ (c .before .before .if1 .left)) .1
+message-bytes-requires : tie.Need-message-bytes-requires
+message-bytes-requires c κs = c .before .before .before .before .before .pre .fits (sym (c .before .before .before .member .ensures) ∙ not-false _ (c .before .before .if1 .left)) .1
 
 size-of-requires : tie.Need-size-of-requires
 size-of-requires c κs = search needs
@@ -38,7 +38,7 @@ returns-2 : tie.Need-returns-2
 returns-2 c =
     let e = (sym (c .before .before .before .before .before .before .before .member .ensures) ∙ not-false _ (c .before .before .before .before .before .before .if1 .left)) in
     let a = c .before .before .before .before .before .before .before .before .before .args in
-    let w = c .before .before .before .encode .ensures ∙ ap (λ (x : Message). splice (a .out .now) (a .at) (messageBytes x)) (c .before .before .before .before .addressed .ensures) in
+    let w = c .before .before .before .message-bytes .ensures ∙ ap (λ (x : Message). splice (a .out .now) (a .at) (messageBytes x)) (c .before .before .before .before .addressed .ensures) in
     (rw (e, ← c .size-of .ensures), rw e w)
 
 pub send-one-spec : {M : Type 1} → statement M
@@ -48,7 +48,7 @@ send-one-spec =
     member-requires
     returns
     addressed-requires
-    encode-requires
+    message-bytes-requires
     size-of-requires
     add-result
     same-length

@@ -16,8 +16,8 @@ abbrev μ-loop : tie.MeasureT-loop
 loop-holds : tie.Need-loop-holds Inv-loop μ-loop
 loop-holds c = listed-start _ _ _ _ _ _ _ _ (c .before .before .before .before .before .before .pre)
 
-next-out-requires : tie.Need-next-out-requires Inv-loop μ-loop
-next-out-requires c κs = c .before .before .before .before .loop .inv .listing .going
+next-in-requires : tie.Need-next-in-requires Inv-loop μ-loop
+next-in-requires c κs = c .before .before .before .before .loop .inv .listing .going
 
 enum-known-found : tie.Need-enum-known-found Inv-loop μ-loop
 enum-known-found c = search needs
@@ -32,21 +32,21 @@ same-length-2 : tie.Need-same-length-2 Inv-loop μ-loop
 same-length-2 c = let l = c .before .before .before .before .before .before .before .before .before .before .before in l .loop .inv .listing .stated .long ∙ sym (l .before .before .before .before .before .before .before .pre .stated .long)
 
 same-length-3 : tie.Need-same-length-3 Inv-loop μ-loop
-same-length-3 c = let l = c .before .before .before .before .before .before .before .before .before .before .before in c .before .before .before .before .before .before .next-out .ensures .1 .long ∙ sym (l .before .before .before .before .before .before .before .pre .going .long)
+same-length-3 c = let l = c .before .before .before .before .before .before .before .before .before .before .before in c .before .before .before .before .before .before .next-in .ensures .1 .long ∙ sym (l .before .before .before .before .before .before .before .pre .going .long)
 
 same-length-4 : tie.Need-same-length-4 Inv-loop μ-loop
-same-length-4 c = let l = c .before .before .before .before .before .before .before .before .before .before .before in c .before .before .before .before .before .before .next-out .ensures .1 .passed .long ∙ sym (l .before .before .before .before .before .before .before .pre .going .passed .long)
+same-length-4 c = let l = c .before .before .before .before .before .before .before .before .before .before .before in c .before .before .before .before .before .before .next-in .ensures .1 .passed .long ∙ sym (l .before .before .before .before .before .before .before .pre .going .passed .long)
 
 same-length-5 : tie.Need-same-length-5 Inv-loop μ-loop
 same-length-5 c = c .before .before .before .before .before .before .before .before .before .before .before .loop .inv .long
 
 returns : tie.Need-returns Inv-loop μ-loop
-returns c = listed-none _ _ _ _ _ _ _ _ _ _ _ (c .before .before .before .before .before .before .before .before .before .before .before .loop .inv) (sym (c .enum-told .given .1) ∙ c .before .before .before .before .before .before .next-out .ensures .0)
+returns c = listed-none _ _ _ _ _ _ _ _ _ _ _ (c .before .before .before .before .before .before .before .before .before .before .before .loop .inv) (sym (c .enum-told .given .1) ∙ c .before .before .before .before .before .before .next-in .ensures .0)
 
 slot-of-requires : tie.Need-slot-of-requires Inv-loop μ-loop
 slot-of-requires c κs =
     let l = c .before .before .before .before .before .before .before .before .before .before .before .before .loop .inv in
-    let i = found-inst _ _ _ _ _ _ _ _ _ _ _ l _ _ (sym (c .before .found .given .1) ∙ c .before .before .before .before .before .before .before .next-out .ensures .0) in
+    let i = found-inst _ _ _ _ _ _ _ _ _ _ _ l _ _ (sym (c .before .found .given .1) ∙ c .before .before .before .before .before .before .before .next-in .ensures .0) in
     (omega (arith, i .owner, l .listing .going .lists .copies), i .first, omega (arith, i .last, l .listing .going .lists .numbers))
 
 slice-write-st : tie.Need-slice-write-st Inv-loop μ-loop
@@ -55,7 +55,7 @@ slice-write-st c = omega (arith, c .slot-of .ensures .1, c .before .before .befo
 marked-in-requires : tie.Need-marked-in-requires Inv-loop μ-loop
 marked-in-requires c κs =
     let l = c .before .before .before .before .before .before .before .before .before .before .before .before .before .before .loop .inv in
-    let i = found-inst _ _ _ _ _ _ _ _ _ _ _ l _ _ (sym (c .before .before .before .found .given .1) ∙ c .before .before .before .before .before .before .before .before .before .next-out .ensures .0) in
+    let i = found-inst _ _ _ _ _ _ _ _ _ _ _ l _ _ (sym (c .before .before .before .found .given .1) ∙ c .before .before .before .before .before .before .before .before .before .next-in .ensures .0) in
     record {
       has = record {
         names = record { copies = l .listing .going .lists .copies; numbers = l .listing .going .lists .numbers; owner = i .owner; first = i .first; last = i .last };
@@ -67,7 +67,7 @@ marked-in-requires c κs =
 code-of-requires : tie.Need-code-of-requires Inv-loop μ-loop
 code-of-requires c κs =
     let l = c .before .before .before .before .before .before .before .before .before .before .before .before .before .before .before .before .before .loop .inv in
-    let i = found-inst _ _ _ _ _ _ _ _ _ _ _ l _ _ (sym (c .before .before .before .before .before .before .found .given .1) ∙ c .before .before .before .before .before .before .before .before .before .before .before .before .next-out .ensures .0) in
+    let i = found-inst _ _ _ _ _ _ _ _ _ _ _ l _ _ (sym (c .before .before .before .before .before .before .found .given .1) ∙ c .before .before .before .before .before .before .before .before .before .before .before .before .next-in .ensures .0) in
     (omega (arith, i .owner, l .listing .going .lists .copies), omega (arith, i .last, l .listing .going .lists .numbers))
 
 mul-list : tie.Need-mul-list Inv-loop μ-loop
@@ -88,8 +88,8 @@ loop-less c = omega (arith, c .before .before .before .before .before .before .b
 loop-again : tie.Need-loop-again Inv-loop μ-loop
 loop-again c =
     let d = c .before .before .before .before .before .before .before .before .before .before .before .before .before in
-    let e = sym (c .before .before .before .before .before .before .before .found .given .1) ∙ d .next-out .ensures .0 in
-    listed-on _ _ _ _ _ _ _ _ _ _ _ (c .before .before .before .before .before .before .before .before .before .before .before .before .before .before .before .before .before .before .loop .inv) _ _ _ _ _ _ _ e (c .before .before .before .before .before .before .before .before .before .before .before .before .before .before .before .before .before .loop-test .taken) (c .before .before .before .before .before .slot-of .ensures .0) (d .next-out .ensures .1) (c .before .before .before .marked-in .ensures) (c .code-of .ensures)
+    let e = sym (c .before .before .before .before .before .before .before .found .given .1) ∙ d .next-in .ensures .0 in
+    listed-on _ _ _ _ _ _ _ _ _ _ _ (c .before .before .before .before .before .before .before .before .before .before .before .before .before .before .before .before .before .before .loop .inv) _ _ _ _ _ _ _ e (c .before .before .before .before .before .before .before .before .before .before .before .before .before .before .before .before .before .loop-test .taken) (c .before .before .before .before .before .slot-of .ensures .0) (d .next-in .ensures .1) (c .before .before .before .marked-in .ensures) (c .code-of .ensures)
 
 same-length-6 : tie.Need-same-length-6 Inv-loop μ-loop
 same-length-6 c = let l = c .before in l .loop .inv .listing .long ∙ sym (l .before .before .before .before .before .before .before .pre .long)
@@ -116,7 +116,7 @@ list-all-spec =
     Inv-loop
     μ-loop
     loop-holds
-    next-out-requires
+    next-in-requires
     enum-known-found
     enum-told
     same-length

@@ -6,7 +6,7 @@ use Prim.Native.Nat.{ℕ}
 use native.Mathlib.Omega.{arith}
 use Rattle.paper.specs.declared.Refusal.the-variants as why
 use Rattle.table.proofs.Laws.{sizes}
-use Rattle.num.specs.Num.{Bytes}
+use Rattle.numbers.specs.Num.{Bytes}
 use Rattle.log.proofs.Calls.{met, refused, acted-is}
 use Rattle.receive.proofs.Laws.{named, ready, small-set, message-room, heard-10, heard-ok, message-step}
 use Rattle.table.specs.Table.{recordIn}

@@ -2,7 +2,7 @@ use borrow.Author.Needs.{needs}
 use Rattle.receive.proofs.message.message_open.Statement.{statement}
 use Rattle.receive.proofs.message.message_open.Tie as tie
 use native.Mathlib.Omega.{arith}
-use Rattle.num.specs.Num.{Bytes}
+use Rattle.numbers.specs.Num.{Bytes}
 use Rattle.log.proofs.Calls.{met, refused, setup-of}
 use Rattle.receive.proofs.Laws.{unread, read, receive-ok, hearing}
 

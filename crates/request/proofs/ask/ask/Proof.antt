@@ -5,7 +5,7 @@ use Prim.Native.Nat.{_-_}
 use native.Mathlib.Omega.{arith}
 use Rattle.paper.specs.declared.Refusal.the-variants as why
 use Rattle.table.proofs.Laws.{sizes}
-use Rattle.num.specs.Num.{Bytes}
+use Rattle.numbers.specs.Num.{Bytes}
 use Rattle.log.proofs.Calls.{met, refused, acted-is}
 use Rattle.request.proofs.Laws.{asked-5, asked-ok, own-names, request-room}
 

@@ -4,7 +4,7 @@ use Prim.Native.Nat.{ℕ, _+_, _-_}
 use native.Mathlib.Omega.{arith}
 use lib.ListN.{length}
 use borrow.Rule.Slice.PartMut.{putMid}
-use Rattle.num.specs.Num.{splice}
+use Rattle.numbers.specs.Num.{splice}
 use Rattle.record.specs.Layout.{recordLength, recordBytes}
 use Rattle.table.specs.Table.{putRecord}
 use Rattle.table.proofs.Laws.{put-splice}

@@ -1,0 +1,18 @@
+use borrow.Author.Needs.{needs}
+use Rattle.sweep.proofs.turned.Statement.{statement}
+use Rattle.sweep.proofs.turned.Tie as tie
+
+sub-result : tie.Need-sub-result
+sub-result c = search needs
+
+sub-result-2 : tie.Need-sub-result-2
+sub-result-2 c = search needs
+
+returns : tie.Need-returns
+returns c = rw (c .if1 .taken)
+
+returns-2 : tie.Need-returns-2
+returns-2 c = search needs
+
+pub turned-spec : {M : Type 1} → statement M
+turned-spec = tie.close (tie.spec sub-result sub-result-2 returns returns-2)
