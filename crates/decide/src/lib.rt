@@ -155,7 +155,7 @@ fn top_voters(r: Record) -> u8
     bits_of(q0, q1, q2, q3, q4, q5, q6)
 }
 
-// The highest ballot is 0, the owner is not among the replies, and at least F have status 2.
+// No recovery was voted in, the owner did not answer, and F or more took the command as the owner sent it.
 fn maybe_fast(n: usize, o: usize, r: Record) -> bool
     requires { ⌜ (3 ≤ n) × (o < 7) ⌝ }
     ensures { λ x. ⌜ x ≡ maybeFast n o r ⌝ }

@@ -45,7 +45,7 @@ fn again(n: usize, c: u8, o: u8, j: u16, r: Record) -> Step
     to_absent(n, c, o, j, r, Body::Accept(command), deps)
 }
 
-// Committed: Commit to all others. Phase 2 at ballot 0 with F or more replies goes to accepting.
+// What is committed is told to all others; a first round that F copies answered is closed, without the fast path.
 pub fn nudge(n: usize, c: u8, o: u8, j: u16, r: Record) -> Step
     requires { ⌜ 3 ≤ n ⌝ }
     ensures { λ x. ⌜ x ≡ nudge n c o j r ⌝ }

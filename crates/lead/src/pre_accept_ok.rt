@@ -113,7 +113,7 @@ fn fast_enough(n: usize, r: Record) -> bool
     at_most(2 * faults(n) - 1, count(matching(r)))
 }
 
-// At F or more replies, two of them different, or at all 2F.
+// The fast path is lost: F copies answered and two of them disagree, or all did.
 fn slow_enough(n: usize, r: Record) -> bool
     requires { ⌜ (3 ≤ n) × (n ≤ 7) ⌝ }
     ensures { λ x. ⌜ x ≡ slowEnough n r ⌝ }

@@ -41,8 +41,7 @@ pub record Outcome : Type 0 where
 abbrev pub refuse : Refusal → List ℕ → List ℕ → Outcome
 refuse r t out = record { answer = Refused r; table = t; out = out }
 
--- an event answers its instance and the bytes written; only its record's part of the table changes, and the room's later
--- bytes keep their contents
+-- the instance and how much was written; of the table the record alone changes, of the room what was written
 unfoldable pub acted : ℕ → List ℕ → List ℕ → ℕ → ℕ → Step → Outcome
 acted s t out o j x =
     record

@@ -309,7 +309,7 @@ soundLines =
     -- votedJoined: voted <= joined
     ∷ holds (sound (idle 9 (vote 9 1)))
     ∷ fails (sound (idle 9 (vote 10 1)))
-    -- noneBlank: status 0 has voted 0, no-op and zero dependencies
+    -- noneBlank: without a vote nothing is told
     ∷ fails (sound (idle 9 (voteOf noop (voteWith noDeps (vote 8 0)))))
     ∷ fails (sound (idle 9 (voteWith noDeps (vote 0 0))))
     ∷ fails (sound (idle 9 (voteOf noop (vote 0 0))))
@@ -364,7 +364,7 @@ soundLines =
     ∷ fails (toldTo (voteOf (command Noop 1 0) (vote 9 1)))
     ∷ holds (toldTo (voteWith (entry 4 4) (vote 9 1)))
     ∷ fails (toldTo (voteWith (entry 4 5) (vote 9 1)))
-    -- collectedOk: in phase 1 the own reply is the record's
+    -- collectedOk: what the lead collected of itself is its vote
     ∷ fails (sound (kept 2 (vote 8 1) (preparing 10 4 (vote 9 1))))
     ∷ fails (sound (kept 2 (vote 9 2) (preparing 10 4 (vote 9 1))))
     ∷ fails (sound (kept 2 (voteOf (command Read 7 100) (vote 9 1)) (preparing 10 4 (vote 9 1))))

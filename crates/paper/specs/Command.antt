@@ -33,6 +33,6 @@ editOk c = implies (isNoop c) (eqb (c .edit) 0)
 unfoldable pub commandOk : Command → Bool
 commandOk c = keyOk c && editOk c
 
--- two commands interfere if neither is a no-op and their keys are equal
+-- both ask for one object
 unfoldable pub interfere : Command → Command → Bool
 interfere a b = not (isNoop a) && not (isNoop b) && eqb (a .key) (b .key)

@@ -23,7 +23,7 @@ depsOk n s d = allBelow 7 (entryOk n s d)
 unfoldable pub sameDeps : List ℕ → List ℕ → Bool
 sameDeps d e = allBelow 7 (λ i. eqb (getD d i 0) (getD e i 0))
 
--- an instance p.k with these dependencies covers o.j if o.j is not itself and 1 <= j <= entry o
+-- o.j is within what the dependencies of p.k name of its owner's row, and is another
 unfoldable pub covers : ℕ → ℕ → List ℕ → ℕ → ℕ → Bool
 covers p k d o j = not (eqb o p && eqb j k) && leb 1 j && leb j (getD d o 0)
 
@@ -35,6 +35,6 @@ unfoldable pub joinFrom : ℕ → List ℕ → List ℕ → ℕ → List ℕ
 joinFrom zero d e i = []
 joinFrom (suc k) d e i = larger (getD d i 0) (getD e i 0) ∷ joinFrom k d e (i + 1)
 
--- joining two lists takes the larger entry at each place
+-- place by place the larger
 abbrev pub join : List ℕ → List ℕ → List ℕ
 join d e = joinFrom 7 d e 0

@@ -43,14 +43,14 @@ markCommitted r = implies (eqb (r .mark) 1) (eqb (r .vote .status) 4)
 abbrev pub idleEmpty : Record → Bool
 idleEmpty r = implies (eqb (r .phase) 0) (eqb (r .set) 0)
 
--- phase not 0 has status below 4 and this copy leads joined
+-- only a lead is busy, and only with what is open
 abbrev pub busyOpen : Record → Bool
 busyOpen r = implies (leb 1 (r .phase)) (ltb (r .vote .status) 4)
 
 abbrev pub busyLeads : ℕ → ℕ → Record → Bool
 busyLeads c o r = implies (leb 1 (r .phase)) (eqb (lead o (r .joined)) c)
 
--- phase 1 has joined >= 8, voted < joined, and a reply set holding this copy and at most F members
+-- preparing: in a recovery, at a ballot not voted in yet, with the own reply and too few to decide
 abbrev pub preparingBallot : Record → Bool
 preparingBallot r = implies (eqb (r .phase) 1) (leb 8 (r .joined))
 
@@ -63,7 +63,7 @@ preparingSelf c r = implies (eqb (r .phase) 1) (member c (r .set))
 abbrev pub preparingFew : ℕ → Record → Bool
 preparingFew n r = implies (eqb (r .phase) 1) (leb (count (r .set)) (faults n))
 
--- phase 2 has status 1 or 2 and at ballot 0 no no-op, phase 3 status 3
+-- what was voted for is what the phase asks the others for; a no-op comes from recovery alone
 abbrev pub preacceptingStatus : Record → Bool
 preacceptingStatus r = implies (eqb (r .phase) 2) (eqb (r .vote .status) 1 || eqb (r .vote .status) 2)
 
@@ -73,15 +73,14 @@ preacceptingOp r = implies (eqb (r .phase) 2) (implies (eqb (r .joined) 0) (not 
 abbrev pub acceptingStatus : Record → Bool
 acceptingStatus r = implies (eqb (r .phase) 3) (eqb (r .vote .status) 3)
 
--- both with voted = joined and a set without this copy
+-- either asks at the ballot that this copy voted in, and counts the others' replies
 abbrev pub proposingVoted : Record → Bool
 proposingVoted r = implies (leb 2 (r .phase)) (eqb (r .vote .voted) (r .joined))
 
 abbrev pub proposingSelf : ℕ → Record → Bool
 proposingSelf c r = implies (leb 2 (r .phase)) (not (member c (r .set)))
 
--- a collected reply would be valid as its message at the joined ballot; in phase 1 the own reply is the record's;
--- an AcceptOK has nothing in it
+-- a collected reply could have come as a message to this ballot, which an AcceptOK leaves empty; the own one is the vote
 unfoldable pub collectedOk : ℕ → ℕ → ℕ → ℕ → ℕ → Vote → ℕ → Vote → Bool
 collectedOk n s c p b own q v =
     cond (eqb p 1) (cond (eqb q c) (sameVote v own) (toldOk n s b v)) (cond (eqb p 2) (addedOk n s v) (sameVote v noVote))

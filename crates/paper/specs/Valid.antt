@@ -48,7 +48,7 @@ toHere c m = eqb (m .to) c
 abbrev pub fromAnother : ℕ → Message → Bool
 fromAnother c m = not (eqb (m .from) c)
 
--- kinds 1, 3, 6 come from the ballot's lead
+-- only the lead says its word
 abbrev pub fromLead : Row → Message → Bool
 fromLead w m = implies (isWord (w .role)) (eqb (m .from) (leadOf m))
 
@@ -56,7 +56,7 @@ fromLead w m = implies (isWord (w .role)) (eqb (m .from) (leadOf m))
 abbrev pub toLead : Row → Message → Bool
 toLead w m = implies (isReply (w .role)) (eqb (m .to) (leadOf m))
 
--- kind 7 has voted < ballot, and with status 0 all else zero: each field as far as it has been read
+-- a told vote is older than the ballot, and blank without a status: each field as far as it has been read
 abbrev pub toldBelow : Row → Message → Vote → Bool
 toldBelow w m v = implies (w .parts .told) (votedBelow (m .ballot) v)
 

@@ -23,7 +23,7 @@ unfoldable pub sameVote : Vote → Vote → Bool
 sameVote v w =
     eqb (v .voted) (w .voted) && eqb (v .status) (w .status) && sameCommand (v .command) (w .command) && sameDeps (v .deps) (w .deps)
 
--- status 0 has voted 0, no-op and zero dependencies
+-- without a status there is no vote to tell of
 abbrev pub noneVoted : Vote → Bool
 noneVoted v = implies (eqb (v .status) 0) (eqb (v .voted) 0)
 
@@ -57,7 +57,7 @@ toldOk n s b v = voteOk n s 3 v && votedBelow b v && noneIsBlank v
 unfoldable pub addedOk : ℕ → ℕ → Vote → Bool
 addedOk n s v = eqb (v .voted) 0 && eqb (v .status) 0 && sameCommand (v .command) noop && depsOk n s (v .deps)
 
--- the copies that have replied are a set of bits: copy q is in it
+-- sets of copies are bits: copy q is in it
 unfoldable pub member : ℕ → ℕ → Bool
 member q m = eqb (m / 2 ^ q % 2) 1
 

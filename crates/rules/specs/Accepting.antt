@@ -15,7 +15,7 @@ unfoldable pub joinAll : List ℕ → List Vote → List ℕ
 joinAll d [] = d
 joinAll d (v ∷ vs) = joinAll (join d (v .deps)) vs
 
--- status 3, voted = joined, phase 3, nothing collected; Accept to all others
+-- the lead votes for it itself and asks all others anew
 unfoldable pub accepting : ℕ → ℕ → ℕ → ℕ → Record → Command → List ℕ → Step
 accepting n c o j r k d =
     sending (begun (r .joined) (record { voted = r .joined; status = 3; command = k; deps = d }) (r .mark) 3) (others n c)

@@ -30,7 +30,7 @@ deps3 a b c = a ∷ b ∷ c ∷ 0 ∷ 0 ∷ 0 ∷ 0 ∷ []
 abbrev pub blanks : Records
 blanks o j = blank
 
--- N=3, S=4, blank, copy 0 requests write key 7 edit 100
+-- the first request of a blank group of three
 abbrev pub first : Step
 first = onRequest 3 4 0 blanks (write 100)
 
@@ -45,7 +45,7 @@ ok q d = record { from = q; to = 0; owner = 0; number = 1; ballot = 0; body = Pr
 abbrev pub then : Records → Message → Records
 then t m = put t 0 1 (onMessage 3 4 0 t m .entry)
 
--- copy 1 holds its own write of key 7 in 1.1, and gets the PreAccept of 0.1
+-- copy 1 after a request of its own for the same key
 abbrev pub ownWrite : Records
 ownWrite = put blanks 1 1 (onRequest 3 4 1 blanks (write 5) .entry)
 
@@ -104,30 +104,29 @@ pub record Worked : Type 0 where
   pub W1 : messages first ≡ preAcceptTo 1 ∷ preAcceptTo 2 ∷ []
   -- one PreAcceptOK with zero dependencies then commits 0.1
   pub W2 : onMessage 3 4 0 asked (ok 1 noDeps) .entry .vote ≡ record { voted = 0; status = 4; command = write 100; deps = noDeps }
-  -- copy 1 answers (0,1,0); copy 0 waits; copy 2's (0,0,0) then commits 0.1 with (0,0,0)
+  -- an answer that adds something is waited out; one that does not is enough
   pub W3-answers : onMessage 3 4 1 ownWrite (preAcceptTo 1) .message .deps ≡ deps3 0 1 0
   pub W3-waits : onMessage 3 4 0 asked (ok 1 (deps3 0 1 0)) .to ≡ 0
   pub W3-commits : onMessage 3 4 0 (then asked (ok 1 (deps3 0 1 0))) (ok 2 noDeps) .entry .vote
       ≡ record { voted = 0; status = 4; command = write 100; deps = noDeps }
-  -- answers (0,1,0) and then (0,0,1): accepting with (0,1,1)
+  -- two answers that differ are joined and asked for
   pub W4 : onMessage 3 4 0 (then asked (ok 1 (deps3 0 1 0))) (ok 2 (deps3 0 0 1)) .message
       ≡ record { from = 0; to = 0; owner = 0; number = 1; ballot = 0; body = Accept (write 100); deps = deps3 0 1 1 }
-  -- N=7, copy 2 recovers with joined 0: ballot 10; with 13: 18; with 4,294,967,288: refusal 7
+  -- the next ballot of copy 2, and where there is none
   pub W5-first : onRecover 7 2 blanks 0 1 .entry .joined ≡ 10
   pub W5-later : onRecover 7 2 (put blanks 0 1 (joinedAt 13)) 0 1 .entry .joined ≡ 18
   pub W5-last : outOfBallots (joinedAt 4_294_967_288) ≡ true
-  -- N=5, owner absent, three replies, two of status 2 at ballot 0: accept; one of status 2, one of 1: pre-accept afresh;
-  -- owner present: afresh
+  -- of five: F as received may be a fast commit; fewer, or with the owner's own reply, is none
   pub W6-accept : decide 5 2 0 1 (preparing 14 (votes noVote (toldVote 0 2 1) noVote (toldVote 0 2 1) noVote)) noDeps .entry .phase ≡ 3
   pub W6-afresh : decide 5 2 0 1 (preparing 14 (votes noVote (toldVote 0 2 1) noVote (toldVote 0 1 1) noVote)) noDeps .entry .phase ≡ 2
   pub W6-owner : decide 5 2 0 1 (preparing 7 (votes (toldVote 0 2 1) (toldVote 0 2 1) noVote noVote noVote)) noDeps .entry .phase ≡ 2
-  -- status 3 voted at 10 and at 17: the one at 17
+  -- the later ballot counts
   pub W7 : decide 5 2 0 1 (preparing 14 (votes noVote (toldVote 10 3 1) noVote (toldVote 17 3 2) noVote)) noDeps .entry .vote .command ≡ write 2
-  -- 0.1 (0,1,0) and 1.1 (1,0,0), both committed: codes 1, 257
+  -- a cycle of two goes out by number, then owner
   pub W8 : handOut 4 3 4 cycle ≡ 1 ∷ 257 ∷ []
-  -- 0.1 (0,0,1), 2.1 (0,0,0): codes 513, 1
+  -- what is covered goes out before
   pub W9 : handOut 4 3 4 (put (put blanks 0 1 (committed (deps3 0 0 1))) 2 1 (committed noDeps)) ≡ 513 ∷ 1 ∷ []
-  -- 2.1 (2,1,0) with W8's two committed, 0.2 blank: not settled, 0.2 named
+  -- a gap holds up what covers it
   pub W10 : firstOpen 3 4 (put cycle 2 1 (committed (deps3 2 1 0))) 2 1 ≡ At 0 2
   -- a copy that joined 10 and voted at 0 tells 0, and not 10
   pub told-voted : onMessage 3 4 1 (put blanks 0 1 voted) prepare .message .body ≡ PrepareOk 0 2 (write 100)

@@ -28,7 +28,7 @@ again n c o j r =
     (cond (eqb (r .phase) 2) (toAbsent n c o j r (PreAccept (r .vote .command)) (r .vote .deps))
     (toAbsent n c o j r (Accept (r .vote .command)) (r .vote .deps)))
 
--- phase 2 at ballot 0 with F or more replies goes to accepting
+-- a commit is told again; a first round that F copies answered is closed, without the fast path
 unfoldable pub nudge : ℕ → ℕ → ℕ → ℕ → Record → Step
 nudge n c o j r =
     cond (isCommitted r) (sending r (others n c) (say c o j (r .joined) (Commit (r .vote .command)) (r .vote .deps)))

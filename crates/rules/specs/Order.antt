@@ -43,7 +43,7 @@ reachesIn zero n s t p k o j = coversIn n s t p k o j
 reachesIn (suc f) n s t p k o j =
     coversIn n s t p k o j || somewhere n s (λ q i. let further : Bool = reachesIn f n s t q i o j in cond (coversIn n s t p k q i) further false)
 
--- the search goes from an instance to all that it covers and on from there; no way is longer than there are instances
+-- by one step of covering or many; no way is longer than there are instances
 unfoldable pub reaches : ℕ → ℕ → Records → ℕ → ℕ → ℕ → ℕ → Bool
 reaches n s t p k o j = reachesIn (n * s) n s t p k o j
 
@@ -51,7 +51,7 @@ reaches n s t p k o j = reachesIn (n * s) n s t p k o j
 unfoldable pub waitsFor : ℕ → ℕ → Records → ℕ → ℕ → ℕ → ℕ → Bool
 waitsFor n s t p k o j = ((eqb o p && eqb j k) || reaches n s t p k o j) && not (isCommitted (t o j))
 
--- the uncommitted instance that comes first among itself and those reached; nowhere where it is settled
+-- what it waits for: the first that is open of all that it reaches, itself too; nowhere once it is settled
 unfoldable pub firstOpen : ℕ → ℕ → Records → ℕ → ℕ → First
 firstOpen n s t p k = first n s (waitsFor n s t p k)
 

@@ -39,7 +39,7 @@ addedVote d = record { voted = 0; status = 0; command = noop; deps = d }
 unfoldable pub fastEnough : ℕ → Record → Bool
 fastEnough n r = leb (2 * faults n - 1) (count (matching r))
 
--- at F or more replies, two of them different, or at all 2F
+-- the fast path is lost: F copies answered and two of them disagree, or all did
 unfoldable pub slowEnough : ℕ → Record → Bool
 slowEnough n r = (leb (faults n) (count (r .set)) && different r) || leb (2 * faults n) (count (r .set))
 

@@ -42,7 +42,8 @@ topAccepter r q = topVoter r q && eqb (toldBy r q .status) 3
 abbrev pub sameVoter : Record → ℕ → Bool
 sameVoter r q = voter r q && eqb (toldBy r q .status) 2
 
--- m = 0, the owner is not among the replies, and at least F have status 2
+-- the owner may have committed fast: nothing but its first round was voted in, it did not answer itself, and F or more took
+-- the command as it sent it
 unfoldable pub maybeFast : ℕ → ℕ → Record → Bool
 maybeFast n o r = eqb (topVoted r) 0 && not (member o (r .set)) && leb (faults n) (count (those (sameVoter r)))
 

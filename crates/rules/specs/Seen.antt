@@ -24,6 +24,6 @@ unfoldable pub seenFrom : ℕ → ℕ → ℕ → ℕ → Records → ℕ → �
 seenFrom zero p n s t o j k = []
 seenFrom (suc i) p n s t o j k = seenEntry n s t o j k p ∷ seenFrom i (p + 1) n s t o j k
 
--- for each owner, the highest number of a record other than o.j with status >= 1 whose command interferes with k
+-- in each row the last vote for a command that interferes with k, leaving out o.j
 abbrev pub seen : ℕ → ℕ → Records → ℕ → ℕ → Command → List ℕ
 seen n s t o j k = seenFrom 7 0 n s t o j k

@@ -26,14 +26,14 @@ use Rattle.reach.proofs.Tests.{clash, tf, bool, and-l, and-r, and-in, not-true,
 use Rattle.safety.proofs.Deps.{same-deps-refl, same-command-refl}
 use Rattle.safety.proofs.Value.{Value, cmd}
 use Rattle.safety.proofs.Case.{Case, copies, code, code-owner, code-number, own, Req, Cover, range}
-use Rattle.safety.proofs.Hist.{s4}
+use Rattle.safety.proofs.Hist.{commitVote}
 use Rattle.safety.proofs.Sys.{Rec, Sys, mCommit}
 use Rattle.safety.proofs.Inv.{Reason}
 use Rattle.safety.proofs.Older.{Le, le-same, le-new, le-com}
 use Rattle.safety.proofs.Inv.Facts.{now-in}
 use Rattle.safety.proofs.Inv.Multi.{agree, covered, alone}
 use Rattle.safety.proofs.Inv.Valid.{all-valid}
-use Rattle.safety.proofs.Rel.{num, st-eq, val, valueOf, Means}
+use Rattle.safety.proofs.Rel.{statusNumber, status-eq, val, valueOf, Means}
 use Rattle.safety.proofs.Received.{Fit, fits}
 use Rattle.safety.proofs.Sim.{Tie, Next, inv, rel-at, reached}
 
@@ -41,11 +41,11 @@ use Rattle.safety.proofs.Sim.{Tie, Next, inv, rel-at, reached}
 pub record Com (C : Case) (G : ℕ → Sys) (a o j : ℕ) (v : Value) : Type 0 where
   pub copy : a < copies C
   pub inst : instanceOk (copies C) (C .s) o j ≡ true
-  pub status : G (code o j) .now a .status ≡ s4
+  pub status : G (code o j) .now a .status ≡ commitVote
   pub value : G (code o j) .now a .value ≡ v
 
 -- a committed value stays
-le-keeps : {R S : Rec} → Le R S → R .status ≡ s4 → (S .status ≡ s4) × (R .value ≡ S .value)
+le-keeps : {R S : Rec} → Le R S → R .status ≡ commitVote → (S .status ≡ commitVote) × (R .value ≡ S .value)
 le-keeps (le-same a b c d) e = (sym c ∙ e, d)
 le-keeps (le-new a b c d f) e = absurd (d e)
 le-keeps (le-com a b) e = absurd (a e)
@@ -71,13 +71,13 @@ module _ {C : Case} {z : State} (t : Tie C z) where
       go (yes q) (inr b) = absurd (never (λ e. tf (instanceOk n s o j) (e .1) b))
       go (yes q) (inl b) =
           let r = rel-at t a o j q (range n s o j b .0) in
-          record { copy = q; inst = b; status = st-eq _ s4 (r .status ∙ four); value = r .value ∙ (λ i. val (h .command i) (h .deps i)) }
+          record { copy = q; inst = b; status = status-eq _ commitVote (r .status ∙ four); value = r .value ∙ (λ i. val (h .command i) (h .deps i)) }
 
   pub in-com : (a o j : ℕ) (k : Command) (d : List ℕ) → Com C G a o j (val k d) → Committed z a o j k d
   in-com a o j k d h =
       let r = rel-at t a o j (h .copy) (range n s o j (h .inst) .0) in
       let e : valueOf (z .tables a o j .vote) ≡ val k d = sym (r .value) ∙ h .value in
-      record { status = eqb-same (z .tables a o j .vote .status) 4 (sym (r .status) ∙ ap num (h .status)); command = ap cmd e; deps = ap (λ (v : Value). v .deps) e }
+      record { status = eqb-same (z .tables a o j .vote .status) 4 (sym (r .status) ∙ ap statusNumber (h .status)); command = ap cmd e; deps = ap (λ (v : Value). v .deps) e }
 
   -- a commit at z is one later on
   pub com-stays : {y : State} (m : Next t y) (a o j : ℕ) (v : Value) → Com C G a o j v → Com C (m .tie .G) a o j v

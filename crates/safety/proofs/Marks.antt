@@ -19,13 +19,13 @@ use Rattle.rules.specs.Order.{everywhere, coversIn, reachesIn, reaches, waitsFo
 use Rattle.rules.specs.Order.{marked as with-mark}
 use Rattle.safety.specs.Run.{State, replaced, marked}
 use Rattle.reach.proofs.Tests.{tf, bool, and-l, and-r, and-in, not-not, not-true, or-cases, eqb-eq, eqb-same, eqb-false, leb-le, leb-in}
-use Rattle.safety.proofs.Hist.{s4}
+use Rattle.safety.proofs.Hist.{commitVote}
 use Rattle.safety.proofs.Sys.{upd, upd-cases}
 use Rattle.safety.proofs.Value.{Value}
 use Rattle.safety.proofs.Star.{Star, here, on, star-trans}
 use Rattle.safety.proofs.Older.{le-refl}
 use Rattle.safety.proofs.Inv.HandOut.{Ready, m-mark}
-use Rattle.safety.proofs.Rel.{num, st-eq, Rel}
+use Rattle.safety.proofs.Rel.{statusNumber, status-eq, Rel}
 use Rattle.safety.proofs.Case.{Case, copies, code, code-owner, code-number, Cover, range, in-range}
 use Rattle.safety.proofs.Sim.{newest, newest-more, at-saved, Tie, Next}
 use Rattle.safety.proofs.Instances.{at-first}
@@ -109,24 +109,24 @@ module _ {C : Case} {x : State} (tie : Tie C x) (c : ℕ) (lc : c < copies C) wh
   pub reach-found : (I K : ℕ) → In I → Star Edge I K → (I ≡ K) ⊎ (Found I K ≡ true)
   reach-found I K i p = found-back I K K i p (inl refl)
 
-  committed-in : (K : ℕ) → isCommitted (t (K % 8) (K / 8)) ≡ true → G K .now c .status ≡ s4
-  committed-in K e = st-eq (G K .now c .status) s4 (rels c K lc .status ∙ eqb-eq _ 4 e)
+  committed-in : (K : ℕ) → isCommitted (t (K % 8) (K / 8)) ≡ true → G K .now c .status ≡ commitVote
+  committed-in K e = status-eq (G K .now c .status) commitVote (rels c K lc .status ∙ eqb-eq _ 4 e)
 
-  in-committed : (K : ℕ) → G K .now c .status ≡ s4 → isCommitted (t (K % 8) (K / 8)) ≡ true
-  in-committed K e = eqb-same (t (K % 8) (K / 8) .vote .status) 4 (sym (rels c K lc .status) ∙ ap num e)
+  in-committed : (K : ℕ) → G K .now c .status ≡ commitVote → isCommitted (t (K % 8) (K / 8)) ≡ true
+  in-committed K e = eqb-same (t (K % 8) (K / 8) .vote .status) 4 (sym (rels c K lc .status) ∙ ap statusNumber e)
 
   -- a committed record lies in range
-  committed-range : (K : ℕ) → G K .now c .status ≡ s4 → In K
+  committed-range : (K : ℕ) → G K .now c .status ≡ commitVote → In K
   committed-range K e = go (bool (instanceOk N s (K % 8) (K / 8)))
     where
       go : (instanceOk N s (K % 8) (K / 8) ≡ true) ⊎ (instanceOk N s (K % 8) (K / 8) ≡ false) → In K
       go (inl h) = let (a, b, d) = range N s (K % 8) (K / 8) h in inrange a b d
-      go (inr h) = absurd (omega (arith, rels c K lc .status, ap num e, none c (K % 8) (K / 8) (λ z. tf (instanceOk N s (K % 8) (K / 8)) (z .1) h)))
+      go (inr h) = absurd (omega (arith, rels c K lc .status, ap statusNumber e, none c (K % 8) (K / 8) (λ z. tf (instanceOk N s (K % 8) (K / 8)) (z .1) h)))
 
   abbrev Rd : ℕ → Type 0
   Rd I = Ready C G (M c) c I
 
-  settled-at : (I : ℕ) → isSettled N s t (I % 8) (I / 8) ≡ true → (K : ℕ) → In K → (I ≡ K) ⊎ (Found I K ≡ true) → G K .now c .status ≡ s4
+  settled-at : (I : ℕ) → isSettled N s t (I % 8) (I / 8) ≡ true → (K : ℕ) → In K → (I ≡ K) ⊎ (Found I K ≡ true) → G K .now c .status ≡ commitVote
   unfolding isSettled waitsFor
   settled-at I h K (inrange a b d) r = committed-in K (go (bool (isCommitted (t (K % 8) (K / 8)))))
     where

@@ -2,29 +2,29 @@
 use Prim.Native.Nat.{ℕ, _+_, _*_, _≤_, _<_}
 use mathlib.Core.Path.{_≡_, refl, ap}
 use native.Mathlib.Omega.{arith}
-use Rattle.safety.proofs.Hist.{Status, s0, s1, s2, s3, s4}
+use Rattle.safety.proofs.Hist.{Status, unvoted, preAdded, preReceived, acceptVote, commitVote}
 use Rattle.safety.proofs.Sys.{Rec}
 
 abbrev pub rank : Status → ℕ
-rank s0 = 0
-rank s1 = 1
-rank s2 = 1
-rank s3 = 2
-rank s4 = 2
+rank unvoted = 0
+rank preAdded = 1
+rank preReceived = 1
+rank acceptVote = 2
+rank commitVote = 2
 
 pub rank-le : (s : Status) → rank s ≤ 2
-rank-le s0 = omega arith
-rank-le s1 = omega arith
-rank-le s2 = omega arith
-rank-le s3 = omega arith
-rank-le s4 = omega arith
+rank-le unvoted = omega arith
+rank-le preAdded = omega arith
+rank-le preReceived = omega arith
+rank-le acceptVote = omega arith
+rank-le commitVote = omega arith
 
 -- R may have become S
 pub data Le (R S : Rec) : Type 0 where
   le-same : R .joined ≤ S .joined → R .voted ≡ S .voted → R .status ≡ S .status → R .value ≡ S .value → Le R S
   le-new : R .joined ≤ S .joined → R .joined ≤ S .voted → R .voted * 3 + rank (R .status) < S .voted * 3 + rank (S .status)
-      → (R .status ≡ s4 → ⊥) → (S .status ≡ s4 → ⊥) → Le R S
-  le-com : (R .status ≡ s4 → ⊥) → S .status ≡ s4 → Le R S
+      → (R .status ≡ commitVote → ⊥) → (S .status ≡ commitVote → ⊥) → Le R S
+  le-com : (R .status ≡ commitVote → ⊥) → S .status ≡ commitVote → Le R S
 
 pub le-refl : (R : Rec) → Le R R
 le-refl R = le-same (omega arith) refl refl refl
@@ -41,12 +41,12 @@ le-trans (le-com a b) (le-new a' b' c' d' e') = absurd (d' b)
 le-trans (le-com a b) (le-com a' b') = absurd (a' b)
 
 -- a vote does not fall, and a commit stays
-pub le-voted : {R S : Rec} → Le R S → (S .status ≡ s4 → ⊥) → R .voted ≤ S .voted
+pub le-voted : {R S : Rec} → Le R S → (S .status ≡ commitVote → ⊥) → R .voted ≤ S .voted
 le-voted (le-same a b c d) n = omega arith
 le-voted {R = R} {S = S} (le-new a b c d e) n = omega (arith, rank-le (R .status), rank-le (S .status))
 le-voted (le-com a b) n = absurd (n b)
 
-pub le-four : {R S : Rec} → Le R S → R .status ≡ s4 → S .status ≡ s4
+pub le-four : {R S : Rec} → Le R S → R .status ≡ commitVote → S .status ≡ commitVote
 le-four (le-same a b c d) n = cc
 le-four (le-new a b c d e) n = absurd (d n)
 le-four (le-com a b) n = b

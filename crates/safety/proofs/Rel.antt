@@ -23,63 +23,63 @@ use Rattle.rules.specs.Step.{isCommitted, noReplies, begun, say, silent, sendin
 use Rattle.reach.proofs.Tests.{tf, eqb-eq, eqb-ne}
 use Rattle.safety.proofs.Sets.{member-none}
 use Rattle.safety.proofs.Value.{Value}
-use Rattle.safety.proofs.Hist.{Status, s0, s1, s2, s3, s4, Reply}
+use Rattle.safety.proofs.Hist.{Status, unvoted, preAdded, preReceived, acceptVote, commitVote, Reply}
 use Rattle.safety.proofs.Inv.{Inv}
-use Rattle.safety.proofs.Sys.{Phase, idle, preparing, prephase, accphase, Rec, Msg, mPre, mPreOK, mAcc, mAccOK, mCommit, mPrepOK, Sys, nobody, push, Sent, say-commit, Trans, repeat}
+use Rattle.safety.proofs.Sys.{Phase, idle, preparing, preAcceptPhase, acceptPhase, Rec, Msg, mPreAccept, mPreAcceptOk, mAccept, mAcceptOk, mCommit, mPrepareOk, Sys, nobody, push, Sent, say-commit, Trans, repeat}
 
-abbrev pub num : Status → ℕ
-num s0 = 0
-num s1 = 1
-num s2 = 2
-num s3 = 3
-num s4 = 4
+abbrev pub statusNumber : Status → ℕ
+statusNumber unvoted = 0
+statusNumber preAdded = 1
+statusNumber preReceived = 2
+statusNumber acceptVote = 3
+statusNumber commitVote = 4
 
-abbrev pub phase-num : Phase → ℕ
-phase-num idle = 0
-phase-num preparing = 1
-phase-num prephase = 2
-phase-num accphase = 3
+abbrev pub phaseNumber : Phase → ℕ
+phaseNumber idle = 0
+phaseNumber preparing = 1
+phaseNumber preAcceptPhase = 2
+phaseNumber acceptPhase = 3
 
 -- a status and a phase are told by their numbers
-st-of : ℕ → Status
-st-of zero = s0
-st-of (suc zero) = s1
-st-of (suc (suc zero)) = s2
-st-of (suc (suc (suc zero))) = s3
-st-of (suc (suc (suc (suc n)))) = s4
+statusOf : ℕ → Status
+statusOf zero = unvoted
+statusOf (suc zero) = preAdded
+statusOf (suc (suc zero)) = preReceived
+statusOf (suc (suc (suc zero))) = acceptVote
+statusOf (suc (suc (suc (suc n)))) = commitVote
 
-st-num : (u : Status) → st-of (num u) ≡ u
-unfolding st-of
-st-num s0 = refl
-st-num s1 = refl
-st-num s2 = refl
-st-num s3 = refl
-st-num s4 = refl
+status-of-number : (u : Status) → statusOf (statusNumber u) ≡ u
+unfolding statusOf
+status-of-number unvoted = refl
+status-of-number preAdded = refl
+status-of-number preReceived = refl
+status-of-number acceptVote = refl
+status-of-number commitVote = refl
 
-pub st-eq : (u v : Status) → num u ≡ num v → u ≡ v
-st-eq u v e = sym (st-num u) ∙ ap st-of e ∙ st-num v
+pub status-eq : (u v : Status) → statusNumber u ≡ statusNumber v → u ≡ v
+status-eq u v e = sym (status-of-number u) ∙ ap statusOf e ∙ status-of-number v
 
-ph-of : ℕ → Phase
-ph-of zero = idle
-ph-of (suc zero) = preparing
-ph-of (suc (suc zero)) = prephase
-ph-of (suc (suc (suc n))) = accphase
+phaseOf : ℕ → Phase
+phaseOf zero = idle
+phaseOf (suc zero) = preparing
+phaseOf (suc (suc zero)) = preAcceptPhase
+phaseOf (suc (suc (suc n))) = acceptPhase
 
-ph-num : (p : Phase) → ph-of (phase-num p) ≡ p
-unfolding ph-of
-ph-num idle = refl
-ph-num preparing = refl
-ph-num prephase = refl
-ph-num accphase = refl
+phase-of-number : (p : Phase) → phaseOf (phaseNumber p) ≡ p
+unfolding phaseOf
+phase-of-number idle = refl
+phase-of-number preparing = refl
+phase-of-number preAcceptPhase = refl
+phase-of-number acceptPhase = refl
 
-pub ph-eq : (p q : Phase) → phase-num p ≡ phase-num q → p ≡ q
-ph-eq p q e = sym (ph-num p) ∙ ap ph-of e ∙ ph-num q
+pub phase-eq : (p q : Phase) → phaseNumber p ≡ phaseNumber q → p ≡ q
+phase-eq p q e = sym (phase-of-number p) ∙ ap phaseOf e ∙ phase-of-number q
 
-pub is-accphase : (p : Phase) → (phase-num p ≡ 0 → ⊥) → (phase-num p ≡ 1 → ⊥) → (phase-num p ≡ 2 → ⊥) → p ≡ accphase
+pub is-accphase : (p : Phase) → (phaseNumber p ≡ 0 → ⊥) → (phaseNumber p ≡ 1 → ⊥) → (phaseNumber p ≡ 2 → ⊥) → p ≡ acceptPhase
 is-accphase idle a b c = absurd (a refl)
 is-accphase preparing a b c = absurd (b refl)
-is-accphase prephase a b c = absurd (c refl)
-is-accphase accphase a b c = refl
+is-accphase preAcceptPhase a b c = absurd (c refl)
+is-accphase acceptPhase a b c = refl
 
 abbrev pub val : Command → List ℕ → Value
 val k d = record { command = k; deps = d }
@@ -90,7 +90,7 @@ valueOf v = val (v .command) (v .deps)
 -- a told vote
 pub record Tells (v : Vote) (a : Reply) : Type 0 where
   pub voted : a .voted ≡ v .voted
-  pub status : num (a .status) ≡ v .status
+  pub status : statusNumber (a .status) ≡ v .status
   pub value : a .value ≡ valueOf v
 
 module _ (F : ℕ) where
@@ -98,17 +98,17 @@ module _ (F : ℕ) where
   pub record Rel (c : ℕ) (r : Record) (A : Rec) : Type 0 where
     pub joined : A .joined ≡ r .joined
     pub voted : A .voted ≡ r .vote .voted
-    pub status : num (A .status) ≡ r .vote .status
+    pub status : statusNumber (A .status) ≡ r .vote .status
     pub value : A .value ≡ valueOf (r .vote)
     pub len : length (r .vote .deps) ≡ 7
-    pub phase : phase-num (A .phase) ≡ r .phase
+    pub phase : phaseNumber (A .phase) ≡ r .phase
     pub small : r .set < 128
     pub bound : (i : ℕ) → i < 7 → member i (r .set) ≡ true → i < suc (2 * F)
     pub got : (i : ℕ) → i < 7 → A .got i ≡ member i (r .set)
     pub size : length (r .replies) ≡ 7
     pub lens : (i : ℕ) → length (getD (r .replies) i noVote .deps) ≡ 7
     pub told : A .phase ≡ preparing → (i : ℕ) → i < 7 → member i (r .set) ≡ true → Tells (getD (r .replies) i noVote) (A .replies i)
-    pub added : A .phase ≡ prephase → (i : ℕ) → i < 7 → member i (r .set) ≡ true → A .replies i .value .deps ≡ getD (r .replies) i noVote .deps
+    pub added : A .phase ≡ preAcceptPhase → (i : ℕ) → i < 7 → member i (r .set) ≡ true → A .replies i .value .deps ≡ getD (r .replies) i noVote .deps
     pub self : (A .phase ≡ preparing → ⊥) → member c (r .set) ≡ false
 
 pub no-replies : (i : ℕ) → getD noReplies i noVote ≡ noVote
@@ -122,8 +122,8 @@ no-replies (suc (suc (suc (suc (suc (suc zero)))))) = refl
 no-replies (suc (suc (suc (suc (suc (suc (suc i))))))) = refl
 
 -- a record with nothing collected
-pub rel-begun : (F c : ℕ) → c < 7 → (b : ℕ) (v : Vote) (k p : ℕ) (A : Rec) → A .joined ≡ b → A .voted ≡ v .voted → num (A .status) ≡ v .status → A .value ≡ valueOf v
-    → length (v .deps) ≡ 7 → phase-num (A .phase) ≡ p → (A .phase ≡ preparing → ⊥) → A .got ≡ nobody → Rel F c (begun b v k p) A
+pub rel-begun : (F c : ℕ) → c < 7 → (b : ℕ) (v : Vote) (k p : ℕ) (A : Rec) → A .joined ≡ b → A .voted ≡ v .voted → statusNumber (A .status) ≡ v .status → A .value ≡ valueOf v
+    → length (v .deps) ≡ 7 → phaseNumber (A .phase) ≡ p → (A .phase ≡ preparing → ⊥) → A .got ≡ nobody → Rel F c (begun b v k p) A
 rel-begun F c lc b v k p A joined-is voted-is status-is value-is l phase-is not-preparing none-got = record {
   joined = joined-is;
   voted = voted-is;
@@ -143,13 +143,13 @@ rel-begun F c lc b v k p A joined-is voted-is status-is value-is l phase-is not-
 
 -- what a message tells the model
 abbrev pub Means : Sys → Message → Body → Type 0
-Means S m (PreAccept k) = (length (m .deps) ≡ 7) × Sent S (mPre (m .ballot) (val k (m .deps)))
-Means S m PreAcceptOk = (length (m .deps) ≡ 7) × ((k : Command) × Sent S (mPreOK (m .from) (m .ballot) (val k (m .deps))))
-Means S m (Accept k) = (length (m .deps) ≡ 7) × Sent S (mAcc (m .ballot) (val k (m .deps)))
-Means S m AcceptOk = Sent S (mAccOK (m .from) (m .ballot))
+Means S m (PreAccept k) = (length (m .deps) ≡ 7) × Sent S (mPreAccept (m .ballot) (val k (m .deps)))
+Means S m PreAcceptOk = (length (m .deps) ≡ 7) × ((k : Command) × Sent S (mPreAcceptOk (m .from) (m .ballot) (val k (m .deps))))
+Means S m (Accept k) = (length (m .deps) ≡ 7) × Sent S (mAccept (m .ballot) (val k (m .deps)))
+Means S m AcceptOk = Sent S (mAcceptOk (m .from) (m .ballot))
 Means S m (Commit k) = (length (m .deps) ≡ 7) × Sent S (mCommit (val k (m .deps)))
 Means S m Prepare = T true
-Means S m (PrepareOk v t k) = (length (m .deps) ≡ 7) × ((u : Status) × (num u ≡ t) × Sent S (mPrepOK (m .from) (m .ballot) (record { voted = v; status = u; value = val k (m .deps) })))
+Means S m (PrepareOk v t k) = (length (m .deps) ≡ 7) × ((u : Status) × (statusNumber u ≡ t) × Sent S (mPrepareOk (m .from) (m .ballot) (record { voted = v; status = u; value = val k (m .deps) })))
 Means S m (Nack x) = T true
 
 -- a message of o.j, or one that tells nothing
@@ -160,8 +160,8 @@ pub data Out (S : Sys) (o j : ℕ) (m : Message) : Type 0 where
 -- how the vote changed: not at all, to an accept, to a commit, or to a pre-accept that counts all that is seen
 pub data Kind (Cov : Value → Type 0) (A R : Rec) : Type 0 where
   kept : R .voted ≡ A .voted → R .status ≡ A .status → R .value ≡ A .value → Kind Cov A R
-  takes : R .status ≡ s3 → Kind Cov A R
-  commits : R .status ≡ s4 → Kind Cov A R
+  takes : R .status ≡ acceptVote → Kind Cov A R
+  commits : R .status ≡ commitVote → Kind Cov A R
   counts : Cov (R .value) → Kind Cov A R
 
 -- a step of copy c at o.j is nothing in the model, or one move of it
@@ -170,11 +170,11 @@ pub data Refined (F o j : ℕ) (Req : Command → Type 0) (Cov : Value → Type 
   moved : (R : Rec) (ms : List Msg) → Trans F o Req S c (S .now c) R ms → Rel F c (x .entry) R → x .entry .mark ≡ r .mark → Kind Cov (S .now c) R
       → Out (push S c R ms) o j (x .message) → Refined F o j Req Cov c S r x
 
-pub open-st : {F c : ℕ} {r : Record} {A : Rec} → Rel F c r A → isCommitted r ≡ false → A .status ≡ s4 → ⊥
-open-st {r = r} rel e f = eqb-ne (r .vote .status) 4 e (sym (rel .status) ∙ ap num f)
+pub open-st : {F c : ℕ} {r : Record} {A : Rec} → Rel F c r A → isCommitted r ≡ false → A .status ≡ commitVote → ⊥
+open-st {r = r} rel e f = eqb-ne (r .vote .status) 4 e (sym (rel .status) ∙ ap statusNumber f)
 
-pub closed-st : {F c : ℕ} {r : Record} {A : Rec} → Rel F c r A → isCommitted r ≡ true → A .status ≡ s4
-closed-st {r = r} rel e = st-eq _ s4 (rel .status ∙ eqb-eq (r .vote .status) 4 e)
+pub closed-st : {F c : ℕ} {r : Record} {A : Rec} → Rel F c r A → isCommitted r ≡ true → A .status ≡ commitVote
+closed-st {r = r} rel e = status-eq _ commitVote (rel .status ∙ eqb-eq (r .vote .status) 4 e)
 
 -- where an event happens: copy c of N = 2F+1, its record r of o.j, and the instance's model S.
 -- Req: what was requested there; Cov v: v counts all that c has seen.

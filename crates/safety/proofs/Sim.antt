@@ -23,14 +23,14 @@ use Rattle.reach.proofs.Tests.{tf, bool, and-l, and-r, and-in, not-true, eqb-eq
 use Rattle.safety.proofs.Deps.{Under, seen-counts}
 use Rattle.safety.proofs.Value.{Value, cmd, Interf}
 use Rattle.safety.proofs.Case.{Case, copies, code, code-owner, code-number, own, own-code, Req, Cover, range}
-use Rattle.safety.proofs.Hist.{s0}
+use Rattle.safety.proofs.Hist.{unvoted}
 use Rattle.safety.proofs.Sys.{Rec, Msg, Sys, upd, upd-cases, push, Sent, Trans}
 use Rattle.safety.proofs.Inv.{Inv}
 use Rattle.safety.proofs.Older.{Le, le-refl}
 use Rattle.safety.proofs.Inv.Good.{good, holds}
 use Rattle.safety.proofs.Inv.Multi.{Guard, no-vote, accepts, commits, seen as g-seen, GReach, alone}
 use Rattle.safety.proofs.Inv.HandOut.{MReach, m-step, m-g}
-use Rattle.safety.proofs.Rel.{num, st-eq, val, Rel, Means, Out, quiet, spoken, Kind, kept, takes, counts, Spot, Ref, same, moved}
+use Rattle.safety.proofs.Rel.{statusNumber, status-eq, val, Rel, Means, Out, quiet, spoken, Kind, kept, takes, counts, Spot, Ref, same, moved}
 use Rattle.safety.proofs.Rel.{commits as k-commits}
 
 -- the marks of a copy as numbers, the newest first
@@ -125,7 +125,7 @@ module _ {C : Case} {x : State} (t : Tie C x) where
 
   -- a pre-accept of o.j counts all that c has
   abbrev pub Counts : ℕ → ℕ → ℕ → Value → Type 0
-  Counts c o j v = (J : ℕ) → (code o j ≡ J → ⊥) → (G J .now c .status ≡ s0 → ⊥) → Interf (cmd v) (cmd (G J .now c .value)) → Cover C v J
+  Counts c o j v = (J : ℕ) → (code o j ≡ J → ⊥) → (G J .now c .status ≡ unvoted → ⊥) → Interf (cmd v) (cmd (G J .now c .value)) → Cover C v J
 
   pub counted : (c o j : ℕ) → c < n → (k : Command) (d : List ℕ) → Under (seen n s (x .tables c) o j k) d → Counts c o j (val k d)
   unfolding met
@@ -141,7 +141,7 @@ module _ {C : Case} {x : State} (t : Tie C x) where
       rl = rels c J lc
 
       some : 1 ≤ x .tables c p i .vote .status
-      some = let z : num (G J .now c .status) ≡ 0 → ⊥ = λ e. nz (st-eq (G J .now c .status) s0 e) in omega (arith, rl .status, z)
+      some = let z : statusNumber (G J .now c .status) ≡ 0 → ⊥ = λ e. nz (status-eq (G J .now c .status) unvoted e) in omega (arith, rl .status, z)
 
       apart : (eqb p o && eqb i j) ≡ false
       apart = not-true (eqb p o && eqb i j) (λ e. ne (sym (let a : J % 8 ≡ o = eqb-eq _ _ (and-l _ (eqb i j) e) in let b : J / 8 ≡ j = eqb-eq _ _ (and-r (eqb p o) _ e) in omega arith)))

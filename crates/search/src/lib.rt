@@ -1,5 +1,4 @@
-// The search: from an instance to all that it covers and on from there, by recursion. What was visited is a mark for each
-// owner: its row up to there.
+// The search over what an instance reaches, by recursion. What was visited is a mark for each owner: its row up to there.
 use nouns::logic::at_most;
 use nouns::logic::both;
 use nouns::logic::either;

@@ -85,7 +85,7 @@ fn seen_entry(
     0
 }
 
-// For each owner, the highest number of a record other than o.j with status >= 1 whose command interferes with k.
+// In each row the last vote for a command that interferes with k, leaving out o.j.
 pub fn seen(t: &[u8], n: usize, s: usize, c: usize, o: usize, j: usize, k: Command) -> [u16; 7]
     requires { ⌜ Sizes n s c (now t) ⌝ }
     ensures { λ r. ⌜ r ≡ seen n s (recordsIn s (now (t .entry))) o j k ⌝ }

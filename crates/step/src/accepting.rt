@@ -33,7 +33,7 @@ fn join_all(d: [u16; 7], vs: [Vote; 7]) -> [u16; 7]
     join_vote(d5, vs[6])
 }
 
-// Status 3, voted = joined, phase 3, nothing collected; Accept to all others.
+// The lead votes for it itself and asks all others anew.
 pub fn accepting(n: usize, c: u8, o: u8, j: u16, r: Record, k: Command, d: [u16; 7]) -> Step
     ensures { λ x. ⌜ x ≡ accepting n c o j r k d ⌝ }
 {

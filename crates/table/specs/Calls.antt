@@ -27,7 +27,7 @@ unfoldable pub judged : ℕ → ℕ → ℕ → List ℕ → Judging
 judged n s c t =
     cond (not (fitsSetup n s c t)) (judging.Refused Setup) (cond (not (soundTable n s c t)) (judging.Refused Unsound) judging.Sound)
 
--- the part of the table that holds the record of o.j, for saving; empty for a bad instance or where 1 would be refused
+-- what a host saves of o.j: its record's bytes, none where setup or instance is bad
 unfoldable pub partOf : ℕ → ℕ → ℕ → List ℕ → ℕ → ℕ → List ℕ
 partOf n s c t o j = cond (fitsSetup n s c t && instanceOk n s o j) (partAt t (placeOf s o j)) []
 

@@ -234,7 +234,7 @@ fn has_part(t: &[u8], n: usize, s: usize, c: usize, o: usize, j: usize) -> bool
     both(fits_setup(t, n, s, c), instance_ok(n, s, o, j))
 }
 
-// The part of the table that holds the record of o.j, for saving; empty for a bad instance or where 1 would be refused.
+// What a host saves of o.j: its record's bytes, none where setup or instance is bad.
 pub fn record_part(t: &[u8], n: usize, s: usize, c: usize, o: usize, j: usize) -> &[u8]
     ensures { λ r. ⌜ now r ≡ partOf n s c (now (t .entry)) o j ⌝ }
 {

@@ -23,7 +23,7 @@ pub fn load(t: &[u8], n: usize, s: usize, o: usize, j: usize) -> Record
     record::read_record(part(t, n, s, o, j))
 }
 
-// The record's bytes, from the middle of the table, are lent on to the record writer; no other byte changes.
+// Puts a record in its place; the writer is lent that part of the table and no other.
 pub fn store(t: &mut [u8], n: usize, s: usize, o: usize, j: usize, r: Record)
     requires { ⌜ Has n s o j (now t) ⌝ }
     ensures { λ _. ⌜ now (t .exit) ≡ putRecord s (now (t .entry)) o j r ⌝ }

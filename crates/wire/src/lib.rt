@@ -21,13 +21,13 @@ use paper::Row;
 use valid::valid_message;
 ghost use mathlib.Core.Path.{_≡_};
 ghost use Prim.Native.Nat.{_+_, _≤_, _<_};
-ghost use mathlib.Core.Bool.{true, cond};
+ghost use mathlib.Core.Bool.{cond};
 ghost use lib.ListN.{length};
 ghost use Rattle.numbers.specs.Num.{numAt, splice};
 ghost use Rattle.codec.specs.Parts.{commandAt, commandBytes, depsBytes};
 ghost use Rattle.paper.specs.Command.{noop};
 ghost use Rattle.paper.specs.Message.{rowOf, bodyOf, noMessage};
-ghost use Rattle.wire.specs.Wire.{headSize, commandStart, depsStart, joinedStart, restEnd, lengthOf, kindAt, carriedAt, besideAt, messageAt, framed, OfKind, opAt, opFits, toldBytes, joinedBytes, part, headBytes, restBytes, messageBytes};
+ghost use Rattle.wire.specs.Wire.{headSize, commandStart, depsStart, joinedStart, restEnd, lengthOf, kindAt, carriedAt, besideAt, messageAt, framed, OfKind, opAt, toldBytes, joinedBytes, part, headBytes, restBytes, messageBytes};
 ghost use Rattle.wire.specs.Calls.{unread, readMessage, wrote};
 
 // How many bytes the head takes, and each part of the rest.

@@ -24,7 +24,7 @@ loop-holds c = (omega arith, refl, λ j a b. absurd (omega arith))
 add-y : tie.Need-add-y Inv-loop μ-loop
 add-y c = omega (arith, c .before .before .before .before .pre .other, c .before .before .before .before .pre .last)
 
-passes-at-requires : tie.Need-passes-at-at-requires Inv-loop μ-loop
+passes-at-requires : tie.Need-passes-at-requires Inv-loop μ-loop
 passes-at-requires c κs = let g = c .before .before .before .before .pre in (g .marks, g .states, g .owner, omega (arith, g .other, g .last, c .loop-test .taken, c .before .loop .inv .1))
 
 returns : tie.Need-returns Inv-loop μ-loop

@@ -7,7 +7,7 @@ use mathlib.Core.Logic.{_⊎_, inl, inr, ⊎-elim}
 use mathlib.Core.List.{List, [], _∷_, List·Memᴰ, List·Memᴰ·head, List·Memᴰ·tail, List·Memᴰ·cases-cons, List·Memᴰ·not-nil}
 use native.Mathlib.Omega.{arith}
 use native.Mathlib.Decide.{decLt, ℕ-discrete}
-use Rattle.safety.proofs.Hist.{s4}
+use Rattle.safety.proofs.Hist.{commitVote}
 use Rattle.safety.proofs.Sys.{Rec, Msg, Sys, upd, upd-cases, push, Trans}
 use Rattle.safety.proofs.Inv.{Reason, Inv}
 use Rattle.safety.proofs.Inv.Keep.{up-com}
@@ -40,7 +40,7 @@ module _ (C : Case) where
   Mem I m = List·Memᴰ I m
 
   abbrev pub Settled : (ℕ → Sys) → ℕ → ℕ → Type 0
-  Settled G p I = (K : ℕ) → Star (Tab G p) I K → G K .now p .status ≡ s4
+  Settled G p I = (K : ℕ) → Star (Tab G p) I K → G K .now p .status ≡ commitVote
 
   pub record Ready (G : ℕ → Sys) (m : List ℕ) (p I : ℕ) : Type 0 where
     pub settled : Settled G p I
@@ -108,7 +108,7 @@ module _ (C : Case) where
 
   -- where I is settled at p, p's table shows what all commits show
   module _ (G : ℕ → Sys) (gr : GR G) (p I : ℕ) (st : Settled G p I) where
-    com-at : (K : ℕ) → G K .now p .status ≡ s4 → Committed G K (G K .now p .value)
+    com-at : (K : ℕ) → G K .now p .status ≡ commitVote → Committed G K (G K .now p .value)
     com-at K e = iv .reasons p (G K .now p) (now-in iv p (λ f. clash (cc))) e
       where
         iv : Inv F (own C K) (G K)

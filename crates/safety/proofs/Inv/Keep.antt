@@ -6,8 +6,8 @@ use mathlib.Core.Path.{_≡_, sym, ap, _∙_}
 use mathlib.Core.Logic.{_⊎_, inl, inr}
 use mathlib.Core.List.{List, List·Memᴰ, List·Memᴰ·head, List·Memᴰ·tail, List·Memᴰ·cases-cons, List·Memᴰ·append-cases}
 use native.Mathlib.Omega.{arith}
-use Rattle.safety.proofs.Hist.{Status, s1, s2, s3, s4, Reply, Outcome, accept, afresh}
-use Rattle.safety.proofs.Sys.{Rec, Msg, mPre, mPreOK, mAcc, mAccOK, mCommit, mPrepOK, Sys, upd-cases, push, Was, Sent}
+use Rattle.safety.proofs.Hist.{Status, preAdded, preReceived, acceptVote, commitVote, Reply, Outcome, accept, afresh}
+use Rattle.safety.proofs.Sys.{Rec, Msg, mPreAccept, mPreAcceptOk, mAccept, mAcceptOk, mCommit, mPrepareOk, Sys, upd-cases, push, Was, Sent}
 use Rattle.safety.proofs.Older.{Le, le-refl, le-trans, le-voted, le-four}
 use Rattle.safety.proofs.Inv.{Local, Vote, Promised, Backed, SlowVotes, FastVotes, Reason, com-slow, com-fast, Vouched, Collected, ObeysR, Decision, Blank, Inv}
 
@@ -26,7 +26,7 @@ module _ {s t : Sys} (ext : (r : ℕ) (R : Rec) → Was s r R → Was t r R) whe
     accepted = λ e. up-vote _ _ _ _ (h .accepted e);
   }
 
-  pub up-two : (i b : ℕ) (v : Value) → Vote s i b s1 v ⊎ Vote s i b s2 v → Vote t i b s1 v ⊎ Vote t i b s2 v
+  pub up-two : (i b : ℕ) (v : Value) → Vote s i b preAdded v ⊎ Vote s i b preReceived v → Vote t i b preAdded v ⊎ Vote t i b preReceived v
   up-two i b v (inl x) = inl (up-vote _ _ _ _ x)
   up-two i b v (inr x) = inr (up-vote _ _ _ _ x)
 
@@ -50,11 +50,11 @@ module _ (F owner : ℕ) where
     pub local : Local owner r R
     pub backed : Backed owner (push s r R ms) R
     pub collected : Collected (push s r R ms) R
-    pub reason : R .status ≡ s4 → Reason F owner (push s r R ms) (R .value)
+    pub reason : R .status ≡ commitVote → Reason F owner (push s r R ms) (R .value)
     pub vouched : (m : Msg) → List·Memᴰ m ms → Vouched F owner (push s r R ms) m
-    pub obeys : (b : ℕ) → 0 < b → lead owner b ≡ r → R .voted ≡ b → (R .status ≡ s4 → ⊥)
-        → ((s .now r .voted ≡ b) × (s .now r .status ≡ s4 → ⊥) × ((o : Outcome) → ObeysR o (s .now r) → ObeysR o R))
-        ⊎ ((s .now r .voted < b) × (s .now r .status ≡ s4 → ⊥) × (e : Decision F owner (push s r R ms) b) × ObeysR (e .outcome) R)
+    pub obeys : (b : ℕ) → 0 < b → lead owner b ≡ r → R .voted ≡ b → (R .status ≡ commitVote → ⊥)
+        → ((s .now r .voted ≡ b) × (s .now r .status ≡ commitVote → ⊥) × ((o : Outcome) → ObeysR o (s .now r) → ObeysR o R))
+        ⊎ ((s .now r .voted < b) × (s .now r .status ≡ commitVote → ⊥) × (e : Decision F owner (push s r R ms) b) × ObeysR (e .outcome) R)
 
 pub obey-same : (X Y : Rec) (o : Outcome) → X .status ≡ Y .status → X .value ≡ Y .value → ObeysR o X → ObeysR o Y
 obey-same X Y (accept v) e f h = (sym e ∙ h .0, sym f ∙ h .1)
@@ -82,11 +82,11 @@ module _ (s : Sys) (r : ℕ) (R : Rec) (ms : List Msg) where
       size = h .size;
       out = h .out;
       votes = λ i l m. up-vote old _ _ _ _ (h .votes i l m);
-      done = upd-cases (λ (y : Rec). y .status ≡ s4) (s .now) r R owner (λ e. le-four older (rw (← e) (h .done))) (λ n. h .done);
+      done = upd-cases (λ (y : Rec). y .status ≡ commitVote) (s .now) r R owner (λ e. le-four older (rw (← e) (h .done))) (λ n. h .done);
       quiet = λ X w. go X (which owner X w);
     }
       where
-        go : (X : Rec) → ((owner ≡ r) × (X ≡ R)) ⊎ Was s owner X → (X .status ≡ s4 → ⊥) → (X .joined ≡ 0) × (X .status ≡ s3 → ⊥)
+        go : (X : Rec) → ((owner ≡ r) × (X ≡ R)) ⊎ Was s owner X → (X .status ≡ commitVote → ⊥) → (X .joined ≡ 0) × (X .status ≡ acceptVote → ⊥)
         go X (inl p) n = absurd (n (rw (p .1) (le-four older (rw (← (p .0)) (h .done)))))
         go X (inr m) n = h .quiet X m n
 
@@ -134,12 +134,12 @@ module _ (s : Sys) (r : ℕ) (R : Rec) (ms : List Msg) where
         go (inr m) = olds i X m
 
     up-msg : (m : Msg) → Vouched F owner s m → Vouched F owner t m
-    up-msg (mPre b v) h = up-vote old _ _ _ _ h
-    up-msg (mPreOK i b v) h = up-two old _ _ _ h
-    up-msg (mAcc b v) h = up-vote old _ _ _ _ h
-    up-msg (mAccOK i b) h = let (v, x) = h in (v, up-vote old _ _ _ _ x)
+    up-msg (mPreAccept b v) h = up-vote old _ _ _ _ h
+    up-msg (mPreAcceptOk i b v) h = up-two old _ _ _ h
+    up-msg (mAccept b v) h = up-vote old _ _ _ _ h
+    up-msg (mAcceptOk i b) h = let (v, x) = h in (v, up-vote old _ _ _ _ x)
     up-msg (mCommit v) h = up-com (G .older) v h
-    up-msg (mPrepOK i b a) h = up-ok old _ _ _ h
+    up-msg (mPrepareOk i b a) h = up-ok old _ _ _ h
 
     t-msgs : (m : Msg) → Sent t m → Vouched F owner t m
     t-msgs m h = go (List·Memᴰ·append-cases ms h)
@@ -149,37 +149,37 @@ module _ (s : Sys) (r : ℕ) (R : Rec) (ms : List Msg) where
         go (inr k) = up-msg m (I .msgs m k)
 
     abbrev AllObey : (b : ℕ) → Decision F owner t b → Type 0
-    AllObey b e = (X : Rec) → Was t (lead owner b) X → X .voted ≡ b → (X .status ≡ s4 → ⊥) → ObeysR (e .outcome) X
+    AllObey b e = (X : Rec) → Was t (lead owner b) X → X .voted ≡ b → (X .status ≡ commitVote → ⊥) → ObeysR (e .outcome) X
 
     cur-in : (b : ℕ) → 0 < b → s .now r .voted ≡ b → Was s r (s .now r) ⊎ Blank (s .now r) → Was s r (s .now r)
     cur-in b pos e (inl m) = m
     cur-in b pos e (inr z) = absurd (omega (arith, z .1))
 
     -- an old decision still holds
-    t-old-dec : (b : ℕ) → 0 < b → (Y : Rec) → Was s (lead owner b) Y → Y .voted ≡ b → (Y .status ≡ s4 → ⊥) → (e : Decision F owner t b) × AllObey b e
+    t-old-dec : (b : ℕ) → 0 < b → (Y : Rec) → Was s (lead owner b) Y → Y .voted ≡ b → (Y .status ≡ commitVote → ⊥) → (e : Decision F owner t b) × AllObey b e
     unfolding up-dec
     t-old-dec b pos Y w voted-at uncommitted =
         let (e, obeys) = I .decisions b pos Y w voted-at uncommitted in
         (up-dec old b e, λ X wx ex nx. go e obeys X (which (lead owner b) X wx) ex nx)
       where
-        go : (e : Decision F owner s b) → ((X : Rec) → Was s (lead owner b) X → X .voted ≡ b → (X .status ≡ s4 → ⊥) → ObeysR (e .outcome) X)
-            → (X : Rec) → ((lead owner b ≡ r) × (X ≡ R)) ⊎ Was s (lead owner b) X → X .voted ≡ b → (X .status ≡ s4 → ⊥) → ObeysR (e .outcome) X
+        go : (e : Decision F owner s b) → ((X : Rec) → Was s (lead owner b) X → X .voted ≡ b → (X .status ≡ commitVote → ⊥) → ObeysR (e .outcome) X)
+            → (X : Rec) → ((lead owner b ≡ r) × (X ≡ R)) ⊎ Was s (lead owner b) X → X .voted ≡ b → (X .status ≡ commitVote → ⊥) → ObeysR (e .outcome) X
         go e obeys X (inr m) ex nx = obeys X m ex nx
         go e obeys X (inl p) ex nx = rw (p .1) (by (G .obeys b pos (p .0) (rw (p .1) at ex) (rw (p .1) at nx)))
           where
             wr : Was s r Y
             wr = rw (p .0) at w
 
-            by : ((s .now r .voted ≡ b) × (s .now r .status ≡ s4 → ⊥) × ((o : Outcome) → ObeysR o (s .now r) → ObeysR o R))
-                ⊎ ((s .now r .voted < b) × (s .now r .status ≡ s4 → ⊥) × (e : Decision F owner (push s r R ms) b) × ObeysR (e .outcome) R) → ObeysR (e .outcome) R
+            by : ((s .now r .voted ≡ b) × (s .now r .status ≡ commitVote → ⊥) × ((o : Outcome) → ObeysR o (s .now r) → ObeysR o R))
+                ⊎ ((s .now r .voted < b) × (s .now r .status ≡ commitVote → ⊥) × (e : Decision F owner (push s r R ms) b) × ObeysR (e .outcome) R) → ObeysR (e .outcome) R
             by (inl q) = q .2 (e .outcome) (obeys (s .now r) (rw (p .0) (cur-in b pos (q .0) (I .current r))) (q .0) (q .1))
             by (inr q) = let l = le-voted (I .chain r Y wr) (q .1) in absurd (omega (arith, voted-at, q .0))
 
-    t-decs : (b : ℕ) → 0 < b → (X : Rec) → Was t (lead owner b) X → X .voted ≡ b → (X .status ≡ s4 → ⊥) → (e : Decision F owner t b) × AllObey b e
+    t-decs : (b : ℕ) → 0 < b → (X : Rec) → Was t (lead owner b) X → X .voted ≡ b → (X .status ≡ commitVote → ⊥) → (e : Decision F owner t b) × AllObey b e
     t-decs b pos X w voted-at uncommitted = go (which (lead owner b) X w)
       where
-        by : (lead owner b ≡ r) → ((s .now r .voted ≡ b) × (s .now r .status ≡ s4 → ⊥) × ((o : Outcome) → ObeysR o (s .now r) → ObeysR o R))
-            ⊎ ((s .now r .voted < b) × (s .now r .status ≡ s4 → ⊥) × (e : Decision F owner (push s r R ms) b) × ObeysR (e .outcome) R) → (e : Decision F owner t b) × AllObey b e
+        by : (lead owner b ≡ r) → ((s .now r .voted ≡ b) × (s .now r .status ≡ commitVote → ⊥) × ((o : Outcome) → ObeysR o (s .now r) → ObeysR o R))
+            ⊎ ((s .now r .voted < b) × (s .now r .status ≡ commitVote → ⊥) × (e : Decision F owner (push s r R ms) b) × ObeysR (e .outcome) R) → (e : Decision F owner t b) × AllObey b e
         by l (inl q) = t-old-dec b pos (s .now r) (rw l (cur-in b pos (q .0) (I .current r))) (q .0) (q .1)
         by l (inr q) = (q .2, λ Y wy ey ny. new Y (which (lead owner b) Y wy) ey)
           where
@@ -199,7 +199,7 @@ module _ (s : Sys) (r : ℕ) (R : Rec) (ms : List Msg) where
       local = all (λ i X. Local owner i X) (G .local) (I .local);
       backed = all (λ i X. Backed owner t X) (G .backed) (λ i X h. up-back old X (I .backed i X h));
       collected = all (λ i X. Collected t X) (G .collected) (λ i X h. up-coll old X (I .collected i X h));
-      reasons = all (λ i X. X .status ≡ s4 → Reason F owner t (X .value)) (G .reason) (λ i X h e. up-com (G .older) _ (I .reasons i X h e));
+      reasons = all (λ i X. X .status ≡ commitVote → Reason F owner t (X .value)) (G .reason) (λ i X h e. up-com (G .older) _ (I .reasons i X h e));
       msgs = t-msgs;
       decisions = t-decs;
     }

@@ -7,7 +7,7 @@ use mathlib.Core.Logic.{_⊎_, inl, inr, ⊎-elim}
 use mathlib.Core.List.{List, List·Memᴰ·tail, List·Memᴰ·not-nil}
 use native.Mathlib.Omega.{arith}
 use Rattle.reach.proofs.Count.{quorums-meet}
-use Rattle.safety.proofs.Hist.{Status, s0, s1, s2, s3, s4}
+use Rattle.safety.proofs.Hist.{Status, unvoted, preAdded, preReceived, acceptVote, commitVote}
 use Rattle.safety.proofs.Agree.{agreement}
 use Rattle.safety.proofs.Sys.{Rec, Msg, Sys, upd, upd-cases, push, Was, blankSys, Trans, Reach, init, step}
 use Rattle.safety.proofs.Older.{rank, Le, le-same, le-new, le-com, le-voted}
@@ -25,9 +25,9 @@ module _ (C : Case) where
   -- a vote of r for I that is new counts all that r knows
   pub data Guard (G : ℕ → Sys) (I r : ℕ) (R : Rec) : Type 0 where
     no-vote : R .voted ≡ G I .now r .voted → R .status ≡ G I .now r .status → R .value ≡ G I .now r .value → Guard G I r R
-    accepts : R .status ≡ s3 → Guard G I r R
-    commits : R .status ≡ s4 → Guard G I r R
-    seen : ((J : ℕ) → (I ≡ J → ⊥) → (G J .now r .status ≡ s0 → ⊥) → Interf (cmd (R .value)) (cmd (G J .now r .value)) → Cover C (R .value) J) → Guard G I r R
+    accepts : R .status ≡ acceptVote → Guard G I r R
+    commits : R .status ≡ commitVote → Guard G I r R
+    seen : ((J : ℕ) → (I ≡ J → ⊥) → (G J .now r .status ≡ unvoted → ⊥) → Interf (cmd (R .value)) (cmd (G J .now r .value)) → Cover C (R .value) J) → Guard G I r R
 
   pub data GReach : (ℕ → Sys) → Type 0 where
     g-init : GReach (λ I. blankSys)
@@ -44,14 +44,14 @@ module _ (C : Case) where
           (λ e. rw e (step r R ms (a I) l t)) (λ n. a J)
 
   abbrev PreVoted : Rec → Type 0
-  PreVoted X = (X .status ≡ s1) ⊎ (X .status ≡ s2)
+  PreVoted X = (X .status ≡ preAdded) ⊎ (X .status ≡ preReceived)
 
   -- r's record later had another command
   record Changed (S : Sys) (r : ℕ) (X : Rec) : Type 0 where
     Z : Rec
     was : Was S r Z
-    later : (Z .status ≡ s4) ⊎ (X .voted ≤ Z .voted)
-    cast : Z .status ≡ s0 → ⊥
+    later : (Z .status ≡ commitVote) ⊎ (X .voted ≤ Z .voted)
+    cast : Z .status ≡ unvoted → ⊥
     other : cmd (Z .value) ≡ cmd (X .value) → ⊥
 
   data Linked (G : ℕ → Sys) (r I J : ℕ) (X Y : Rec) : Type 0 where
@@ -97,10 +97,10 @@ module _ (C : Case) where
     inv J = holds (alone gr J)
 
     -- what r has of J now, where it once pre-voted Y
-    still : (J : ℕ) (Y : Rec) → Was (G J) r Y → PreVoted Y → (G J .now r .status ≡ s0 → ⊥) × ((G J .now r .status ≡ s4) ⊎ (Y .voted ≤ G J .now r .voted))
+    still : (J : ℕ) (Y : Rec) → Was (G J) r Y → PreVoted Y → (G J .now r .status ≡ unvoted → ⊥) × ((G J .now r .status ≡ commitVote) ⊎ (Y .voted ≤ G J .now r .voted))
     still J Y w pv = go (inv J .chain r Y w) pv
       where
-        go : Le Y (G J .now r) → PreVoted Y → (G J .now r .status ≡ s0 → ⊥) × ((G J .now r .status ≡ s4) ⊎ (Y .voted ≤ G J .now r .voted))
+        go : Le Y (G J .now r) → PreVoted Y → (G J .now r .status ≡ unvoted → ⊥) × ((G J .now r .status ≡ commitVote) ⊎ (Y .voted ≤ G J .now r .voted))
         go (le-same a b c d) (inl e) = (λ f. clash (cc), inr (omega arith))
         go (le-same a b c d) (inr e) = (λ f. clash (cc), inr (omega arith))
         go (le-new a b c d x) e = (
@@ -117,7 +117,7 @@ module _ (C : Case) where
     fresh (commits e) (inr f) J n Y w py it = clash (cc)
     fresh (no-vote voted-as status-as value-as) pr J n Y w py it = go (A r I J n (G I .now r) Y (now-in (inv I) r (cast pr)) w (pn pr) py (rw value-as at it))
       where
-        cast : PreVoted R → G I .now r .status ≡ s0 → ⊥
+        cast : PreVoted R → G I .now r .status ≡ unvoted → ⊥
         cast (inl e) f = clash (cc)
         cast (inr e) f = clash (cc)
 
@@ -132,7 +132,7 @@ module _ (C : Case) where
         go (second-changed c) = second-changed (changed-up (G J) (G' J) (g-old J) r Y c)
     fresh (seen k) pr J n Y w py it = go (still J Y w py) (command? (cmd (G J .now r .value)) (cmd (Y .value)))
       where
-        go : (G J .now r .status ≡ s0 → ⊥) × ((G J .now r .status ≡ s4) ⊎ (Y .voted ≤ G J .now r .voted)) → Dec (cmd (G J .now r .value) ≡ cmd (Y .value)) → Linked G' r I J R Y
+        go : (G J .now r .status ≡ unvoted → ⊥) × ((G J .now r .status ≡ commitVote) ⊎ (Y .voted ≤ G J .now r .voted)) → Dec (cmd (G J .now r .value) ≡ cmd (Y .value)) → Linked G' r I J R Y
         go p (yes e) = first-covers (k J n (p .0) (rw e it))
         go p (no e) = second-changed (record { Z = G J .now r; was = g-old J r _ (now-in (inv J) r (p .0)); later = p .1; cast = p .0; other = e })
 
@@ -152,12 +152,12 @@ module _ (C : Case) where
   all-pairs (g-step {G = G} I r R ms h l t g) q J K n X Y wx wy px py it =
       pairs-step G h (λ q J K n X Y wx wy px py it. all-pairs h q J K n X Y wx wy px py it) I r R ms g q J K n X Y wx wy px py it
 
-  is4 : (u : Status) → Dec (u ≡ s4)
-  is4 s0 = no (λ e. clash (cc))
-  is4 s1 = no (λ e. clash (cc))
-  is4 s2 = no (λ e. clash (cc))
-  is4 s3 = no (λ e. clash (cc))
-  is4 s4 = yes refl
+  is4 : (u : Status) → Dec (u ≡ commitVote)
+  is4 unvoted = no (λ e. clash (cc))
+  is4 preAdded = no (λ e. clash (cc))
+  is4 preReceived = no (λ e. clash (cc))
+  is4 acceptVote = no (λ e. clash (cc))
+  is4 commitVote = yes refl
 
   module _ {G : ℕ → Sys} (gr : GReach G) where
     pub invs : (J : ℕ) → Inv F (own C J) (G J)
@@ -178,10 +178,10 @@ module _ (C : Case) where
         → (X : Rec) → X .voted ≡ h .b → cmd (X .value) ≡ cmd v → Changed (G I) r X → ⊥
     unchanged I r v cm m h X voted-at same-cmd c = go (is4 (c .Z .status)) (c .later)
       where
-        four : c .Z .status ≡ s4 → ⊥
+        four : c .Z .status ≡ commitVote → ⊥
         four e = c .other (ap cmd (agree I (c .Z .value) v (invs I .reasons r (c .Z) (c .was) e) cm) ∙ sym same-cmd)
 
-        go : Dec (c .Z .status ≡ s4) → (c .Z .status ≡ s4) ⊎ (X .voted ≤ c .Z .voted) → ⊥
+        go : Dec (c .Z .status ≡ commitVote) → (c .Z .status ≡ commitVote) ⊎ (X .voted ≤ c .Z .voted) → ⊥
         go (yes e) l = four e
         go (no n) (inl e) = four e
         go (no n) (inr l) = c .other (quorum-command (inside C I) (invs I) (pre-quorums I) v m h
@@ -198,7 +198,7 @@ module _ (C : Case) where
         go m h k g i u x vx cx sx t y vy cy sy
         (all-pairs gr i I J n (vx .saved) (vy .saved) (vx .was) (vy .was) (pv vx ux) (pv vy ty) (rw (vx .value, vy .value, cx, cy) it))
       where
-        pv : {K i b : ℕ} {u : Status} {x : Value} → (q : Vote (G K) i b u x) → (u ≡ s1) ⊎ (u ≡ s2) → PreVoted (q .saved)
+        pv : {K i b : ℕ} {u : Status} {x : Value} → (q : Vote (G K) i b u x) → (u ≡ preAdded) ⊎ (u ≡ preReceived) → PreVoted (q .saved)
         pv q (inl e) = inl (q .status ∙ e)
         pv q (inr e) = inr (q .status ∙ e)
 

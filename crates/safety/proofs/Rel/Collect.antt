@@ -16,7 +16,7 @@ use Rattle.reach.proofs.Tests.{and-l, and-r, and-in, or-cases, eqb-eq, eqb-fals
 use Rattle.reach.proofs.Count.{cnt, cnt-mono}
 use Rattle.safety.proofs.Sets.{member-with, with-small, cnt-cut}
 use Rattle.safety.proofs.Hist.{Reply}
-use Rattle.safety.proofs.Sys.{preparing, prephase, Rec, mk, upd, upd-cases}
+use Rattle.safety.proofs.Sys.{preparing, preAcceptPhase, Rec, mk, upd, upd-cases}
 use Rattle.safety.proofs.Inv.Cover.{cnt-add}
 use Rattle.safety.proofs.Rel.{Tells, Rel}
 
@@ -59,7 +59,7 @@ module _ (F c : ℕ) (l7 : c < 7) (fit : F ≤ 3) (r : Record) (A : Rec) (rel : 
       go (yes e) = inl e
       go (no n) = inr (n, ⊎-elim (λ e. absurd (n (eqb-eq i q e))) (λ e. e) (or-cases (eqb i q) (member i (r .set)) (sym (with-q i li) ∙ m)))
 
-  pub rel-collect : (replies : ℕ → Reply) → length (v .deps) ≡ 7 → (A .phase ≡ preparing → Tells v (replies q)) → (A .phase ≡ prephase → replies q .value .deps ≡ v .deps)
+  pub rel-collect : (replies : ℕ → Reply) → length (v .deps) ≡ 7 → (A .phase ≡ preparing → Tells v (replies q)) → (A .phase ≡ preAcceptPhase → replies q .value .deps ≡ v .deps)
       → ((i : ℕ) → (i ≡ q → ⊥) → replies i ≡ A .replies i) → (c ≡ q → ⊥)
       → Rel F c (collect r q v) (mk (A .joined) (A .voted) (A .status) (A .value) (A .phase) (upd (A .got) q true) replies)
   unfolding collect

@@ -18,16 +18,16 @@ use Rattle.reach.proofs.Tests.{clash, tf, and-l, and-r, and-in, not-not, eqb-eq
 use Rattle.reach.proofs.Count.{cnt, cnt-mono, both, both-true}
 use Rattle.reach.proofs.Count.{member as some-member}
 use Rattle.safety.proofs.Sets.{ones-those, none-those, lowest-those, lowest-any, largest-ge, largest-one}
-use Rattle.safety.proofs.Hist.{Status, s0, s1, s2, s3, s4, is2, Reply, Outcome, accept, afresh, Top, NoAcc, twos, Decided, none-voted, accepted, fast, anew}
-use Rattle.safety.proofs.Rel.{num, st-eq, valueOf, Tells}
+use Rattle.safety.proofs.Hist.{Status, unvoted, preAdded, preReceived, acceptVote, commitVote, isPreReceived, Reply, Outcome, accept, afresh, Top, NoneAccepted, countReceived, Decided, none-voted, accepted, fast, anew}
+use Rattle.safety.proofs.Rel.{statusNumber, status-eq, valueOf, Tells}
 use Rattle.safety.proofs.Rel.Collect.{within, among}
 
-two-is : (u : Status) → is2 u ≡ true → num u ≡ 2
-two-is s0 e = clash (cc)
-two-is s1 e = clash (cc)
-two-is s2 e = refl
-two-is s3 e = clash (cc)
-two-is s4 e = clash (cc)
+two-is : (u : Status) → isPreReceived u ≡ true → statusNumber u ≡ 2
+two-is unvoted e = clash (cc)
+two-is preAdded e = clash (cc)
+two-is preReceived e = refl
+two-is acceptVote e = clash (cc)
+two-is commitVote e = clash (cc)
 
 cnt-more : (n k : ℕ) (f : ℕ → Bool) → cnt n f ≤ cnt (n + k) f
 unfolding cnt
@@ -54,7 +54,7 @@ module _ (F o : ℕ) (fit : F ≤ 3) (pos : 0 < F) (lo : o < suc (2 * F)) (r : R
     q : Q i ≡ true
     n : i < suc (2 * F)
     t : Tells (toldBy r i) (a i)
-    some : 1 ≤ num (a i .status)
+    some : 1 ≤ statusNumber (a i .status)
 
   of-voter : (i : ℕ) → i < 7 → voter r i ≡ true → Voted i
   of-voter i l v =
@@ -62,10 +62,10 @@ module _ (F o : ℕ) (fit : F ≤ 3) (pos : 0 < F) (lo : o < suc (2 * F)) (r : R
       let t : Tells (toldBy r i) (a i) = tells i l m in
       record { q = in-q i l m; n = bound i l m; t = t; some = omega (arith, t .status, leb-le 1 (toldBy r i .status) (and-r (member i (r .set)) _ v)) }
 
-  is-voter : (i : ℕ) → Q i ≡ true → (a i .status ≡ s0 → ⊥) → voter r i ≡ true
+  is-voter : (i : ℕ) → Q i ≡ true → (a i .status ≡ unvoted → ⊥) → voter r i ≡ true
   is-voter i t n =
       let (l, m) = q-in i t in
-      let z : num (a i .status) ≡ 0 → ⊥ = λ e. n (st-eq (a i .status) s0 e) in
+      let z : statusNumber (a i .status) ≡ 0 → ⊥ = λ e. n (status-eq (a i .status) unvoted e) in
       and-in _ _ m (leb-in 1 (toldBy r i .status) (omega (arith, tells i l m .status, z)))
 
   top-ge : (i : ℕ) → i < 7 → voter r i ≡ true → toldBy r i .voted ≤ topVoted r
@@ -92,40 +92,40 @@ module _ (F o : ℕ) (fit : F ≤ 3) (pos : 0 < F) (lo : o < suc (2 * F)) (r : R
           by true v q = (i, l, and-in _ _ v (eqb-same _ _ q))
           by false v q = low (sym q)
 
-  no-accept : eqb (those (topAccepter r)) 0 ≡ true → NoAcc F o Q a (topVoted r)
+  no-accept : eqb (those (topAccepter r)) 0 ≡ true → NoneAccepted F o Q a (topVoted r)
   no-accept e i l t voted-at accepted-at =
       let (l7, m) = q-in i t in
       let w = tells i l7 m in
       tf (topAccepter r i)
-      (and-in _ _ (and-in _ _ (is-voter i t (λ f. clash (cc))) (eqb-same _ _ (sym (w .voted) ∙ voted-at))) (eqb-same (toldBy r i .status) 3 (sym (w .status) ∙ ap num accepted-at)))
+      (and-in _ _ (and-in _ _ (is-voter i t (λ f. clash (cc))) (eqb-same _ _ (sym (w .voted) ∙ voted-at))) (eqb-same (toldBy r i .status) 3 (sym (w .status) ∙ ap statusNumber accepted-at)))
       (none-those (topAccepter r) e i l7)
 
   -- the copies with status 2
-  two-told : (i : ℕ) → i < 7 → sameVoter r i ≡ true → both (Q i) (is2 (a i .status)) ≡ true
+  two-told : (i : ℕ) → i < 7 → sameVoter r i ≡ true → both (Q i) (isPreReceived (a i .status)) ≡ true
   two-told i l v =
       let w = of-voter i l (and-l _ (eqb (toldBy r i .status) 2) v) in
-      let e : a i .status ≡ s2 = st-eq (a i .status) s2 (w .t .status ∙ eqb-eq (toldBy r i .status) 2 (and-r (voter r i) _ v)) in
+      let e : a i .status ≡ preReceived = status-eq (a i .status) preReceived (w .t .status ∙ eqb-eq (toldBy r i .status) 2 (and-r (voter r i) _ v)) in
       rw (w .q, e) refl
 
-  told-two : (i : ℕ) → both (Q i) (is2 (a i .status)) ≡ true → sameVoter r i ≡ true
+  told-two : (i : ℕ) → both (Q i) (isPreReceived (a i .status)) ≡ true → sameVoter r i ≡ true
   told-two i t =
-      let (qi, ti) = both-true (Q i) (is2 (a i .status)) t in
+      let (qi, ti) = both-true (Q i) (isPreReceived (a i .status)) t in
       let (l7, m) = q-in i qi in
-      let z : num (a i .status) ≡ 2 = two-is (a i .status) ti in
-      and-in _ _ (is-voter i qi (λ f. absurd (omega (arith, ap num f, z)))) (eqb-same (toldBy r i .status) 2 (sym (tells i l7 m .status) ∙ z))
+      let z : statusNumber (a i .status) ≡ 2 = two-is (a i .status) ti in
+      and-in _ _ (is-voter i qi (λ f. absurd (omega (arith, ap statusNumber f, z)))) (eqb-same (toldBy r i .status) 2 (sym (tells i l7 m .status) ∙ z))
 
-  twos-ge : cnt 7 (sameVoter r) ≤ twos F o Q a
+  twos-ge : cnt 7 (sameVoter r) ≤ countReceived F o Q a
   twos-ge = omega (
     arith,
     among F fit (sameVoter r) (λ i l v. of-voter i l (and-l _ (eqb (toldBy r i .status) 2) v) .n),
-    cnt-mono (suc (2 * F)) (within F fit (sameVoter r)) (λ i. both (Q i) (is2 (a i .status))) (λ i l v. two-told i (ltb-lt i 7 (and-l _ (sameVoter r i) v)) (and-r (ltb i 7) _ v)),
+    cnt-mono (suc (2 * F)) (within F fit (sameVoter r)) (λ i. both (Q i) (isPreReceived (a i .status))) (λ i l v. two-told i (ltb-lt i 7 (and-l _ (sameVoter r i) v)) (and-r (ltb i 7) _ v)),
   )
 
-  twos-le : twos F o Q a ≤ cnt 7 (sameVoter r)
+  twos-le : countReceived F o Q a ≤ cnt 7 (sameVoter r)
   twos-le =
       let e : suc (2 * F) + (7 - suc (2 * F)) ≡ 7 = omega arith in
       let h : cnt (suc (2 * F)) (sameVoter r) ≤ cnt 7 (sameVoter r) = rw e at (cnt-more (suc (2 * F)) (7 - suc (2 * F)) (sameVoter r)) in
-      omega (arith, cnt-mono (suc (2 * F)) (λ i. both (Q i) (is2 (a i .status))) (sameVoter r) (λ i l t. told-two i t))
+      omega (arith, cnt-mono (suc (2 * F)) (λ i. both (Q i) (isPreReceived (a i .status))) (sameVoter r) (λ i l t. told-two i t))
 
   abbrev Chosen : ℕ → Command → Type 0
   Chosen x k = ((x < 7) × Decides (accept (valueOf (toldBy r x)))) ⊎ ((x ≡ 7) × Decides (afresh k))
@@ -133,7 +133,7 @@ module _ (F o : ℕ) (fit : F ≤ 3) (pos : 0 < F) (lo : o < suc (2 * F)) (r : R
   case-none : eqb (those (voter r)) 0 ≡ true → Decides (afresh noop)
   case-none e = none-voted (λ i l t.
       let (l7, m) = q-in i t in
-      ⊎-elim (λ z. st-eq (a i .status) s0 z) (λ z. tf (voter r i) (and-in _ _ m (leb-in 1 (toldBy r i .status) (omega (arith, tells i l7 m .status)))) (none-those (voter r) e i l7)) (zero-or (num (a i .status))))
+      ⊎-elim (λ z. status-eq (a i .status) unvoted z) (λ z. tf (voter r i) (and-in _ _ m (leb-in 1 (toldBy r i .status) (omega (arith, tells i l7 m .status)))) (none-those (voter r) e i l7)) (zero-or (statusNumber (a i .status))))
     where
       zero-or : (x : ℕ) → (x ≡ 0) ⊎ (1 ≤ x)
       zero-or zero = inl refl
@@ -144,7 +144,7 @@ module _ (F o : ℕ) (fit : F ≤ 3) (pos : 0 < F) (lo : o < suc (2 * F)) (r : R
       let tv = and-l _ (eqb (toldBy r x .status) 3) v in
       let w = of-voter x l (and-l _ (eqb (toldBy r x .voted) (topVoted r)) tv) in
       rw (w .t .value) at (accepted (topVoted r) x top (w .n) (w .q) (w .t .voted ∙ eqb-eq _ _ (and-r (voter r x) _ tv))
-      (st-eq (a x .status) s3 (w .t .status ∙ eqb-eq (toldBy r x .status) 3 (and-r (topVoter r x) _ v))))
+      (status-eq (a x .status) acceptVote (w .t .status ∙ eqb-eq (toldBy r x .status) 3 (and-r (topVoter r x) _ v))))
 
   case-fast : eqb (those (topAccepter r)) 0 ≡ true → maybeFast (suc (2 * F)) o r ≡ true → (lowest (sameVoter r) < 7) × Decides (accept (valueOf (toldBy r (lowest (sameVoter r)))))
   unfolding maybeFast
@@ -160,7 +160,7 @@ module _ (F o : ℕ) (fit : F ≤ 3) (pos : 0 < F) (lo : o < suc (2 * F)) (r : R
       by z out big x l v =
           let w = of-voter x l (and-l _ (eqb (toldBy r x .status) 2) v) in
           rw (w .t .value) at (fast x (rw z at top) (rw z at (no-accept e)) (rw out (no-and (ltb o 7))) (omega (arith, twos-ge)) (w .n) (w .q)
-          (omega (arith, w .t .voted, top-ge x l (and-l _ (eqb (toldBy r x .status) 2) v))) (st-eq (a x .status) s2 (w .t .status ∙ eqb-eq (toldBy r x .status) 2 (and-r (voter r x) _ v))))
+          (omega (arith, w .t .voted, top-ge x l (and-l _ (eqb (toldBy r x .status) 2) v))) (status-eq (a x .status) preReceived (w .t .status ∙ eqb-eq (toldBy r x .status) 2 (and-r (voter r x) _ v))))
         where
           no-and : (b : Bool) → (b && false) ≡ false
           no-and true = refl
@@ -173,7 +173,7 @@ module _ (F o : ℕ) (fit : F ≤ 3) (pos : 0 < F) (lo : o < suc (2 * F)) (r : R
       let (l, v) = lowest-any (topVoter r) i li vi in
       by (lowest (topVoter r)) l v
     where
-      never : topVoted r ≡ 0 → Q o ≡ false → F ≤ twos F o Q a → ⊥
+      never : topVoted r ≡ 0 → Q o ≡ false → F ≤ countReceived F o Q a → ⊥
       never z qo tw =
           let out : member o (r .set) ≡ false = (rw (ltb-in o 7 (omega arith)) at qo) in
           tf (maybeFast (suc (2 * F)) o r) (and-in _ _ (and-in _ _ (eqb-same _ _ z) (rw out refl)) (leb-in (faults (suc (2 * F))) (ones (those (sameVoter r))) (omega (arith, ones-those (sameVoter r), twos-le)))) f
@@ -181,7 +181,7 @@ module _ (F o : ℕ) (fit : F ≤ 3) (pos : 0 < F) (lo : o < suc (2 * F)) (r : R
       by : (x : ℕ) → x < 7 → topVoter r x ≡ true → Decides (afresh (toldBy r x .command))
       by x l v =
           let w = of-voter x l (and-l _ (eqb (toldBy r x .voted) (topVoted r)) v) in
-          rw (w .t .value) at (anew (topVoted r) x top (no-accept e) never (w .n) (w .q) (λ q. absurd (omega (arith, ap num q, w .some)), w .t .voted ∙ eqb-eq _ _ (and-r (voter r x) _ v)))
+          rw (w .t .value) at (anew (topVoted r) x top (no-accept e) never (w .n) (w .q) (λ q. absurd (omega (arith, ap statusNumber q, w .some)), w .t .voted ∙ eqb-eq _ _ (and-r (voter r x) _ v)))
 
   pub chosen : Chosen (acceptedFrom (suc (2 * F)) o r) (afreshCommand r)
   unfolding acceptedFrom afreshCommand

@@ -29,10 +29,10 @@ use Rattle.paper.proofs.Laws.{sameDeps-eq}
 use Rattle.rules.proofs.Joins.{joins-seven}
 use Rattle.safety.proofs.Deps.{joins-own, joins-each}
 use Rattle.safety.proofs.Value.{Value, cmd, Sub, lead-0}
-use Rattle.safety.proofs.Hist.{s1, s2, s3, s4, Reply}
-use Rattle.safety.proofs.Sys.{idle, preparing, prephase, accphase, Rec, mk, mPre, mPreOK, mAcc, mAccOK, mCommit, upd, upd-cases, upd-same, nobody, Sent, say-pre, say-acc, HasPre, HasAcc, repeat, collect-pre, fast-commit, to-accept, collect-acc, slow-commit}
+use Rattle.safety.proofs.Hist.{preAdded, preReceived, acceptVote, commitVote, Reply}
+use Rattle.safety.proofs.Sys.{idle, preparing, preAcceptPhase, acceptPhase, Rec, mk, mPreAccept, mPreAcceptOk, mAccept, mAcceptOk, mCommit, upd, upd-cases, upd-same, nobody, Sent, say-pre, say-acc, HasPre, HasAcc, repeat, collect-pre, fast-commit, to-accept, collect-acc, slow-commit}
 use Rattle.safety.proofs.Inv.Facts.{local-now, own-at, near, has-pre}
-use Rattle.safety.proofs.Rel.{phase-num, ph-eq, is-accphase, val, Rel, rel-begun, quiet, spoken, kept, takes, commits, same, moved, Spot, Ref, seven, still, tell-commit}
+use Rattle.safety.proofs.Rel.{phaseNumber, phase-eq, is-accphase, val, Rel, rel-begun, quiet, spoken, kept, takes, commits, same, moved, Spot, Ref, seven, still, tell-commit}
 use Rattle.safety.proofs.Rel.Collect.{within, among, and-one, in-one, of-with, rel-collect}
 
 pub faults-n : (F : ℕ) → faults (suc (2 * F)) ≡ F
@@ -60,7 +60,7 @@ module _ (p : Spot) where
     unfolding someEnough
     enough np e = omega (arith, leb-le (faults n) (ones (r' .set)) e, faults-n F, counted, and-one F fit (λ i. member i (r' .set)) c lc (rel' .self np) (rel' .bound))
 
-    module _ (phase : A .phase ≡ prephase) (has : (i : ℕ) → i < 7 → member i (r' .set) ≡ true → HasPre S A i (a i .value)) where
+    module _ (phase : A .phase ≡ preAcceptPhase) (has : (i : ℕ) → i < 7 → member i (r' .set) ≡ true → HasPre S A i (a i .value)) where
       no1 : A .phase ≡ preparing → ⊥
       no1 e = clash (cc phase)
 
@@ -68,14 +68,14 @@ module _ (p : Spot) where
       agreed : (i : ℕ) → i < 7 → member i (r' .set) ≡ true → a i .value .command ≡ A .value .command
       agreed i li m =
           let (l, v, u) = local-now I c .when-pre-accepting phase in
-          near I i (A .joined) (a i .value) (A .value) (rw l (own-at I c (A .joined) s2 v u (λ f. clash (cc)) (λ f. clash (cc)))) (has-pre I c phase i (a i .value) (has i li m))
+          near I i (A .joined) (a i .value) (A .value) (rw l (own-at I c (A .joined) preReceived v u (λ f. clash (cc)) (λ f. clash (cc)))) (has-pre I c phase i (a i .value) (has i li m))
 
       to-accepting : someEnough n r' ≡ true → Goal (acceptingJoin n c o j r')
       unfolding acceptingJoin accepting
-      to-accepting e = moved (mk (A .joined) (A .joined) s3 w accphase nobody (A .replies)) (mAcc (A .joined) w ∷ [])
+      to-accepting e = moved (mk (A .joined) (A .joined) acceptVote w acceptPhase nobody (A .replies)) (mAccept (A .joined) w ∷ [])
           (to-accept w phase (sym (ap cmd (rel' .value))) (upd (within F fit (λ i. member i (r' .set))) c true) (enough no1 e) each)
           (rel-begun F c (seven p) (r' .joined) _ (r' .mark) 3 _ (rel' .joined) (rel' .joined) refl refl lw refl (λ f. clash (cc)) refl)
-          mk' (takes refl) (spoken refl refl (lw, List·Memᴰ·head (ap (λ (b : ℕ). mAcc b w) (sym (rel' .joined)))))
+          mk' (takes refl) (spoken refl refl (lw, List·Memᴰ·head (ap (λ (b : ℕ). mAccept b w) (sym (rel' .joined)))))
         where
           d : List ℕ
           d = joinAll (r' .vote .deps) (r' .replies)
@@ -93,7 +93,7 @@ module _ (p : Spot) where
 
       to-fast : r' .joined ≡ 0 → fastEnough n r' ≡ true → Goal (committing n c o j r')
       unfolding committing fastEnough matching
-      to-fast at-zero e = moved (mk (A .joined) (A .voted) s4 (A .value) idle nobody (A .replies)) (mCommit (A .value) ∷ [])
+      to-fast at-zero e = moved (mk (A .joined) (A .voted) commitVote (A .value) idle nobody (A .replies)) (mCommit (A .value) ∷ [])
           (fast-commit phase aj co (within F fit match) size out (λ i t. each i (ltb-lt i 7 (and-l _ (match i) t)) (and-r (ltb i 7) _ t)))
           (rel-begun F c (seven p) (r' .joined) _ (r' .mark) 0 _ (rel' .joined) (rel' .voted) refl (rel' .value) (rel' .len) refl (λ f. clash (cc)) refl)
           mk' (commits refl) (spoken refl refl (rel' .len, List·Memᴰ·head (ap mCommit (sym (rel' .value)))))
@@ -132,10 +132,10 @@ module _ (p : Spot) where
           slow t = ⊎-elim (λ h. and-l _ (different r') h) (λ h. leb-in (faults n) (ones (r' .set)) (omega (arith, leb-le (2 * faults n) (ones (r' .set)) h))) (or-cases (leb (faults n) (ones (r' .set)) && different r') _ t)
 
     -- F accepted what the lead accepted
-    module _ (phase : A .phase ≡ accphase) (has : (i : ℕ) → i < 7 → member i (r' .set) ≡ true → HasAcc S A i) where
+    module _ (phase : A .phase ≡ acceptPhase) (has : (i : ℕ) → i < 7 → member i (r' .set) ≡ true → HasAcc S A i) where
       to-slow : someEnough n r' ≡ true → Goal (committing n c o j r')
       unfolding committing
-      to-slow e = moved (mk (A .joined) (A .voted) s4 (A .value) idle nobody (A .replies)) (mCommit (A .value) ∷ [])
+      to-slow e = moved (mk (A .joined) (A .voted) commitVote (A .value) idle nobody (A .replies)) (mCommit (A .value) ∷ [])
           (slow-commit phase (upd (within F fit (λ i. member i (r' .set))) c true) (enough (λ f. clash (cc phase)) e)
           (λ i t. ⊎-elim (λ h. inl h) (λ h. inr (has i (h .0) (h .1))) (in-one F fit (λ i. member i (r' .set)) c i t)))
           (rel-begun F c (seven p) (r' .joined) _ (r' .mark) 0 _ (rel' .joined) (rel' .voted) refl (rel' .value) (rel' .len) refl (λ f. clash (cc)) refl)
@@ -143,7 +143,7 @@ module _ (p : Spot) where
 
   -- a reply that is looked at: its phase, its ballot, a new sender
   module _ (w : ℕ) (m : Message) (aw : awaited w r m ≡ true) where
-    pub in-phase : phase-num (A .phase) ≡ w
+    pub in-phase : phaseNumber (A .phase) ≡ w
     unfolding awaited
     in-phase = rel .phase ∙ eqb-eq _ _ (and-l _ (eqb (r .joined) (m .ballot)) (and-l _ (not (member (m .from) (r .set))) aw))
 
@@ -155,25 +155,25 @@ module _ (p : Spot) where
     unfolding awaited
     new-sender = not-not _ (and-r (eqb (r .phase) w && eqb (r .joined) (m .ballot)) _ aw)
 
-  pub on-preacceptok : (m : Message) → m .from < n → (c ≡ m .from → ⊥) → length (m .deps) ≡ 7 → (k : Command) → Sent S (mPreOK (m .from) (m .ballot) (val k (m .deps)))
+  pub on-preacceptok : (m : Message) → m .from < n → (c ≡ m .from → ⊥) → length (m .deps) ≡ 7 → (k : Command) → Sent S (mPreAcceptOk (m .from) (m .ballot) (val k (m .deps)))
       → Goal (onPreAcceptOk n c o j r m)
   unfolding onPreAcceptOk collect
-  on-preacceptok m lq nc lm k sent = by-cond Goal (awaited 2 r m) (λ aw. go aw (ph-eq (A .phase) prephase (in-phase 2 m aw)) (Memᴰ·cast (ap (λ (b : ℕ). mPreOK (m .from) b (val k (m .deps))) (sym (at-ballot 2 m aw))) sent))
+  on-preacceptok m lq nc lm k sent = by-cond Goal (awaited 2 r m) (λ aw. go aw (phase-eq (A .phase) preAcceptPhase (in-phase 2 m aw)) (Memᴰ·cast (ap (λ (b : ℕ). mPreAcceptOk (m .from) b (val k (m .deps))) (sym (at-ballot 2 m aw))) sent))
       (λ aw. still p)
     where
       q : ℕ
       q = m .from
 
       a : ℕ → Reply
-      a = upd (A .replies) q (record { voted = A .joined; status = s1; value = val k (m .deps) })
+      a = upd (A .replies) q (record { voted = A .joined; status = preAdded; value = val k (m .deps) })
 
       old : (i : ℕ) → (i ≡ q → ⊥) → a i ≡ A .replies i
       old i n = upd-cases (λ (y : Reply). y ≡ A .replies i) (A .replies) q _ i (λ e. absurd (n e)) (λ e. refl)
 
-      mine : a q ≡ record { voted = A .joined; status = s1; value = val k (m .deps) }
+      mine : a q ≡ record { voted = A .joined; status = preAdded; value = val k (m .deps) }
       mine = upd-same (A .replies) q _
 
-      go : awaited 2 r m ≡ true → A .phase ≡ prephase → Sent S (mPreOK q (A .joined) (val k (m .deps))) → Goal (preAcceptedBy n c o j (collect r q (addedVote (m .deps))))
+      go : awaited 2 r m ≡ true → A .phase ≡ preAcceptPhase → Sent S (mPreAcceptOk q (A .joined) (val k (m .deps))) → Goal (preAcceptedBy n c o j (collect r q (addedVote (m .deps))))
       go aw phase sent = on-replies (upd (A .got) q true) a (collect r q (addedVote (m .deps))) rl refl phase has (moved _ [] (collect-pre q (val k (m .deps)) sent phase) rl refl (kept refl refl refl) (quiet (λ X. tt)))
         where
           nw : member q (r .set) ≡ false
@@ -183,21 +183,21 @@ module _ (p : Spot) where
           rl = rel-collect F c (seven p) fit r A rel q lq nw (addedVote (m .deps)) a lm (λ e. clash (cc phase)) (λ e. ap (λ (x : Reply). x .value .deps) mine) old nc
 
           has : (i : ℕ) → i < 7 → member i (collect r q (addedVote (m .deps)) .set) ≡ true → HasPre S A i (a i .value)
-          has i li t = ⊎-elim (λ e. inr (rw e (Memᴰ·cast (ap (λ (x : Reply). mPreOK q (A .joined) (x .value)) mine) sent)))
+          has i li t = ⊎-elim (λ e. inr (rw e (Memᴰ·cast (ap (λ (x : Reply). mPreAcceptOk q (A .joined) (x .value)) mine) sent)))
               (λ h. inl (rel .got i li ∙ h .1, ap (λ (x : Reply). x .value) (sym (old i (h .0)))))
               (of-with F c (seven p) fit r A rel q lq nw (addedVote (m .deps)) i li t)
 
-  pub on-acceptok : (m : Message) → m .from < n → (c ≡ m .from → ⊥) → Sent S (mAccOK (m .from) (m .ballot)) → Goal (onAcceptOk n c o j r m)
+  pub on-acceptok : (m : Message) → m .from < n → (c ≡ m .from → ⊥) → Sent S (mAcceptOk (m .from) (m .ballot)) → Goal (onAcceptOk n c o j r m)
   unfolding onAcceptOk acceptedBy collect
   on-acceptok m lq nc sent = by-cond Goal (awaited 3 r m)
       (λ aw. go aw (is-accphase (A .phase) (λ e. absurd (omega (arith, in-phase 3 m aw))) (λ e. absurd (omega (arith, in-phase 3 m aw))) (λ e. absurd (omega (arith, in-phase 3 m aw))))
-      (Memᴰ·cast (ap (mAccOK (m .from)) (sym (at-ballot 3 m aw))) sent))
+      (Memᴰ·cast (ap (mAcceptOk (m .from)) (sym (at-ballot 3 m aw))) sent))
       (λ aw. still p)
     where
       q : ℕ
       q = m .from
 
-      go : awaited 3 r m ≡ true → A .phase ≡ accphase → Sent S (mAccOK q (A .joined)) → Goal (acceptedBy n c o j (collect r q noVote))
+      go : awaited 3 r m ≡ true → A .phase ≡ acceptPhase → Sent S (mAcceptOk q (A .joined)) → Goal (acceptedBy n c o j (collect r q noVote))
       go aw phase sent = by-cond Goal (someEnough n (collect r q noVote)) (to-slow (upd (A .got) q true) (A .replies) (collect r q noVote) rl refl phase has)
           (λ t. moved _ [] (collect-acc q sent phase) rl refl (kept refl refl refl) (quiet (λ X. tt)))
         where
@@ -214,14 +214,14 @@ module _ (p : Spot) where
   unfolding nudge again
   on-nudge nz = by-cond Goal (isCommitted r) (λ e. tell-commit p e _) λ e.
       by-cond Goal (eqb (r .phase) 2 && eqb (r .joined) 0 && someEnough n r)
-      (λ t. let phase : A .phase ≡ prephase = ph-eq (A .phase) prephase (rel .phase ∙ eqb-eq _ _ (and-l _ (eqb (r .joined) 0) (and-l _ (someEnough n r) t))) in
+      (λ t. let phase : A .phase ≡ preAcceptPhase = phase-eq (A .phase) preAcceptPhase (rel .phase ∙ eqb-eq _ _ (and-l _ (eqb (r .joined) 0) (and-l _ (someEnough n r) t))) in
       to-accepting (A .got) (A .replies) r rel refl phase (λ i li m. inl (rel .got i li ∙ m, refl)) (and-r (eqb (r .phase) 2 && eqb (r .joined) 0) _ t))
       λ t. by-cond Goal (eqb (r .phase) 1) (λ p. same refl (quiet (λ X. tt))) λ p.
       by-cond Goal (eqb (r .phase) 2)
-      (λ q. let phase : A .phase ≡ prephase = ph-eq (A .phase) prephase (rel .phase ∙ eqb-eq _ _ q) in
-      moved A (mPre (A .joined) (A .value) ∷ []) (repeat _ (say-pre phase)) rel refl (kept refl refl refl) (spoken refl refl (rel .len, List·Memᴰ·head (λ i. mPre (sym (rel .joined) i) (sym (rel .value) i)))))
-      (λ q. let phase : A .phase ≡ accphase = is-accphase (A .phase) (λ z. busy e (sym (rel .phase) ∙ z)) (λ z. eqb-ne (r .phase) 1 p (sym (rel .phase) ∙ z)) (λ z. eqb-ne (r .phase) 2 q (sym (rel .phase) ∙ z)) in
-      moved A (mAcc (A .joined) (A .value) ∷ []) (repeat _ (say-acc phase)) rel refl (kept refl refl refl) (spoken refl refl (rel .len, List·Memᴰ·head (λ i. mAcc (sym (rel .joined) i) (sym (rel .value) i)))))
+      (λ q. let phase : A .phase ≡ preAcceptPhase = phase-eq (A .phase) preAcceptPhase (rel .phase ∙ eqb-eq _ _ q) in
+      moved A (mPreAccept (A .joined) (A .value) ∷ []) (repeat _ (say-pre phase)) rel refl (kept refl refl refl) (spoken refl refl (rel .len, List·Memᴰ·head (λ i. mPreAccept (sym (rel .joined) i) (sym (rel .value) i)))))
+      (λ q. let phase : A .phase ≡ acceptPhase = is-accphase (A .phase) (λ z. busy e (sym (rel .phase) ∙ z)) (λ z. eqb-ne (r .phase) 1 p (sym (rel .phase) ∙ z)) (λ z. eqb-ne (r .phase) 2 q (sym (rel .phase) ∙ z)) in
+      moved A (mAccept (A .joined) (A .value) ∷ []) (repeat _ (say-acc phase)) rel refl (kept refl refl refl) (spoken refl refl (rel .len, List·Memᴰ·head (λ i. mAccept (sym (rel .joined) i) (sym (rel .value) i)))))
     where
       busy : isCommitted r ≡ false → r .phase ≡ 0 → ⊥
       busy e z = tf (nothingToNudge r) (rw (e, eqb-same (r .phase) 0 z) refl) nz

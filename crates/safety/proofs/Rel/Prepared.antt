@@ -24,10 +24,10 @@ use Rattle.reach.proofs.Count.{cnt}
 use Rattle.safety.proofs.Sets.{ones-cnt}
 use Rattle.safety.proofs.Deps.{Under, under-refl}
 use Rattle.safety.proofs.Value.{Value}
-use Rattle.safety.proofs.Hist.{s2, s3, Reply, Decided}
+use Rattle.safety.proofs.Hist.{preReceived, acceptVote, Reply, Decided}
 use Rattle.safety.proofs.Hist.{accept as o-accept, afresh as o-afresh}
-use Rattle.safety.proofs.Sys.{preparing, prephase, accphase, Rec, mk, mPre, mAcc, mPrepOK, upd, upd-cases, upd-same, nobody, Sent, HasPrep, collect-prep, decide-accept, decide-afresh}
-use Rattle.safety.proofs.Rel.{ph-eq, val, valueOf, Tells, Rel, rel-begun, quiet, spoken, kept, takes, counts, moved, Spot, Ref, seven, still}
+use Rattle.safety.proofs.Sys.{preparing, preAcceptPhase, acceptPhase, Rec, mk, mPreAccept, mAccept, mPrepareOk, upd, upd-cases, upd-same, nobody, Sent, HasPrep, collect-prep, decide-accept, decide-afresh}
+use Rattle.safety.proofs.Rel.{phase-eq, val, valueOf, Tells, Rel, rel-begun, quiet, spoken, kept, takes, counts, moved, Spot, Ref, seven, still}
 use Rattle.safety.proofs.Rel.Collect.{among, of-with, rel-collect}
 use Rattle.safety.proofs.Rel.Decide.{Q, chosen}
 use Rattle.safety.proofs.Rel.Leads.{faults-n, in-phase, at-ballot, new-sender}
@@ -65,29 +65,29 @@ module _ (p : Spot) where
           go : ((acceptedFrom n o r' < 7) × Decided F o P a (o-accept (valueOf (toldBy r' (acceptedFrom n o r'))))) ⊎ ((acceptedFrom n o r' ≡ 7) × Decided F o P a (o-afresh (afreshCommand r')))
               → Goal (decide n c o j r' (seen (afreshCommand r')))
           go (inl (l, d)) = by-cond Goal (ltb (acceptedFrom n o r') 7)
-              (λ t. moved (mk (A .joined) (A .joined) s3 v accphase nobody (A .replies)) (mAcc (A .joined) v ∷ [])
+              (λ t. moved (mk (A .joined) (A .joined) acceptVote v acceptPhase nobody (A .replies)) (mAccept (A .joined) v ∷ [])
               (decide-accept v phase P a (enough e) each d)
               (rel-begun F c (seven p) (r' .joined) _ (r' .mark) 3 _ (rel' .joined) (rel' .joined) refl refl (rel' .lens (acceptedFrom n o r')) refl (λ f. clash (cc)) refl)
-              mk' (takes refl) (spoken refl refl (rel' .lens (acceptedFrom n o r'), List·Memᴰ·head (ap (λ (b : ℕ). mAcc b v) (sym (rel' .joined))))))
+              mk' (takes refl) (spoken refl refl (rel' .lens (acceptedFrom n o r'), List·Memᴰ·head (ap (λ (b : ℕ). mAccept b v) (sym (rel' .joined))))))
               (λ t. tf (ltb (acceptedFrom n o r') 7) (ltb-in _ _ l) t)
             where
               v : Value
               v = valueOf (toldBy r' (acceptedFrom n o r'))
           go (inr (q, d)) = by-cond Goal (ltb (acceptedFrom n o r') 7) (λ t. absurd (omega (arith, ltb-lt (acceptedFrom n o r') 7 t)))
-              (λ t. moved (mk (A .joined) (A .joined) s2 v prephase nobody (A .replies)) (mPre (A .joined) v ∷ [])
+              (λ t. moved (mk (A .joined) (A .joined) preReceived v preAcceptPhase nobody (A .replies)) (mPreAccept (A .joined) v ∷ [])
               (decide-afresh (afreshCommand r') v phase P a (enough e) each d refl)
               (rel-begun F c (seven p) (r' .joined) _ (r' .mark) 2 _ (rel' .joined) (rel' .joined) refl refl (ls (afreshCommand r')) refl (λ f. clash (cc)) refl)
               mk' (counts (cov (afreshCommand r') (seen (afreshCommand r')) (under-refl (seen (afreshCommand r')))))
-              (spoken refl refl (ls (afreshCommand r'), List·Memᴰ·head (ap (λ (b : ℕ). mPre b v) (sym (rel' .joined))))))
+              (spoken refl refl (ls (afreshCommand r'), List·Memᴰ·head (ap (λ (b : ℕ). mPreAccept b v) (sym (rel' .joined))))))
             where
               v : Value
               v = val (afreshCommand r') (seen (afreshCommand r'))
 
-    pub on-prepareok : (m : Message) → m .from < n → (c ≡ m .from → ⊥) → length (m .deps) ≡ 7 → (x : Reply) → Tells (voteIn m) x → Sent S (mPrepOK (m .from) (m .ballot) x)
+    pub on-prepareok : (m : Message) → m .from < n → (c ≡ m .from → ⊥) → length (m .deps) ≡ 7 → (x : Reply) → Tells (voteIn m) x → Sent S (mPrepareOk (m .from) (m .ballot) x)
         → Goal (onPrepareOk n c o j r m seen)
     unfolding onPrepareOk preparedBy collect
     on-prepareok m lq nc lm x tl sent = by-cond Goal (awaited 1 r m)
-        (λ aw. go aw (ph-eq (A .phase) preparing (in-phase p 1 m aw)) (Memᴰ·cast (ap (λ (b : ℕ). mPrepOK (m .from) b x) (sym (at-ballot p 1 m aw))) sent))
+        (λ aw. go aw (phase-eq (A .phase) preparing (in-phase p 1 m aw)) (Memᴰ·cast (ap (λ (b : ℕ). mPrepareOk (m .from) b x) (sym (at-ballot p 1 m aw))) sent))
         (λ aw. still p)
       where
         q : ℕ
@@ -99,7 +99,7 @@ module _ (p : Spot) where
         old : (i : ℕ) → (i ≡ q → ⊥) → a i ≡ A .replies i
         old i n = upd-cases (λ (y : Reply). y ≡ A .replies i) (A .replies) q x i (λ e. absurd (n e)) (λ e. refl)
 
-        go : awaited 1 r m ≡ true → A .phase ≡ preparing → Sent S (mPrepOK q (A .joined) x) → Goal (preparedBy n c o j (collect r q (voteIn m)) seen)
+        go : awaited 1 r m ≡ true → A .phase ≡ preparing → Sent S (mPrepareOk q (A .joined) x) → Goal (preparedBy n c o j (collect r q (voteIn m)) seen)
         go aw phase sent = by-cond Goal (quorum n (collect r q (voteIn m))) (to-decided (upd (A .got) q true) a (collect r q (voteIn m)) rl refl phase has)
             (λ t. moved _ [] (collect-prep q x sent phase) rl refl (kept refl refl refl) (quiet (λ X. tt)))
           where

@@ -33,11 +33,11 @@ use Rattle.paper.proofs.Laws.{sameDeps-eq}
 use Rattle.paper.proofs.Deps.{join-seven}
 use Rattle.safety.proofs.Deps.{Under, same-deps-refl, join-r}
 use Rattle.safety.proofs.Value.{Value}
-use Rattle.safety.proofs.Hist.{Status, s0, s1, s2, s3, s4}
-use Rattle.safety.proofs.Sys.{idle, preparing, prephase, Rec, mk, reply-of, mPre, mPreOK, mAcc, mAccOK, mCommit, mPrepOK, upd, upd-cases, upd-same, nobody, Sent, Fresh, Says, say-ok1, say-ok2, repeat}
+use Rattle.safety.proofs.Hist.{Status, unvoted, preAdded, preReceived, acceptVote, commitVote}
+use Rattle.safety.proofs.Sys.{idle, preparing, preAcceptPhase, Rec, mk, reply-of, mPreAccept, mPreAcceptOk, mAccept, mAcceptOk, mCommit, mPrepareOk, upd, upd-cases, upd-same, nobody, Sent, Fresh, Says, say-ok1, say-ok2, repeat}
 use Rattle.safety.proofs.Sys.{request as mv-request, pre-same, pre-more, acc, learn, join as mv-join, promise, recover as mv-recover}
 use Rattle.safety.proofs.Inv.Facts.{local-now}
-use Rattle.safety.proofs.Rel.{num, st-eq, val, Rel, rel-begun, quiet, spoken, kept, takes, commits, counts, moved, Spot, Ref, seven, open-st, still, refuse, commit-back, no-replies}
+use Rattle.safety.proofs.Rel.{statusNumber, status-eq, val, Rel, rel-begun, quiet, spoken, kept, takes, commits, counts, moved, Spot, Ref, seven, open-st, still, refuse, commit-back, no-replies}
 
 -- a blank record has joined nothing, voted for nothing and has no mark
 pub blank-facts : (r : Record) → isBlank r ≡ true → (r .joined ≡ 0) × (r .vote .status ≡ 0) × (r .mark ≡ 0)
@@ -76,11 +76,11 @@ module _ (p : Spot) where
   pub on-prepare : (m : Message) → Goal (prepare c o j r m)
   unfolding prepare
   on-prepare m = or-refused m λ e l. by-cond Goal (eqb (r .vote .voted) (m .ballot)) (λ q. still p)
-      (λ q. moved (mk (m .ballot) (A .voted) (A .status) (A .value) idle nobody (A .replies)) (mPrepOK c (m .ballot) (reply-of A) ∷ [])
+      (λ q. moved (mk (m .ballot) (A .voted) (A .status) (A .value) idle nobody (A .replies)) (mPrepareOk c (m .ballot) (reply-of A) ∷ [])
       (promise (m .ballot) l (omega (arith, voted-joined, rel .voted, eqb-ne (r .vote .voted) (m .ballot) q)) (open-st rel e))
       (rel-begun F c (seven p) (m .ballot) (r .vote) (r .mark) 0 _ refl (rel .voted) (rel .status) (rel .value) (rel .len) refl (λ f. clash (cc)) refl)
       refl (kept refl refl refl)
-      (spoken refl refl (rel .len, (A .status, rel .status, List·Memᴰ·head (ap (mPrepOK c (m .ballot)) (λ i. record { voted = sym (rel .voted) i; status = A .status; value = sym (rel .value) i }))))))
+      (spoken refl refl (rel .len, (A .status, rel .status, List·Memᴰ·head (ap (mPrepareOk c (m .ballot)) (λ i. record { voted = sym (rel .voted) i; status = A .status; value = sym (rel .value) i }))))))
 
   -- a PreAccept from the lead of its ballot, who is another copy
   module _ (m : Message) (k : Command) (not-lead : lead o (m .ballot) ≡ c → ⊥) (ml : length (m .deps) ≡ 7) where
@@ -97,18 +97,18 @@ module _ (p : Spot) where
         high : r .vote .status ≤ 2
         high = leb-le _ _ t
 
-        told : Says c A (mPreOK c (A .voted) (A .value)) → Goal (preAcceptOk c o j m r)
-        told s = moved A (mPreOK c (A .voted) (A .value) ∷ []) (repeat (mPreOK c (A .voted) (A .value)) s) rel refl (kept refl refl refl)
-            (spoken refl refl (rel .len, (r .vote .command, List·Memᴰ·head (λ i. mPreOK c (sym (rel .voted ∙ at) i) (sym (rel .value) i)))))
+        told : Says c A (mPreAcceptOk c (A .voted) (A .value)) → Goal (preAcceptOk c o j m r)
+        told s = moved A (mPreAcceptOk c (A .voted) (A .value) ∷ []) (repeat (mPreAcceptOk c (A .voted) (A .value)) s) rel refl (kept refl refl refl)
+            (spoken refl refl (rel .len, (r .vote .command, List·Memᴰ·head (λ i. mPreAcceptOk c (sym (rel .voted ∙ at) i) (sym (rel .value) i)))))
 
         go : (u : Status) → A .status ≡ u → Goal (preAcceptOk c o j m r)
-        go s0 e = absurd (omega (arith, rel .status, ap num e, low))
-        go s1 e = told (say-ok1 e)
-        go s2 e = told (say-ok2 e)
-        go s3 e = absurd (omega (arith, rel .status, ap num e, high))
-        go s4 e = absurd (omega (arith, rel .status, ap num e, high))
+        go unvoted e = absurd (omega (arith, rel .status, ap statusNumber e, low))
+        go preAdded e = told (say-ok1 e)
+        go preReceived e = told (say-ok2 e)
+        go acceptVote e = absurd (omega (arith, rel .status, ap statusNumber e, high))
+        go commitVote e = absurd (omega (arith, rel .status, ap statusNumber e, high))
 
-    pub on-preaccept : Sent S (mPre (m .ballot) (val k (m .deps))) → (seen : List ℕ) → ((d : List ℕ) → Under seen d → Cov (val k d)) → Goal (preAccept c o j r m k seen)
+    pub on-preaccept : Sent S (mPreAccept (m .ballot) (val k (m .deps))) → (seen : List ℕ) → ((d : List ℕ) → Under seen d → Cov (val k d)) → Goal (preAccept c o j r m k seen)
     unfolding preAccept
     on-preaccept sent seen cov = or-refused m λ e l. by-cond Goal (votedAt r (m .ballot))
         (λ v. by-cond Goal (leb (r .vote .status) 2) (told-again v) (λ t. still p))
@@ -123,27 +123,27 @@ module _ (p : Spot) where
             go : (x : Bool) → leb 1 (r .vote .status) ≡ x → (y : Bool) → eqb (r .vote .voted) (m .ballot) ≡ y → (x && y) ≡ false → Fresh A (m .ballot)
             go true p true q h = clash (cc)
             go true p false q h = inr (omega (arith, voted-joined, rel .voted, eqb-ne (r .vote .voted) (m .ballot) q))
-            go false p y q h = inl (st-eq (A .status) s0 (omega (arith, rel .status, leb-gt 1 (r .vote .status) p)))
+            go false p y q h = inl (status-eq (A .status) unvoted (omega (arith, rel .status, leb-gt 1 (r .vote .status) p)))
 
         new : isCommitted r ≡ false → A .joined ≤ m .ballot → votedAt r (m .ballot) ≡ false → (b : Bool) → sameDeps d (m .deps) ≡ b
             → Goal (preAcceptOk c o j m (Rattle.rules.specs.Step.idle (m .ballot) (record { voted = m .ballot; status = cond b 2 1; command = k; deps = d }) (r .mark)))
         new e l v true q =
             let de : m .deps ≡ d = sym (sameDeps-eq d (m .deps) (join-seven (m .deps) seen) ml q) in
-            moved (mk (m .ballot) (m .ballot) s2 (val k d) idle nobody (A .replies)) (mPreOK c (m .ballot) (val k d) ∷ [])
-            (pre-same (m .ballot) (val k d) (Memᴰ·cast (ap (λ (x : List ℕ). mPre (m .ballot) (val k x)) (sym de)) sent) not-lead (open-st rel e) l (fresh v l))
+            moved (mk (m .ballot) (m .ballot) preReceived (val k d) idle nobody (A .replies)) (mPreAcceptOk c (m .ballot) (val k d) ∷ [])
+            (pre-same (m .ballot) (val k d) (Memᴰ·cast (ap (λ (x : List ℕ). mPreAccept (m .ballot) (val k x)) (sym de)) sent) not-lead (open-st rel e) l (fresh v l))
             (rel-begun F c (seven p) (m .ballot) _ (r .mark) 0 _ refl refl refl refl (join-seven (m .deps) seen) refl (λ f. clash (cc)) refl)
             refl (counts (cov d (join-r (m .deps) seen))) (spoken refl refl (join-seven (m .deps) seen, (k, List·Memᴰ·head refl)))
         new e l v false q =
-            moved (mk (m .ballot) (m .ballot) s1 (val k d) idle nobody (A .replies)) (mPreOK c (m .ballot) (val k d) ∷ [])
+            moved (mk (m .ballot) (m .ballot) preAdded (val k d) idle nobody (A .replies)) (mPreAcceptOk c (m .ballot) (val k d) ∷ [])
             (pre-more (m .ballot) (val k (m .deps)) (val k d) sent not-lead (open-st rel e) l (fresh v l) refl
             (λ f. tf (sameDeps d (m .deps)) (same-deps-refl d (m .deps) (ap (λ (x : Value). x .deps) f)) q))
             (rel-begun F c (seven p) (m .ballot) _ (r .mark) 0 _ refl refl refl refl (join-seven (m .deps) seen) refl (λ f. clash (cc)) refl)
             refl (counts (cov d (join-r (m .deps) seen))) (spoken refl refl (join-seven (m .deps) seen, (k, List·Memᴰ·head refl)))
 
-    pub on-accept : Sent S (mAcc (m .ballot) (val k (m .deps))) → Goal (accept c o j r m k)
+    pub on-accept : Sent S (mAccept (m .ballot) (val k (m .deps))) → Goal (accept c o j r m k)
     unfolding accept
     on-accept sent = or-refused m λ e l.
-        moved (mk (m .ballot) (m .ballot) s3 (val k (m .deps)) idle nobody (A .replies)) (mAccOK c (m .ballot) ∷ [])
+        moved (mk (m .ballot) (m .ballot) acceptVote (val k (m .deps)) idle nobody (A .replies)) (mAcceptOk c (m .ballot) ∷ [])
         (acc (m .ballot) (val k (m .deps)) sent not-lead (open-st rel e) l)
         (rel-begun F c (seven p) (m .ballot) _ (r .mark) 0 _ refl refl refl refl ml refl (λ f. clash (cc)) refl)
         refl (takes refl) (spoken refl refl (List·Memᴰ·head refl))
@@ -151,7 +151,7 @@ module _ (p : Spot) where
   pub on-commit : (m : Message) (k : Command) → length (m .deps) ≡ 7 → Sent S (mCommit (val k (m .deps))) → Goal (commit r m k)
   unfolding commit
   on-commit m k ml sent = by-cond Goal (isCommitted r) (λ e. still p) λ e.
-      moved (mk (A .joined) (A .voted) s4 (val k (m .deps)) idle nobody (A .replies)) []
+      moved (mk (A .joined) (A .voted) commitVote (val k (m .deps)) idle nobody (A .replies)) []
       (learn (val k (m .deps)) sent (open-st rel e))
       (rel-begun F c (seven p) (r .joined) _ (r .mark) 0 _ (rel .joined) (rel .voted) refl refl ml refl (λ f. clash (cc)) refl)
       refl (commits refl) (quiet (λ X. tt))
@@ -210,8 +210,8 @@ module _ (p : Spot) where
   pub on-request : c ≡ o → (n : ℕ) (k : Command) (d : List ℕ) → isBlank r ≡ true → Req k → Cov (val k d) → length d ≡ 7 → Goal (request n c j k d)
   unfolding request afresh
   on-request own n k d bl rq cv ld =
-      let (unjoined, unvoted, unmarked) = blank-facts r bl in
-      moved (mk 0 0 s2 (val k d) prephase nobody (A .replies)) (mPre 0 (val k d) ∷ [])
-      (mv-request (val k d) own (rel .joined ∙ unjoined) (st-eq (A .status) s0 (rel .status ∙ unvoted)) rq)
+      let (unjoined, without, unmarked) = blank-facts r bl in
+      moved (mk 0 0 preReceived (val k d) preAcceptPhase nobody (A .replies)) (mPreAccept 0 (val k d) ∷ [])
+      (mv-request (val k d) own (rel .joined ∙ unjoined) (status-eq (A .status) unvoted (rel .status ∙ without)) rq)
       (rel-begun F c (seven p) 0 _ 0 2 _ refl refl refl refl ld refl (λ f. clash (cc)) refl)
       (sym unmarked) (counts cv) (spoken own refl (ld, List·Memᴰ·head refl))

@@ -53,7 +53,7 @@ returns c =
     let y = c .before .before .before .before .before .before .before .before .before .before .before .before .before .before .before .before .before .before .before .before .before .before .slot-of .ensures .0 in
     let w = raise-first (e .args .n) (e .args .s) (e .args .t .now) (e .args .g .now) (e .pre .0 .sized) (e .pre .0 .rows) (e .args .o) (e .args .j) (e .pre .1) _ (e .pre .0 .long) (λ i. omega (arith, c .before .before .before .before .before .before .before .before .before .before .before .before .before .before .before .before .before .before .before .before .before .before .before .before .before .shared-slice-known .given i)) (c .before .before .before .before .before .before .before .before .before .before .before .before .before .before .before .before .before .before .before .before .before .before .slot-of .ensures .0) (c .before .before .before .before .before .before .before .before .before .before .before .before .before .before .before .before .before .before .before .before .deps-of .ensures) (c .before .before .before .before .before .before .before .before .before .before .before .before .before .before .before .before .before .before .before .put-row .ensures) in
     let m = rw (w .0) at (c .before .before .before .before .before .before .before .before .before .before .before .before .before .before .beyond .ensures .0) in
-    let k = raise-read (e .args .n) (e .args .s) (e .args .t .now) (e .args .g .now) (e .pre .0 .sized) (e .pre .0 .rows) (e .args .o) (e .args .j) (e .pre .1) _ y m (c .before .before .before .before .before .before .before .before .before .before .marks-at .ensures) (c .before .before .before .before .before .before .before .before .marks-at2 .ensures) (c .before .before .before .before .before .before .before .join .ensures) (c .before .before .before .before .before .before2 .ensures) (c .before .before .before .before .join2 .ensures) in (
+    let k = raise-read (e .args .n) (e .args .s) (e .args .t .now) (e .args .g .now) (e .pre .0 .sized) (e .pre .0 .rows) (e .args .o) (e .args .j) (e .pre .1) _ y m (c .before .before .before .before .before .before .before .before .before .before .marks-at .ensures) (c .before .before .before .before .before .before .before .before .marks-at2 .ensures) (c .before .before .before .before .before .before .before .join .ensures) (c .before .before .before .before .before .before-in .ensures) (c .before .before .before .before .join2 .ensures) in (
       c .before .before .before .before .before .before .before .before .before .before .before .before .before .before .beyond .ensures .1 .long,
       rw (c .before .before .put-row2 .ensures, k, y)
           (raise-raised (e .args .n) (e .args .s) (e .args .t .now) (e .args .g .now) (e .pre .0 .sized) (e .pre .0 .rows) (e .args .o) (e .args .j) (e .pre .1) (λ i. omega (arith, c .before .before .before .before .before .before .before .before .before .before .before .before .before .before .before .before .before .before .before .before .before .before .before .before .slice-known .given i)) (read-fits _ _ m (λ i. omega (arith, c .before .before .before .before .before .before .before .before .before .before .before .before .slice-known4 .given i)))),

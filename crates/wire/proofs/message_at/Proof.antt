@@ -5,7 +5,6 @@ use Rattle.paper.specs.Message.{bodyOf, partsOf}
 use Rattle.paper.specs.declared.Parts.{Parts}
 use Rattle.wire.specs.Wire.{carriedAt, besideAt, messageAt}
 use Rattle.wire.proofs.Laws.{begins}
-use borrow.Author.Needs.{needs}
 use Rattle.wire.proofs.message_at.Statement.{statement}
 use Rattle.wire.proofs.message_at.Tie as tie
 
