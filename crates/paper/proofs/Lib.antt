@@ -5,3 +5,4 @@ pub mod Valid
 pub mod Clauses
 pub mod Deps
 pub mod Widest
+pub mod Pins

@@ -2,3 +2,4 @@ pub mod Worked
 pub mod Rests
 pub mod Joins
 pub mod Codes
+pub mod Pins

@@ -19,3 +19,4 @@ pub mod Received
 pub mod Events
 pub mod Order
 pub mod Examples
+pub mod Pins
