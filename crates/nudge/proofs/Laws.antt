@@ -1,4 +1,4 @@
--- The outcomes of a nudge, one law each, and what its step needs. Assumes nothing.
+-- What a nudge's step needs, and that it is the rule's. Assumes nothing.
 use mathlib.Core.Path.{_≡_}
 use mathlib.Core.Bool.{true, false}
 use mathlib.Core.List.{List}
@@ -15,24 +15,11 @@ use Rattle.table.specs.Table.{recordIn}
 use Rattle.seen.specs.Records.{recordsIn}
 use Rattle.closed.proofs.Closed.{nudge-event}
 use Rattle.log.specs.Out.{outBytes}
-use Rattle.log.specs.Events.{refuse, acted, Passed, nudgeOpen}
+use Rattle.log.specs.Events.{Passed}
 use Rattle.log.proofs.Held.{sound-records, out-short}
 use Rattle.log.proofs.Calls.{setup-of}
 
 module _ (n s c : ℕ) (t out : List ℕ) (o j : ℕ) where
-  pub nudge-6 : instanceOk n s o j ≡ false → refuse why.Instance t out ≡ nudgeOpen n s c t out o j
-  unfolding nudgeOpen
-  nudge-6 p = rw p
-
-  pub nudge-9 : instanceOk n s o j ≡ true → nothingToNudge (recordIn s t o j) ≡ true → refuse why.NudgeIdle t out ≡ nudgeOpen n s c t out o j
-  unfolding nudgeOpen
-  nudge-9 p q = rw (p, q)
-
-  pub nudge-ok : instanceOk n s o j ≡ true → nothingToNudge (recordIn s t o j) ≡ false
-      → acted s t out o j (onNudge n c (recordsIn s t) o j) ≡ nudgeOpen n s c t out o j
-  unfolding nudgeOpen
-  nudge-ok p q = rw (p, q)
-
   pub nudge-room : Bytes t → Passed n s c t (length out) → instanceOk n s o j ≡ true → nothingToNudge (recordIn s t o j) ≡ false
       → length (outBytes (onNudge n c (recordsIn s t) o j)) ≤ 222
   nudge-room b p i k =

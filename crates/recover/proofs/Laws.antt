@@ -1,4 +1,4 @@
--- The outcomes of a recovery, one law each, and what its step needs. Assumes nothing.
+-- What a recovery's step needs, and that it is the rule's. Assumes nothing.
 use mathlib.Core.Path.{_≡_}
 use mathlib.Core.Bool.{true, false}
 use mathlib.Core.List.{List}
@@ -16,29 +16,11 @@ use Rattle.table.specs.Table.{recordIn}
 use Rattle.seen.specs.Records.{recordsIn}
 use Rattle.closed.proofs.Closed.{recover-event}
 use Rattle.log.specs.Out.{outBytes}
-use Rattle.log.specs.Events.{refuse, acted, Passed, recoverOpen}
+use Rattle.log.specs.Events.{Passed}
 use Rattle.log.proofs.Held.{sound-records, out-short}
 use Rattle.log.proofs.Calls.{setup-of}
 
 module _ (n s c : ℕ) (t out : List ℕ) (o j : ℕ) where
-  pub recover-6 : instanceOk n s o j ≡ false → refuse why.Instance t out ≡ recoverOpen n s c t out o j
-  unfolding recoverOpen
-  recover-6 p = rw p
-
-  pub recover-8 : instanceOk n s o j ≡ true → isCommitted (recordIn s t o j) ≡ true → refuse why.RecoverCommitted t out ≡ recoverOpen n s c t out o j
-  unfolding recoverOpen
-  recover-8 p q = rw (p, q)
-
-  pub recover-7 : instanceOk n s o j ≡ true → isCommitted (recordIn s t o j) ≡ false → outOfBallots (recordIn s t o j) ≡ true
-      → refuse why.BallotsUsedUp t out ≡ recoverOpen n s c t out o j
-  unfolding recoverOpen
-  recover-7 p q r = rw (p, q, r)
-
-  pub recover-ok : instanceOk n s o j ≡ true → isCommitted (recordIn s t o j) ≡ false → outOfBallots (recordIn s t o j) ≡ false
-      → acted s t out o j (onRecover n c (recordsIn s t) o j) ≡ recoverOpen n s c t out o j
-  unfolding recoverOpen
-  recover-ok p q r = rw (p, q, r)
-
   pub recover-room : Bytes t → Passed n s c t (length out) → instanceOk n s o j ≡ true → isCommitted (recordIn s t o j) ≡ false
       → outOfBallots (recordIn s t o j) ≡ false → length (outBytes (onRecover n c (recordsIn s t) o j)) ≤ 222
   recover-room b p i k l =

@@ -1,4 +1,4 @@
--- What a request's step rests on, and the outcomes of the call, one law each. Assumes nothing.
+-- What a request's step rests on, and that it is the rule's. Assumes nothing.
 use mathlib.Core.Path.{_≡_, refl}
 use mathlib.Core.Bool.{Bool, true, false, _||_}
 use mathlib.Core.List.{List}
@@ -6,7 +6,7 @@ use Prim.Native.Nat.{ℕ, _^_, _≤_, _<_}
 use native.Mathlib.Omega.{arith}
 use lib.Dec.{eqb}
 use lib.ListN.{length}
-use borrow.Author.Tests.{lt-ltb, le-ltb, eqb-true}
+use borrow.Author.Tests.{eqb-true}
 use Rattle.codec.specs.Parts.{opOf}
 use Rattle.paper.specs.Command.{commandOk}
 use Rattle.paper.specs.Vote.{blank}
@@ -23,7 +23,7 @@ use Rattle.table.proofs.Laws.{sizes}
 use Rattle.seen.specs.Records.{recordsIn}
 use Rattle.closed.proofs.Closed.{request-event}
 use Rattle.log.specs.Out.{outBytes}
-use Rattle.log.specs.Events.{refuse, acted, asked, commandOf, opTaken, Passed, requestOpen}
+use Rattle.log.specs.Events.{commandOf, opTaken, Passed}
 use Rattle.numbers.specs.Num.{Bytes}
 use Rattle.log.proofs.Held.{sound-records, out-short}
 use Rattle.log.proofs.Calls.{setup-of}
@@ -36,14 +36,6 @@ unfolding onRequest request
 request-step n s c t k ej eq ei er ed = rw (ed, er, eq, ei, ej)
 
 module _ (n s c : ℕ) (t out : List ℕ) where
-  pub asked-5 : (k : Command) {j : ℕ} → j ≡ requestNumber s c (recordsIn s t) → s < j → refuse why.NoBlank t out ≡ asked n s c t out k
-  unfolding asked
-  asked-5 k {j} e l = let p = lt-ltb s j l in rw (← e, p)
-
-  pub asked-ok : (k : Command) {j : ℕ} → j ≡ requestNumber s c (recordsIn s t) → j ≤ s → acted s t out c j (onRequest n s c (recordsIn s t) k) ≡ asked n s c t out k
-  unfolding asked
-  asked-ok k {j} e l = rw (← e, le-ltb s j l)
-
   pub own-names : Passed n s c t (length out) → (j : ℕ) → 1 ≤ j → j ≤ s → Names n s c j
   own-names p j l u =
       let z = sizes n s c t (p .setup) in
@@ -58,15 +50,6 @@ module _ (n s c : ℕ) (t out : List ℕ) where
       (request-event n s c setup (recordsIn s t) (sound-records n s c t b (h .passed .setup) (h .passed .sound)) k (h .ok) (h .fits) (h .edit) u .sent)
 
   module _ (op key edit : ℕ) where
-    pub request-4 : opTaken op ≡ false → refuse why.Op t out ≡ requestOpen n s c t out op key edit
-    unfolding requestOpen
-    request-4 e = rw e
-
-    pub request-ok : {x : Op} → x ≡ opOf op → opTaken op ≡ true
-        → asked n s c t out (record { op = x; key = key; edit = edit }) ≡ requestOpen n s c t out op key edit
-    unfolding requestOpen asked
-    request-ok ex e = rw (ex, e)
-
     pub small-op : opTaken op ≡ true → op < 256
     small-op e = go (eqb op 1) refl (eqb op 2) refl e
       where

@@ -2,14 +2,13 @@
 -- its neighbours. Demand 3 holds of many wrong rules; each of them breaks a line here. Assumes nothing.
 use Prim.Native.Nat.{ℕ}
 use mathlib.Core.Path.{_≡_}
-use mathlib.Core.Bool.{Bool, true, false}
+use mathlib.Core.Bool.{true, false}
 use mathlib.Core.List.{List, [], _∷_}
 use lib.ListN.{replicate}
 use Rattle.paper.specs.Command.{noop}
 use Rattle.paper.specs.Vote.{noVote}
 use Rattle.paper.specs.Deps.{noDeps}
 use Rattle.paper.specs.Message.{noMessage}
-use Rattle.paper.specs.declared.Command.{Command}
 use Rattle.paper.specs.declared.Vote.{Vote}
 use Rattle.paper.specs.declared.Record.{Record}
 use Rattle.paper.specs.declared.Message.{Message}

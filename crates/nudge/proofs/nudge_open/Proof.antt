@@ -6,7 +6,8 @@ use Rattle.table.proofs.Laws.{sizes, names}
 use Rattle.numbers.specs.Num.{Bytes}
 use Rattle.rules.specs.Nudge.{nothingToNudge}
 use Rattle.log.proofs.Calls.{three, met, refused, acted-is}
-use Rattle.nudge.proofs.Laws.{nudge-6, nudge-9, nudge-ok, nudge-room, nudge-step}
+use Rattle.log.proofs.Outcomes.{nudge-6, nudge-9, nudge-ok}
+use Rattle.nudge.proofs.Laws.{nudge-room, nudge-step}
 use borrow.Author.Needs.{needs}
 use Rattle.nudge.proofs.nudge_open.Statement.{statement}
 use Rattle.nudge.proofs.nudge_open.Tie as tie

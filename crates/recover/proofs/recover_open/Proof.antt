@@ -7,7 +7,8 @@ use Rattle.table.proofs.Laws.{sizes, names}
 use Rattle.numbers.specs.Num.{Bytes}
 use Rattle.rules.specs.Recover.{outOfBallots}
 use Rattle.log.proofs.Calls.{met, refused, acted-is}
-use Rattle.recover.proofs.Laws.{recover-6, recover-8, recover-7, recover-ok, recover-room, recover-step}
+use Rattle.log.proofs.Outcomes.{recover-6, recover-8, recover-7, recover-ok}
+use Rattle.recover.proofs.Laws.{recover-room, recover-step}
 use borrow.Author.Needs.{needs}
 use Rattle.recover.proofs.recover_open.Statement.{statement}
 use Rattle.recover.proofs.recover_open.Tie as tie

@@ -7,7 +7,8 @@ use Rattle.paper.specs.declared.Refusal.the-variants as why
 use Rattle.table.proofs.Laws.{sizes}
 use Rattle.numbers.specs.Num.{Bytes}
 use Rattle.log.proofs.Calls.{met, refused, acted-is}
-use Rattle.request.proofs.Laws.{asked-5, asked-ok, own-names, request-room}
+use Rattle.log.proofs.Outcomes.{asked-5, asked-ok}
+use Rattle.request.proofs.Laws.{own-names, request-room}
 
 request-number-requires : tie.Need-request-number-requires
 request-number-requires c κs = search needs

@@ -9,7 +9,8 @@ use mathlib.Core.Bool.{_||_}
 use Rattle.codec.specs.Parts.{opOf}
 use Rattle.paper.specs.declared.Refusal.the-variants as why
 use Rattle.log.proofs.Calls.{met, refused}
-use Rattle.request.proofs.Laws.{request-4, request-ok, small-op, asking}
+use Rattle.log.proofs.Outcomes.{request-4, request-ok}
+use Rattle.request.proofs.Laws.{small-op, asking}
 
 equal-requires : tie.Need-equal-requires
 equal-requires c κs = search needs
