@@ -107,24 +107,54 @@ fn some_message(random: &mut Random, c: &Copy) -> Option<Message> {
     write_message(n, s, c.copy, &mut [0; 256], &m).ok().map(|_| m)
 }
 
+/// A copy whose table holds records of every sort.
+fn some_copy(random: &mut Random) -> Copy {
+    let n = [3, 5, 7][random.below(3) as usize];
+    let s = 1 + random.below(3) as usize;
+    let copy = random.below(n as u64) as usize;
+    let mut c = Copy::blank(n, s, copy);
+    for o in 0..n {
+        for j in 1..=s {
+            if random.chance(80) {
+                let r = some_record(random, n, s, copy, o);
+                c.put(o, j, &r);
+            }
+        }
+    }
+    assert_eq!(c.judge(), Ok(()));
+    c
+}
+
+/// A nudge, a recovery or a request, taken or refused as the table says.
+fn some_call(random: &mut Random, c: &mut Copy) {
+    let (n, s, copy) = (c.n, c.s, c.copy);
+    let (o, j) = (random.below(n as u64) as usize, 1 + random.below(s as u64) as usize);
+    let r = c.get(o, j);
+    match random.below(4) {
+        0 => {
+            let got = c.nudge(o, j).map(|_| ());
+            let idle = r.own.status != 4 && r.phase == 0;
+            assert_eq!(got, if idle { Err(9) } else { Ok(()) });
+        }
+        1 => {
+            let got = c.recover(o, j).map(|_| ());
+            assert_eq!(got, if r.own.status == 4 { Err(8) } else { Ok(()) });
+        }
+        2 => {
+            let blank = (1..=s).find(|&j| c.get(copy, j) == Rec::default());
+            let got = c.request(2, 1, 1).map(|(e, _)| (e.owner, e.number));
+            assert_eq!(got, blank.map(|j| (copy, j)).ok_or(5));
+        }
+        _ => {}
+    }
+}
+
 #[test]
 fn random_tables() {
     let mut random = Random(4);
     let mut taken = [0; 9];
     for _ in 0..20_000 {
-        let n = [3, 5, 7][random.below(3) as usize];
-        let s = 1 + random.below(3) as usize;
-        let copy = random.below(n as u64) as usize;
-        let mut c = Copy::blank(n, s, copy);
-        for o in 0..n {
-            for j in 1..=s {
-                if random.chance(80) {
-                    let r = some_record(&mut random, n, s, copy, o);
-                    c.put(o, j, &r);
-                }
-            }
-        }
-        assert_eq!(c.judge(), Ok(()));
+        let mut c = some_copy(&mut random);
         for _ in 0..10 {
             if let Some(m) = some_message(&mut random, &c) {
                 let before = c.clone();
@@ -133,28 +163,49 @@ fn random_tables() {
                     Err(r) => assert_eq!((r, m.kind), (10, 5)),
                 }
             }
-            let (o, j) = (random.below(n as u64) as usize, 1 + random.below(s as u64) as usize);
-            let r = c.get(o, j);
-            match random.below(4) {
-                0 => {
-                    let got = c.nudge(o, j).map(|_| ());
-                    let idle = r.own.status != 4 && r.phase == 0;
-                    assert_eq!(got, if idle { Err(9) } else { Ok(()) });
-                }
-                1 => {
-                    let got = c.recover(o, j).map(|_| ());
-                    assert_eq!(got, if r.own.status == 4 { Err(8) } else { Ok(()) });
-                }
-                2 => {
-                    let blank = (1..=s).find(|&j| c.get(copy, j) == Rec::default());
-                    let got = c.request(2, 1, 1).map(|(e, _)| (e.owner, e.number));
-                    assert_eq!(got, blank.map(|j| (copy, j)).ok_or(5));
-                }
-                _ => {}
-            }
+            some_call(&mut random, &mut c);
         }
     }
     assert!(taken[1..].iter().all(|&t| t > 100), "{taken:?}");
+}
+
+/// An event at some copy: a call, or a message that arrives, is lost or stays on the way too. What it sends.
+fn some_event(random: &mut Random, copies: &mut [Copy], flying: &mut Vec<Message>) -> Vec<Message> {
+    let (n, s) = (copies.len(), copies[0].s);
+    let q = random.below(n as u64) as usize;
+    let (o, j) = (random.below(n as u64) as usize, 1 + random.below(s as u64) as usize);
+    let sent = match random.below(20) {
+        0 | 1 => copies[q].request(1 + random.below(2) as u8, random.below(2) as u32, 1),
+        2 if random.chance(30) => copies[q].recover(o, j),
+        3 => copies[q].nudge(o, j),
+        _ if flying.is_empty() => return Vec::new(),
+        _ => {
+            let at = random.below(flying.len() as u64) as usize;
+            let m = if random.chance(10) { flying[at] } else { flying.swap_remove(at) };
+            if random.chance(5) {
+                return Vec::new();
+            }
+            let got = copies[m.to as usize].message(&m);
+            assert!(got.is_ok(), "{got:?}");
+            got
+        }
+    };
+    sent.map(|(_, sent)| sent).unwrap_or_default()
+}
+
+/// How many instances are committed somewhere; wherever one is, it is with the same command and dependencies.
+fn agreed(copies: &[Copy]) -> usize {
+    let mut committed = 0;
+    for o in 0..copies.len() {
+        for j in 1..=copies[0].s {
+            let held = |c: &Copy| c.get(o, j).own;
+            let all: Vec<_> = copies.iter().map(held).filter(|v| v.status == 4).collect();
+            let chosen = |v: &Vote| (v.op, v.key, v.edit, v.deps);
+            assert!(all.iter().all(|v| chosen(v) == chosen(&all[0])), "{o}.{j}");
+            committed += !all.is_empty() as usize;
+        }
+    }
+    committed
 }
 
 /// Messages lost, repeated and late; in the end every copy that committed an
@@ -167,44 +218,12 @@ fn runs_agree() {
         let n = [3, 5, 7][random.below(3) as usize];
         let s = 1 + random.below(4) as usize;
         let mut copies: Vec<Copy> = (0..n).map(|q| Copy::blank(n, s, q)).collect();
-        let mut flying: Vec<Message> = Vec::new();
+        let mut flying = Vec::new();
         for _ in 0..600 {
-            let q = random.below(n as u64) as usize;
-            let (o, j) = (random.below(n as u64) as usize, 1 + random.below(s as u64) as usize);
-            let sent = match random.below(20) {
-                0 | 1 => copies[q].request(1 + random.below(2) as u8, random.below(2) as u32, 1),
-                2 if random.chance(30) => copies[q].recover(o, j),
-                3 => copies[q].nudge(o, j),
-                _ if flying.is_empty() => continue,
-                _ => {
-                    let at = random.below(flying.len() as u64) as usize;
-                    let m = if random.chance(10) { flying[at] } else { flying.swap_remove(at) };
-                    if random.chance(5) {
-                        continue;
-                    }
-                    let got = copies[m.to as usize].message(&m);
-                    assert!(got.is_ok(), "{got:?}");
-                    got
-                }
-            };
-            if let Ok((_, sent)) = sent {
-                flying.extend(sent);
-            }
+            let sent = some_event(&mut random, &mut copies, &mut flying);
+            flying.extend(sent);
         }
-        for o in 0..n {
-            for j in 1..=s {
-                let mut all = copies.iter().map(|c| c.get(o, j).own).filter(|v| v.status == 4);
-                if let Some(first) = all.next() {
-                    committed += 1;
-                    for v in all {
-                        assert_eq!(
-                            (v.op, v.key, v.edit, v.deps),
-                            (first.op, first.key, first.edit, first.deps)
-                        );
-                    }
-                }
-            }
-        }
+        committed += agreed(&copies);
     }
     assert!(committed > 1000, "{committed}");
 }

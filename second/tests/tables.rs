@@ -380,93 +380,112 @@ fn preparing() {
     }
 }
 
+/// Copy 1 prepares at ballot 17: whether this, collected from copy 2, makes a sound record.
+fn collected(n: usize, s: usize, v: Vote) -> bool {
+    let mut r = Rec { joined: 17, phase: 1, set: 6, ..Rec::default() };
+    r.replies[2] = v;
+    is_sound(n, s, 1, 1, &r)
+}
+
 #[test]
 fn collected_prepare_ok() {
-    for n in [5, 7] {
-        for s in [1, 64] {
-            let mut base = Rec { joined: 17, phase: 1, set: 6, ..Rec::default() };
-            base.replies[2] = vote(16, 3, 2, 7, 9, &[1]);
-            let judge = |v: Vote, wanted: bool| {
-                let mut r = base;
-                r.replies[2] = v;
-                assert_eq!(is_sound(n, s, 1, 1, &r), wanted, "{v:?}");
-            };
-            let v = base.replies[2];
-            judge(v, true);
-            judge(Vote::default(), true);
-            for voted in [0, 1, 7, 8, 8 + n as u32 - 1, 8 + n as u32, 15, 16, 17, 18, 24] {
-                let wanted = voted == 0 || (voted >= 8 && voted % 8 < n as u32 && voted < 17);
-                judge(Vote { voted, ..v }, wanted);
-            }
-            for status in 0..=255 {
-                judge(Vote { status, ..v }, (1..=3).contains(&status));
-            }
-            for op in [0, 1, 2, 3, 255] {
-                judge(Vote { op, ..v }, op == 1 || op == 2);
-            }
-            judge(Vote { op: 0, key: 0, edit: 0, ..v }, true);
-            judge(Vote { op: 0, key: 1, edit: 0, ..v }, false);
-            judge(Vote { op: 0, key: 0, edit: 1, ..v }, false);
-            for q in 0..7 {
-                for d in [0, s as u16, s as u16 + 1, 256] {
-                    let mut v = v;
-                    v.deps[q] = d;
-                    judge(v, d as usize <= if q < n { s } else { 0 });
-                }
-            }
-            for v in [
-                vote(8, 0, 0, 0, 0, &[]),
-                vote(0, 0, 1, 0, 0, &[]),
-                vote(0, 0, 0, 1, 0, &[]),
-                vote(0, 0, 0, 0, 1, &[]),
-                vote(0, 0, 0, 0, 0, &[1]),
-            ] {
-                judge(v, false);
+    for (n, s) in [(5, 1), (5, 64), (7, 1), (7, 64)] {
+        let v = vote(16, 3, 2, 7, 9, &[1]);
+        let judge = |v: Vote, wanted: bool| assert_eq!(collected(n, s, v), wanted, "{v:?}");
+        judge(v, true);
+        judge(Vote::default(), true);
+        for voted in [0, 1, 7, 8, 8 + n as u32 - 1, 8 + n as u32, 15, 16, 17, 18, 24] {
+            let wanted = voted == 0 || (voted >= 8 && voted % 8 < n as u32 && voted < 17);
+            judge(Vote { voted, ..v }, wanted);
+        }
+        for status in 0..=255 {
+            judge(Vote { status, ..v }, (1..=3).contains(&status));
+        }
+        for op in [0, 1, 2, 3, 255] {
+            judge(Vote { op, ..v }, op == 1 || op == 2);
+        }
+        judge(Vote { op: 0, key: 0, edit: 0, ..v }, true);
+        judge(Vote { op: 0, key: 1, edit: 0, ..v }, false);
+        judge(Vote { op: 0, key: 0, edit: 1, ..v }, false);
+        for q in 0..7 {
+            for d in [0, s as u16, s as u16 + 1, 256] {
+                let mut v = v;
+                v.deps[q] = d;
+                judge(v, d as usize <= if q < n { s } else { 0 });
             }
         }
     }
 }
 
 #[test]
-fn pre_accepting() {
-    for n in [3usize, 5, 7] {
+fn collected_without_a_vote() {
+    for v in [
+        vote(8, 0, 0, 0, 0, &[]),
+        vote(0, 0, 1, 0, 0, &[]),
+        vote(0, 0, 0, 1, 0, &[]),
+        vote(0, 0, 0, 0, 1, &[]),
+        vote(0, 0, 0, 0, 0, &[1]),
+    ] {
+        for (n, s) in [(5, 1), (5, 64), (7, 1), (7, 64)] {
+            assert!(!collected(n, s, v), "{v:?}");
+        }
+    }
+}
+
+/// Setups and joined ballots, with a record of copy 1 that pre-accepts.
+fn pre_accepting_records() -> Vec<(usize, usize, Rec)> {
+    let mut all = Vec::new();
+    for n in [3, 5, 7] {
         for joined in [0, 9] {
             for s in [1, 64] {
                 let own = vote(joined, 2, 2, 7, 9, &[1]);
-                let base = Rec { joined, own, phase: 2, set: 4, ..Rec::default() };
-                for status in 0..=4 {
-                    let mut r = base;
-                    r.own.status = status;
-                    assert_eq!(is_sound(n, s, 1, 1, &r), status == 1 || status == 2);
-                }
+                all.push((n, s, Rec { joined, own, phase: 2, set: 4, ..Rec::default() }));
+            }
+        }
+    }
+    all
+}
+
+#[test]
+fn pre_accepting() {
+    for (n, s, base) in pre_accepting_records() {
+        for status in 0..=4 {
+            let mut r = base;
+            r.own.status = status;
+            assert_eq!(is_sound(n, s, 1, 1, &r), status == 1 || status == 2);
+        }
+        let mut r = base;
+        (r.own.op, r.own.key, r.own.edit) = (0, 0, 0);
+        assert_eq!(is_sound(n, s, 1, 1, &r), base.joined != 0);
+        if base.joined != 0 {
+            let mut r = base;
+            r.own.voted = 8;
+            assert!(!is_sound(n, s, 1, 1, &r));
+        }
+        for set in 0..=255u8 {
+            let wanted = set & 2 == 0 && set >> n == 0;
+            assert_eq!(is_sound(n, s, 1, 1, &Rec { set, ..base }), wanted);
+        }
+    }
+}
+
+/// A reply holds dependencies only, in range, and those of a member.
+#[test]
+fn pre_accepting_replies() {
+    for (n, s, base) in pre_accepting_records() {
+        for at in 0..18 {
+            let mut bytes = base.bytes();
+            bytes[39 + 64 + at] = 1;
+            assert!(!is_sound(n, s, 1, 1, &Rec::from(&bytes)));
+        }
+        for q in 0..7 {
+            for d in [0, s as u16, s as u16 + 1, 256] {
                 let mut r = base;
-                (r.own.op, r.own.key, r.own.edit) = (0, 0, 0);
-                assert_eq!(is_sound(n, s, 1, 1, &r), joined != 0);
-                if joined != 0 {
-                    let mut r = base;
-                    r.own.voted = 8;
-                    assert!(!is_sound(n, s, 1, 1, &r));
-                }
-                for set in 0..=255u8 {
-                    let wanted = set & 2 == 0 && set >> n == 0;
-                    assert_eq!(is_sound(n, s, 1, 1, &Rec { set, ..base }), wanted);
-                }
-                // A reply holds dependencies only.
-                for at in 0..18 {
-                    let mut bytes = base.bytes();
-                    bytes[39 + 64 + at] = 1;
-                    assert!(!is_sound(n, s, 1, 1, &Rec::from(&bytes)));
-                }
-                for q in 0..7 {
-                    for d in [0, s as u16, s as u16 + 1, 256] {
-                        let mut r = base;
-                        r.replies[2].deps[q] = d;
-                        let wanted = d as usize <= if q < n { s } else { 0 };
-                        assert_eq!(is_sound(n, s, 1, 1, &r), wanted);
-                        r.set = 0;
-                        assert_eq!(is_sound(n, s, 1, 1, &r), d == 0);
-                    }
-                }
+                r.replies[2].deps[q] = d;
+                let wanted = d as usize <= if q < n { s } else { 0 };
+                assert_eq!(is_sound(n, s, 1, 1, &r), wanted);
+                r.set = 0;
+                assert_eq!(is_sound(n, s, 1, 1, &r), d == 0);
             }
         }
     }

@@ -64,24 +64,37 @@ impl Run {
             "handout" => return handed_out(t, &before, n, s, copy, number(words, 2)?),
             _ => return Err("unknown call".into()),
         };
-        match event {
-            Err(r) => {
-                if *t != before || out != [UNTOUCHED; ROOM] {
-                    return Err(format!("refused {r} but lent memory changed"));
-                }
-                Ok(format!("refused {r}"))
+        answered(event, t, &before, &out, n, s, copy)
+    }
+}
+
+/// An event's answer, once its table and room are what it says.
+fn answered(
+    event: Result<Event, u8>,
+    t: &[u8],
+    before: &[u8],
+    out: &[u8; ROOM],
+    n: usize,
+    s: usize,
+    copy: usize,
+) -> Result<String, String> {
+    match event {
+        Err(r) => {
+            if t != before || *out != [UNTOUCHED; ROOM] {
+                return Err(format!("refused {r} but lent memory changed"));
             }
-            Ok(Event { owner, number, written }) => {
-                let (at, len) = record_part(t, n, s, copy, owner, number);
-                if len == 0 || t[..at] != before[..at] || t[at + len..] != before[at + len..] {
-                    return Err("changed more than its record".into());
-                }
-                if out[written..].iter().any(|&b| b != UNTOUCHED) {
-                    return Err("wrote beyond what it says".into());
-                }
-                judge_table(t, n, s, copy).map_err(|r| format!("table then refused {r}"))?;
-                Ok(format!("event {owner} {number} {}", to_hex(&out[..written])))
+            Ok(format!("refused {r}"))
+        }
+        Ok(Event { owner, number, written }) => {
+            let (at, len) = record_part(t, n, s, copy, owner, number);
+            if len == 0 || t[..at] != before[..at] || t[at + len..] != before[at + len..] {
+                return Err("changed more than its record".into());
             }
+            if out[written..].iter().any(|&b| b != UNTOUCHED) {
+                return Err("wrote beyond what it says".into());
+            }
+            judge_table(t, n, s, copy).map_err(|r| format!("table then refused {r}"))?;
+            Ok(format!("event {owner} {number} {}", to_hex(&out[..written])))
         }
     }
 }
