@@ -60,7 +60,7 @@ module _ (n s : ℕ) (setup : Setup n s) where
     atY = bridge n s setup (atX .later) (atX .tie) ry
 
   -- a commit in saved bytes is one of the rules, and back
-  record-is : (x : State) (y : rules.State) → Tie n s setup x y → (c o j : ℕ) → instanceOk n s o j ≡ true → y .tables c o j ≡ recordIn s (savedTable (x .copies c)) o j
+  pub record-is : (x : State) (y : rules.State) → Tie n s setup x y → (c o j : ℕ) → instanceOk n s o j ≡ true → y .tables c o j ≡ recordIn s (savedTable (x .copies c)) o j
   record-is x y t c o j i = ap (λ (u : Records). u o j) (t .copies c .table) ∙ at-range n s (savedTable (x .copies c)) o j i
 
   to-rules : (x : State) (y : rules.State) → Tie n s setup x y → (c o j : ℕ) (k : Command) (d : List ℕ) → Committed n s x c o j k d → rules-demand.Committed y c o j k d

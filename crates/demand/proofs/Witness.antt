@@ -1,6 +1,6 @@
 -- The demand over bytes is not empty: runs from blank tables that commit fast, slowly and by recovery, and hand out.
 -- Assumes nothing.
-use Prim.Native.Nat.{ℕ, _^_}
+use Prim.Native.Nat.{ℕ, _<_, _^_}
 use mathlib.Core.Path.{_≡_, refl, sym, _∙_}
 use mathlib.Core.Logic.{⊎-elim}
 use mathlib.Core.Bool.{true}
@@ -10,16 +10,20 @@ use lib.Dec.{ltb}
 use borrow.Author.Tests.{ltb-true}
 use Rattle.paper.specs.Instance.{instanceOk}
 use Rattle.paper.specs.Command.{noop}
+use Rattle.paper.specs.declared.Command.{Command}
+use Rattle.paper.specs.declared.Record.{Record}
+use Rattle.table.specs.Table.{recordIn}
 use Rattle.closed.proofs.Laws.{three, clash}
 use Rattle.safety.specs.Run.{Happening, requested, answered, Setup}
 use Rattle.safety.specs.Run as rules
+use Rattle.safety.specs.Demand as rules-demand
 use Rattle.safety.proofs.Witness.{fitting, write, deps, shown}
 use Rattle.safety.proofs.Witness as scripts
-use Rattle.demand.specs.Run.{State, Start, Run}
+use Rattle.demand.specs.Run.{State, savedTable, Start, Run}
 use Rattle.demand.specs.Demand.{Committed}
 use Rattle.demand.proofs.History.{heard}
 use Rattle.demand.proofs.Bridge.{Tie}
-use Rattle.demand.proofs.Demand.{of-rules}
+use Rattle.demand.proofs.Demand.{record-is, of-rules}
 use Rattle.demand.proofs.Back.{Fitting, back}
 
 -- a state of a run in which P holds
@@ -33,23 +37,38 @@ pub record Reached (n s : ℕ) (P : State → Type 0) : Type 0 where
 pub three-one : Setup 3 1
 three-one = record { copies = refl; numbers = refl }
 
-fit : (l : List (Happening rules.Settling)) → fitting l ≡ true → Fitting 3 1 three-one l
-fit [] h o j k i = absurd (List·Memᴰ·not-nil i)
-fit (requested p q b ∷ l) h o j k i =
-    let (key, edit, rest) = three (ltb (b .key) (256 ^ 4)) (ltb (b .edit) (256 ^ 8)) (fitting l) h in
-    ⊎-elim (λ (e : requested o j k ≡ requested p q b). rw (same e) (record { key = ltb-true (b .key) (256 ^ 4) key; edit = ltb-true (b .edit) (256 ^ 8) edit }))
-    (λ (m : List·Memᴰ (requested o j k) l). fit l rest o j k m) (List·Memᴰ·cases-cons i)
-  where
-    same : _≡_ {A = Happening rules.Settling} (requested o j k) (requested p q b) → k ≡ b
-    same e = cc
-fit (answered c p q a ∷ l) h o j k i =
-    ⊎-elim (λ (e : requested o j k ≡ answered c p q a). clash (cc)) (λ (m : List·Memᴰ (requested o j k) l). fit l h o j k m) (List·Memᴰ·cases-cons i)
+pub five-one : Setup 5 1
+five-one = record { copies = refl; numbers = refl }
 
--- a script of the rules, over bytes
-lifted : (Q : rules.State → Type 0) (P : State → Type 0) → ((x : State) (y : rules.State) → Tie 3 1 three-one x y → Q y → P x) → scripts.Reached 3 1 Q → Reached 3 1 P
-lifted Q P h r =
-    let b = back 3 1 three-one (r .start) (r .run) (fit (r .state .history) (r .fits)) in
-    record { first = b .first; start = b .start; state = b .later; run = b .run; holds = h (b .later) (r .state) (b .full .tie) (r .holds) }
+pub seven-one : Setup 7 1
+seven-one = record { copies = refl; numbers = refl }
+
+module _ (n s : ℕ) (setup : Setup n s) where
+  fit : (l : List (Happening rules.Settling)) → fitting l ≡ true → Fitting n s setup l
+  fit [] h o j k i = absurd (List·Memᴰ·not-nil i)
+  fit (requested p q b ∷ l) h o j k i =
+      let (key, edit, rest) = three (ltb (b .key) (256 ^ 4)) (ltb (b .edit) (256 ^ 8)) (fitting l) h in
+      ⊎-elim (λ (e : requested o j k ≡ requested p q b). rw (same e) (record { key = ltb-true (b .key) (256 ^ 4) key; edit = ltb-true (b .edit) (256 ^ 8) edit }))
+      (λ (m : List·Memᴰ (requested o j k) l). fit l rest o j k m) (List·Memᴰ·cases-cons i)
+    where
+      same : _≡_ {A = Happening rules.Settling} (requested o j k) (requested p q b) → k ≡ b
+      same e = cc
+  fit (answered c p q a ∷ l) h o j k i =
+      ⊎-elim (λ (e : requested o j k ≡ answered c p q a). clash (cc)) (λ (m : List·Memᴰ (requested o j k) l). fit l h o j k m) (List·Memᴰ·cases-cons i)
+
+  -- a script of the rules, over bytes
+  lifted : (Q : rules.State → Type 0) (P : State → Type 0) → ((x : State) (y : rules.State) → Tie n s setup x y → Q y → P x) → scripts.Reached n s Q → Reached n s P
+  lifted Q P h r =
+      let b = back n s setup (r .start) (r .run) (fit (r .state .history) (r .fits)) in
+      record { first = b .first; start = b .start; state = b .later; run = b .run; holds = h (b .later) (r .state) (b .full .tie) (r .holds) }
+
+  -- a commit of 0.1 there is one here
+  commits : (c : ℕ) (k : Command) (d : List ℕ) → c < n → instanceOk n s 0 1 ≡ true → scripts.Reached n s (λ y. rules-demand.Committed y c 0 1 k d) → Reached n s (λ x. Committed n s x c 0 1 k d)
+  commits c k d l i r = lifted _ _ (λ x y t h. of-rules n s setup x y t c 0 1 k d l i h) r
+
+  -- and so is what is held of it
+  holds-there : (c : ℕ) (P : Record → Type 0) → instanceOk n s 0 1 ≡ true → scripts.Reached n s (λ y. P (y .tables c 0 1)) → Reached n s (λ x. P (recordIn s (savedTable (x .copies c)) 0 1))
+  holds-there c P i r = lifted _ _ (λ x y t h. rw (← record-is n s setup x y t c 0 1 i) h) r
 
 pub record Shown : Type 0 where
   -- a fast commit
@@ -67,18 +86,48 @@ pub record Shown : Type 0 where
   pub told : Reached 3 1 (λ x. map heard (x .history)
       ≡ requested 0 1 (write 1) ∷ answered 0 0 1 (rules.waits 0 1) ∷ answered 0 0 1 (rules.settled (write 1)) ∷ answered 0 0 2 rules.unknown ∷ [])
 
+-- of five and of seven copies, each beside the moment before, when it is not yet so
+pub record Larger : Type 0 where
+  pub five-waits : Reached 5 1 (λ x. recordIn 1 (savedTable (x .copies 0)) 0 1 .vote .status ≡ 2)
+  pub five-fast : Reached 5 1 (λ x. Committed 5 1 x 0 0 1 (write 1) (deps 0 0 0))
+  pub five-slow : Reached 5 1 (λ x. Committed 5 1 x 0 0 1 (write 1) (deps 0 1 0))
+  pub five-perhaps : Reached 5 1 (λ x. Committed 5 1 x 3 0 1 (write 1) (deps 0 0 0))
+  pub five-asks : Reached 5 1 (λ x. recordIn 1 (savedTable (x .copies 3)) 0 1 .phase ≡ 2)
+  pub five-afresh : Reached 5 1 (λ x. Committed 5 1 x 3 0 1 (write 1) (deps 0 0 0))
+  pub seven-waits : Reached 7 1 (λ x. recordIn 1 (savedTable (x .copies 0)) 0 1 .vote .status ≡ 2)
+  pub seven-fast : Reached 7 1 (λ x. Committed 7 1 x 0 0 1 (write 1) (deps 0 0 0))
+  pub seven-two : Reached 7 1 (λ x. recordIn 1 (savedTable (x .copies 0)) 0 1 .vote .status ≡ 2)
+  pub seven-slow : Reached 7 1 (λ x. Committed 7 1 x 0 0 1 (write 1) (deps 0 1 0))
+  pub seven-perhaps : Reached 7 1 (λ x. Committed 7 1 x 4 0 1 (write 1) (deps 0 0 0))
+
 pub shown-bytes : Shown
 unfolding instanceOk
-shown-bytes = record {
-  fast = lifted _ _ (λ x y t h. of-rules 3 1 three-one x y t 0 0 1 (write 1) (deps 0 0 0) (omega arith) refl h) (shown .fast);
-  slow = lifted _ _ (λ x y t h. of-rules 3 1 three-one x y t 0 0 1 (write 1) (deps 0 1 0) (omega arith) refl h) (shown .slow);
-  lost = lifted _ _ (λ x y t h. of-rules 3 1 three-one x y t 1 0 1 noop (deps 0 0 0) (omega arith) refl h) (shown .lost);
-  saved = lifted _ _ (λ x y t h. of-rules 3 1 three-one x y t 2 0 1 (write 1) (deps 0 0 0) (omega arith) refl h) (shown .saved);
-  out = lifted _ _ (λ x y t h. (
+shown-bytes = let r = shown .0 in record {
+  fast = commits 3 1 three-one 0 (write 1) (deps 0 0 0) (omega arith) refl (r .fast);
+  slow = commits 3 1 three-one 0 (write 1) (deps 0 1 0) (omega arith) refl (r .slow);
+  lost = commits 3 1 three-one 1 noop (deps 0 0 0) (omega arith) refl (r .lost);
+  saved = commits 3 1 three-one 2 (write 1) (deps 0 0 0) (omega arith) refl (r .saved);
+  out = lifted 3 1 three-one _ _ (λ x y t h. (
     of-rules 3 1 three-one x y t 0 0 1 (write 1) (deps 0 1 0) (omega arith) refl (h .0),
     of-rules 3 1 three-one x y t 1 1 1 (write 2) (deps 0 0 0) (omega arith) refl (h .1),
     sym (t .copies 0 .marks) ∙ h .2,
     sym (t .copies 1 .marks) ∙ h .3,
-  )) (shown .out);
-  told = lifted _ _ (λ x y t h. sym (t .history) ∙ h) (shown .told);
+  )) (r .out);
+  told = lifted 3 1 three-one _ _ (λ x y t h. sym (t .history) ∙ h) (r .told);
+}
+
+pub larger-bytes : Larger
+unfolding instanceOk
+larger-bytes = let r = shown .1 in record {
+  five-waits = holds-there 5 1 five-one 0 (λ r. r .vote .status ≡ 2) refl (r .five-waits);
+  five-fast = commits 5 1 five-one 0 (write 1) (deps 0 0 0) (omega arith) refl (r .five-fast);
+  five-slow = commits 5 1 five-one 0 (write 1) (deps 0 1 0) (omega arith) refl (r .five-slow);
+  five-perhaps = commits 5 1 five-one 3 (write 1) (deps 0 0 0) (omega arith) refl (r .five-perhaps);
+  five-asks = holds-there 5 1 five-one 3 (λ r. r .phase ≡ 2) refl (r .five-asks);
+  five-afresh = commits 5 1 five-one 3 (write 1) (deps 0 0 0) (omega arith) refl (r .five-afresh);
+  seven-waits = holds-there 7 1 seven-one 0 (λ r. r .vote .status ≡ 2) refl (r .seven-waits);
+  seven-fast = commits 7 1 seven-one 0 (write 1) (deps 0 0 0) (omega arith) refl (r .seven-fast);
+  seven-two = holds-there 7 1 seven-one 0 (λ r. r .vote .status ≡ 2) refl (r .seven-two);
+  seven-slow = commits 7 1 seven-one 0 (write 1) (deps 0 1 0) (omega arith) refl (r .seven-slow);
+  seven-perhaps = commits 7 1 seven-one 4 (write 1) (deps 0 0 0) (omega arith) refl (r .seven-perhaps);
 }

@@ -152,6 +152,49 @@ saved-edit = ask 0 (write 1) ∷ arrives 0 ∷ recovers 2 0 1 ∷ arrives 4 ∷ 
 told : List Line
 told = ask 0 (write 1) ∷ says 0 0 1 ∷ arrives 0 ∷ arrives 2 ∷ says 0 0 1 ∷ says 0 0 2 ∷ []
 
+-- five copies: two matching replies wait, the third commits
+five-waits : List Line
+five-waits = ask 0 (write 1) ∷ arrives 0 ∷ arrives 1 ∷ arrives 2 ∷ arrives 4 ∷ arrives 5 ∷ []
+
+five-fast : List Line
+five-fast = five-waits ++ arrives 6 ∷ []
+
+-- copy 1 adds its own write: two replies that differ are enough, and then two AcceptOKs
+five-slow : List Line
+five-slow = ask 0 (write 1) ∷ ask 1 (write 2) ∷ arrives 0 ∷ arrives 1 ∷ arrives 8 ∷ arrives 9 ∷ arrives 10 ∷ arrives 11 ∷ arrives 14 ∷ arrives 15 ∷ []
+
+-- copy 3 recovers what copies 1 and 2 took as it came, which may have been a fast commit
+five-perhaps : List Line
+five-perhaps =
+    ask 0 (write 1) ∷ arrives 0 ∷ arrives 1 ∷ recovers 3 0 1 ∷ arrives 7 ∷ arrives 8 ∷ arrives 10 ∷ arrives 11 ∷ arrives 13 ∷ arrives 14 ∷ arrives 16 ∷ arrives 17 ∷ []
+
+-- what copy 1 alone took cannot have been: it is asked for anew
+five-asks : List Line
+five-asks = ask 0 (write 1) ∷ arrives 0 ∷ recovers 3 0 1 ∷ arrives 6 ∷ arrives 7 ∷ arrives 9 ∷ arrives 10 ∷ []
+
+five-afresh : List Line
+five-afresh = five-asks ++ arrives 12 ∷ arrives 13 ∷ arrives 15 ∷ arrives 16 ∷ arrives 18 ∷ arrives 19 ∷ arrives 21 ∷ arrives 22 ∷ []
+
+-- seven copies: four matching replies wait, the fifth commits
+seven-waits : List Line
+seven-waits = ask 0 (write 1) ∷ arrives 0 ∷ arrives 1 ∷ arrives 2 ∷ arrives 3 ∷ arrives 4 ∷ arrives 6 ∷ arrives 7 ∷ arrives 8 ∷ arrives 9 ∷ []
+
+seven-fast : List Line
+seven-fast = seven-waits ++ arrives 10 ∷ []
+
+-- two that differ wait, the third goes on
+seven-two : List Line
+seven-two = ask 0 (write 1) ∷ ask 1 (write 2) ∷ arrives 0 ∷ arrives 1 ∷ arrives 2 ∷ arrives 12 ∷ arrives 13 ∷ []
+
+seven-slow : List Line
+seven-slow = seven-two ++ arrives 14 ∷ arrives 15 ∷ arrives 16 ∷ arrives 17 ∷ arrives 21 ∷ arrives 22 ∷ arrives 23 ∷ []
+
+-- copy 4 recovers what three others took as it came
+seven-perhaps : List Line
+seven-perhaps =
+    ask 0 (write 1) ∷ arrives 0 ∷ arrives 1 ∷ arrives 2 ∷ recovers 4 0 1 ∷ arrives 10 ∷ arrives 11 ∷ arrives 12 ∷ arrives 15 ∷ arrives 16 ∷ arrives 17 ∷ arrives 19 ∷ arrives 20 ∷ arrives 21
+    ∷ arrives 24 ∷ arrives 25 ∷ arrives 26 ∷ []
+
 -- what was asked for fits the calls: key and edit are a u32 and a u64
 abbrev pub fitting : List (Happening Settling) → Bool
 fitting [] = true
@@ -190,19 +233,49 @@ pub record Shown : Type 0 where
   pub told : Reached 3 1 (λ x. x .history
       ≡ requested 0 1 (write 1) ∷ answered 0 0 1 (waits 0 1) ∷ answered 0 0 1 (settled (write 1)) ∷ answered 0 0 2 unknown ∷ [])
 
-pub shown : Shown
-unfolding fast slow out lost saved-edit told write deps put requestNumber lowestBlank isBlank sameVote sameCommand sameDeps allBelow onRequest
+-- and of five and of seven copies, each beside the moment before, when it is not yet so
+pub record Larger : Type 0 where
+  pub five-waits : Reached 5 1 (λ x. x .tables 0 0 1 .vote .status ≡ 2)
+  pub five-fast : Reached 5 1 (λ x. Committed x 0 0 1 (write 1) (deps 0 0 0))
+  pub five-slow : Reached 5 1 (λ x. Committed x 0 0 1 (write 1) (deps 0 1 0))
+  pub five-perhaps : Reached 5 1 (λ x. Committed x 3 0 1 (write 1) (deps 0 0 0))
+  pub five-asks : Reached 5 1 (λ x. x .tables 3 0 1 .phase ≡ 2)
+  pub five-afresh : Reached 5 1 (λ x. Committed x 3 0 1 (write 1) (deps 0 0 0))
+  pub seven-waits : Reached 7 1 (λ x. x .tables 0 0 1 .vote .status ≡ 2)
+  pub seven-fast : Reached 7 1 (λ x. Committed x 0 0 1 (write 1) (deps 0 0 0))
+  pub seven-two : Reached 7 1 (λ x. x .tables 0 0 1 .vote .status ≡ 2)
+  pub seven-slow : Reached 7 1 (λ x. Committed x 0 0 1 (write 1) (deps 0 1 0))
+  pub seven-perhaps : Reached 7 1 (λ x. Committed x 4 0 1 (write 1) (deps 0 0 0))
+
+pub shown : Shown × Larger
+unfolding fast slow out lost saved-edit told five-waits five-fast five-slow five-perhaps five-asks five-afresh seven-waits seven-fast seven-two seven-slow
+    seven-perhaps write deps put requestNumber lowestBlank isBlank sameVote sameCommand sameDeps allBelow onRequest
     Rattle.rules.specs.Request.request afresh others absent bitsBelow messagesFrom member valid firstFailing firstOf holdsOf rowOf ballotOk lead commandOk
     depsOk voteOk toldOk noneIsBlank instanceOk conflict differs onMessage byKind preAccept seenFrom seenEntry highest met interfere joinFrom
     onPreAcceptOk awaited collect preAcceptedBy fastEnough slowEnough someEnough matching different committing acceptingJoin accepting joinAll
     accept onAcceptOk acceptedBy commit prepare onPrepareOk preparedBy quorum decide acceptedFrom afreshCommand topVoted maybeFast lowestFrom
     largestBelow nack onRecover Rattle.rules.specs.Recover.recover onNudge Rattle.rules.specs.Nudge.nudge again commitBack nackBack ones onesIn
     nextOut firstNumber firstOwner firstOpen candidate isSettled waitsFor reaches reachesIn coversIn covers everywhere somewhere
-shown = record {
-  fast = by-script 3 1 fast _ refl refl (record { status = refl; command = refl; deps = refl });
-  slow = by-script 3 1 slow _ refl refl (record { status = refl; command = refl; deps = refl });
-  lost = by-script 3 1 lost _ refl refl (record { status = refl; command = refl; deps = refl });
-  saved = by-script 3 1 saved-edit _ refl refl (record { status = refl; command = refl; deps = refl });
-  out = by-script 3 1 (slow ++ out) _ refl refl (record { status = refl; command = refl; deps = refl }, record { status = refl; command = refl; deps = refl }, refl, refl);
-  told = by-script 3 1 told _ refl refl refl;
-}
+shown = (
+  record {
+    fast = by-script 3 1 fast _ refl refl (record { status = refl; command = refl; deps = refl });
+    slow = by-script 3 1 slow _ refl refl (record { status = refl; command = refl; deps = refl });
+    lost = by-script 3 1 lost _ refl refl (record { status = refl; command = refl; deps = refl });
+    saved = by-script 3 1 saved-edit _ refl refl (record { status = refl; command = refl; deps = refl });
+    out = by-script 3 1 (slow ++ out) _ refl refl (record { status = refl; command = refl; deps = refl }, record { status = refl; command = refl; deps = refl }, refl, refl);
+    told = by-script 3 1 told _ refl refl refl;
+  },
+  record {
+    five-waits = by-script 5 1 five-waits _ refl refl refl;
+    five-fast = by-script 5 1 five-fast _ refl refl (record { status = refl; command = refl; deps = refl });
+    five-slow = by-script 5 1 five-slow _ refl refl (record { status = refl; command = refl; deps = refl });
+    five-perhaps = by-script 5 1 five-perhaps _ refl refl (record { status = refl; command = refl; deps = refl });
+    five-asks = by-script 5 1 five-asks _ refl refl refl;
+    five-afresh = by-script 5 1 five-afresh _ refl refl (record { status = refl; command = refl; deps = refl });
+    seven-waits = by-script 7 1 seven-waits _ refl refl refl;
+    seven-fast = by-script 7 1 seven-fast _ refl refl (record { status = refl; command = refl; deps = refl });
+    seven-two = by-script 7 1 seven-two _ refl refl refl;
+    seven-slow = by-script 7 1 seven-slow _ refl refl (record { status = refl; command = refl; deps = refl });
+    seven-perhaps = by-script 7 1 seven-perhaps _ refl refl (record { status = refl; command = refl; deps = refl });
+  },
+)

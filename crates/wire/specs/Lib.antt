@@ -1,3 +1,3 @@
 pub mod Wire
 pub mod Calls
-pub mod Kinds
+pub mod Examples

@@ -27,7 +27,7 @@ inDeps = 0x20 ∷ 0x21 ∷ 0x22 ∷ 0x23 ∷ 0x24 ∷ 0x25 ∷ 0x26 ∷ 0x27 ∷
 abbrev pub inRead : List ℕ
 inRead = 1 ∷ 0x30 ∷ 0x31 ∷ 0x32 ∷ 0x33 ∷ 0x34 ∷ 0x35 ∷ 0x36 ∷ 0x37 ∷ 0x38 ∷ 0x39 ∷ 0x3a ∷ 0x3b ∷ []
 
-pub record Kinds : Type 0 where
+pub record Examples : Type 0 where
   pub preAccept : messageBytes (said (PreAccept read)) ≡ headOf 1 ++ inRead ++ inDeps
   pub preAcceptOk : messageBytes (said PreAcceptOk) ≡ headOf 2 ++ inDeps
   pub accept : messageBytes (said (Accept read)) ≡ headOf 3 ++ inRead ++ inDeps

@@ -3,11 +3,11 @@ use mathlib.Core.Path.{refl}
 use Rattle.codec.specs.Parts.{commandBytes, depsBytes}
 use Rattle.paper.specs.Message.{rowOf}
 use Rattle.wire.specs.Wire.{headBytes, restBytes, messageBytes}
-use Rattle.wire.specs.Kinds.{Kinds}
+use Rattle.wire.specs.Examples.{Examples}
 
-pub kinds : Kinds
+pub examples : Examples
 unfolding commandBytes depsBytes rowOf headBytes restBytes messageBytes
-kinds =
+examples =
     record {
       preAccept = refl;
       preAcceptOk = refl;
