@@ -68,7 +68,7 @@ impl Script {
         self.call(format!("{c} judge {len} {o} {j} {at} {}", to_hex(bytes)), || {
             let mut t = vec![0; len];
             put(&mut t, 0, &[n as u8, s as u8, c as u8]);
-            let start = if o == TABLE { at } else { 3 + 263 * (o * s + (j - 1)) + at };
+            let start = if o == TABLE { at } else { 3 + RECORD_LEN * (o * s + (j - 1)) + at };
             put(&mut t, start, bytes);
             match judge_table(&t, n, s, c) {
                 Ok(()) => "sound".into(),
@@ -682,7 +682,7 @@ fn few_cases(n: usize, s: usize, c: usize) -> Vec<Case> {
 }
 
 fn table_length(n: usize, s: usize) -> usize {
-    3 + 263 * n * s
+    3 + RECORD_LEN * n * s
 }
 
 fn record_bytes(r: &Record) -> Vec<u8> {
@@ -711,8 +711,8 @@ fn whole_tables(script: &mut Script, c: usize) {
             script.judge(c, len, TABLE, 1, at, &[wrong as u8]);
         }
     }
-    for length in [0, 1, 2, 3, len - 1, len + 1, len - 263, len + 263] {
-        if length <= 117_827 {
+    for length in [0, 1, 2, 3, len - 1, len + 1, len - RECORD_LEN, len + RECORD_LEN] {
+        if length <= table_length(7, 64) {
             script.judge(c, length, TABLE, 1, 0, &[]);
             script.blank(c, length);
             script.part(c, length, 0, 1);
@@ -732,7 +732,7 @@ fn every_place(script: &mut Script, c: usize) {
     let len = table_length(script.n, script.s);
     for o in 0..script.n {
         for j in 1..=script.s {
-            script.judge(c, len, o, j, if j % 2 == 0 { 0 } else { 262 }, &[1]);
+            script.judge(c, len, o, j, if j % 2 == 0 { 0 } else { RECORD_LEN - 1 }, &[1]);
         }
     }
     script.judge(c, len, script.n, 1, 0, &[1]);
@@ -761,7 +761,7 @@ fn setups(script: &mut Script) {
 }
 
 fn one_setup(script: &mut Script, c: usize) {
-    let len = script.n.saturating_mul(script.s).saturating_mul(263).saturating_add(3);
+    let len = script.n.saturating_mul(script.s).saturating_mul(RECORD_LEN).saturating_add(3);
     let m = valid(3, 0, 1, 3);
     script.read_message(c, &m);
     script.read_message(c, &valid(3, 0, 4, 3));
@@ -770,8 +770,8 @@ fn one_setup(script: &mut Script, c: usize) {
     if c == script.n || c == 0 {
         script.write(c, 256, &m);
     }
-    for length in [len, 3, 792, 0] {
-        if length <= 117_827 {
+    for length in [len, 3, table_length(3, 1), 0] {
+        if length <= table_length(7, 64) {
             script.judge(c, length, 0, 1, 0, &[]);
             script.blank(c, length);
             script.part(c, length, 0, 1);
@@ -801,9 +801,9 @@ fn bad_lines(script: &mut Script) {
         format!("0 write 256 {}", fields.replace(" 2 ", " 3 ")),
         format!("0 write 256 {}", fields.replace(" 7 ", " 4294967296 ")),
         format!("0 write 256 {}", fields.replace(" 9 ", " 18446744073709551616 ")),
-        "0 judge 117828 0 1 0 -".into(),
+        format!("0 judge {} 0 1 0 -", table_length(7, 64) + 1),
         "0 judge 3 0 1 0".into(),
-        "0 blank 117828".into(),
+        format!("0 blank {}", table_length(7, 64) + 1),
         "0 part 3 1".into(),
     ];
     for line in lines {

@@ -2,6 +2,7 @@
 //! by the answer that this library gives, for the proved program `runs` to
 //! play. Answers end with checksums of the table and of the room after the call.
 
+use second::table::RECORD_LEN;
 use second::{
     blank_table, hand_out, message, nudge, recover, request, settled, table_len, Event, Settled,
 };
@@ -268,7 +269,7 @@ const DAMAGES: [(bool, usize, &[u8]); 28] = [
     (false, 37, &[4]),
     (false, 38, &[2]),
     (false, 39, &[1]),
-    (false, 262, &[1]),
+    (false, RECORD_LEN - 1, &[1]),
     (true, 4, &[8]),
     (true, 8, &[3]),
     (true, 8, &[4]),
