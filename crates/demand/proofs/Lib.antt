@@ -13,3 +13,6 @@ pub mod Demand
 pub mod Back
 pub mod Witness
 pub mod Commits
+-- W1 to W10.
+pub mod Answers
+pub mod Worked

@@ -110,7 +110,7 @@ pub record Stepped (n s c : ℕ) (t out : List ℕ) (call : Call) (y : rules.Sta
   pub move : (l : List Message) → rules.Among l (messages (stepIn n s c (y .tables c) call)) → rules.Move n s y (moved n s y c call l)
 
 -- a request's op is a read or a write
-op-asked : (op : ℕ) → opTaken op ≡ true → (key edit : ℕ) → isNoop (commandOf op key edit) ≡ false
+pub op-asked : (op : ℕ) → opTaken op ≡ true → (key edit : ℕ) → isNoop (commandOf op key edit) ≡ false
 op-asked zero e key edit = sym e
 op-asked (suc zero) e key edit = refl
 op-asked (suc (suc op)) e key edit = refl

@@ -1,4 +1,3 @@
-pub mod Worked
 pub mod Sent
 pub mod Held
 pub mod Calls

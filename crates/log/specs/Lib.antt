@@ -1,3 +1,2 @@
 pub mod Out
 pub mod Events
-pub mod Examples

@@ -1,15 +1,16 @@
--- No second result satisfies a contract of this crate's calls, and the answers' numbers tell refusals apart. Assumes nothing.
-use mathlib.Core.Path.{_≡_, sym, ap, _∙_}
+-- No second result satisfies a contract of this crate's calls, and number and values tell the answers apart. Assumes nothing.
+use mathlib.Core.Path.{_≡_, sym, ap, ap₂, _∙_}
 use mathlib.Core.List.{List}
 use Prim.Native.Nat.{ℕ}
 use native.Mathlib.Omega.{arith}
+use lib.ListN.{getD}
+use Rattle.paper.proofs.Laws.{opNumber-apart}
 use Rattle.paper.proofs.Numbers.{numberOf-apart, numberOf-pos}
-use Rattle.paper.specs.declared.Refusal.{Refusal}
 use Rattle.order.specs.declared.Settling.{Settling}
 use Rattle.order.specs.declared.Settling.the-variants as settling
 use Rattle.order.specs.declared.Handing.{Handing}
 use Rattle.order.specs.declared.Handing.the-variants as handing
-use Rattle.order.specs.Calls.{settled, Handed, handed, settlingNumber, handingNumber}
+use Rattle.order.specs.Calls.{settled, Handed, handed, settlingNumber, settlingValues, handingNumber, handingCount}
 
 pub settled-unique : (n s c : ℕ) (t : List ℕ) (o j : ℕ) (x y : Settling) → x ≡ settled n s c t o j → y ≡ settled n s c t o j → x ≡ y
 settled-unique n s c t o j x y p q = p ∙ sym q
@@ -22,12 +23,25 @@ pub hand-out-unique : (n s c : ℕ) (t list : List ℕ) (x y : Handing) (u v k l
     → (x ≡ y) × (u ≡ v) × (k ≡ l)
 hand-out-unique n s c t list x y u v k l p q = (p .0 ∙ sym (q .0), p .1 .0 ∙ sym (q .1 .0), p .1 .1 ∙ sym (q .1 .1))
 
--- an answer with a refusal's number is that refusal
-pub settling-refused : (x : Settling) (r : Refusal) → settlingNumber x ≡ settlingNumber (settling.Refused r) → x ≡ settling.Refused r
-settling-refused (settling.Settled k) r e = absurd (omega (arith, numberOf-pos r))
-settling-refused (settling.Waits o j) r e = absurd (omega (arith, numberOf-pos r))
-settling-refused (settling.Refused q) r e = ap settling.Refused (numberOf-apart q r e)
+-- number and values tell any two answers apart
+pub settling-apart : (a b : Settling) → settlingNumber a ≡ settlingNumber b → settlingValues a ≡ settlingValues b → a ≡ b
+settling-apart (settling.Settled k) (settling.Settled l) e v =
+    let op = opNumber-apart (k .op) (l .op) (value 1 v) in
+    λ i. settling.Settled (record { op = op i; key = value 2 v i; edit = value 3 v i })
+  where
+    value : (i : ℕ) → settlingValues (settling.Settled k) ≡ settlingValues (settling.Settled l) → getD (settlingValues (settling.Settled k)) i 0 ≡ getD (settlingValues (settling.Settled l)) i 0
+    value i v = ap (λ (x : List ℕ). getD x i 0) v
+settling-apart (settling.Settled k) (settling.Waits o j) e v = let z : _≡_ {A = ℕ} 1 0 = ap (λ (x : List ℕ). getD x 0 0) v in absurd (omega arith)
+settling-apart (settling.Waits o j) (settling.Settled k) e v = let z : _≡_ {A = ℕ} 0 1 = ap (λ (x : List ℕ). getD x 0 0) v in absurd (omega arith)
+settling-apart (settling.Waits o j) (settling.Waits p k) e v = ap₂ settling.Waits (ap (λ (x : List ℕ). getD x 1 0) v) (ap (λ (x : List ℕ). getD x 2 0) v)
+settling-apart (settling.Settled k) (settling.Refused r) e v = absurd (omega (arith, numberOf-pos r))
+settling-apart (settling.Waits o j) (settling.Refused r) e v = absurd (omega (arith, numberOf-pos r))
+settling-apart (settling.Refused r) (settling.Settled k) e v = absurd (omega (arith, numberOf-pos r))
+settling-apart (settling.Refused r) (settling.Waits o j) e v = absurd (omega (arith, numberOf-pos r))
+settling-apart (settling.Refused r) (settling.Refused t) e v = ap settling.Refused (numberOf-apart r t e)
 
-pub handing-refused : (x : Handing) (r : Refusal) → handingNumber x ≡ handingNumber (handing.Refused r) → x ≡ handing.Refused r
-handing-refused (handing.Codes k) r e = absurd (omega (arith, numberOf-pos r))
-handing-refused (handing.Refused q) r e = ap handing.Refused (numberOf-apart q r e)
+pub handing-apart : (a b : Handing) → handingNumber a ≡ handingNumber b → handingCount a ≡ handingCount b → a ≡ b
+handing-apart (handing.Codes j) (handing.Codes k) e v = ap handing.Codes v
+handing-apart (handing.Codes j) (handing.Refused r) e v = absurd (omega (arith, numberOf-pos r))
+handing-apart (handing.Refused r) (handing.Codes k) e v = absurd (omega (arith, numberOf-pos r))
+handing-apart (handing.Refused r) (handing.Refused t) e v = ap handing.Refused (numberOf-apart r t e)

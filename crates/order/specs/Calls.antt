@@ -2,9 +2,10 @@
 -- n, s: the setup; c: this copy; t: the table's bytes; list: the lent list of codes.
 use Prim.Native.Nat.{ℕ, zero, suc}
 use mathlib.Core.Bool.{not, cond}
-use mathlib.Core.List.{List}
+use mathlib.Core.List.{List, [], _∷_}
 use lib.ListN.{length}
 use Rattle.numbers.specs.Num.{splice}
+use Rattle.paper.specs.Command.{opNumber}
 use Rattle.paper.specs.Instance.{instanceOk}
 use Rattle.paper.specs.Refusal.{numberOf}
 use Rattle.paper.specs.declared.Refusal.the-variants.{Instance}
@@ -68,12 +69,22 @@ handedOpen n s t list =
 unfoldable pub handed : ℕ → ℕ → ℕ → List ℕ → List ℕ → Handed
 handed n s c t list = handedThrough (judged n s c t) t list (handedOpen n s t list)
 
--- the paper's number of an answer, 0 for none
+-- the paper's number of an answer, 0 for none, and its values: 1 and the command, or 0 and the instance that it waits for
 abbrev pub settlingNumber : Settling → ℕ
 settlingNumber (settling.Settled k) = 0
 settlingNumber (settling.Waits o j) = 0
 settlingNumber (settling.Refused r) = numberOf r
 
+abbrev pub settlingValues : Settling → List ℕ
+settlingValues (settling.Settled k) = 1 ∷ opNumber (k .op) ∷ k .key ∷ k .edit ∷ []
+settlingValues (settling.Waits o j) = 0 ∷ o ∷ j ∷ 0 ∷ []
+settlingValues (settling.Refused r) = 0 ∷ 0 ∷ 0 ∷ 0 ∷ []
+
+-- and how many codes
 abbrev pub handingNumber : Handing → ℕ
 handingNumber (handing.Codes k) = 0
 handingNumber (handing.Refused r) = numberOf r
+
+abbrev pub handingCount : Handing → ℕ
+handingCount (handing.Codes k) = k
+handingCount (handing.Refused r) = 0

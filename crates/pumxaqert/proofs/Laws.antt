@@ -17,7 +17,7 @@ use Rattle.wire.specs.Calls.{readingNumber, wrote, writingNumber, writingCount}
 use Rattle.order.specs.declared.Settling.the-variants as settling
 use Rattle.paper.specs.Command.{opNumber}
 use Rattle.paper.specs.declared.Command.{Command}
-use Rattle.pumxaqert.specs.Flat.{settlingValues}
+use Rattle.order.specs.Calls.{settlingValues}
 use Rattle.pumxaqert.specs.Fields.{otherBallot, fieldsOf, readValues, messageFrom, sameFields, messageOf}
 
 pub other-joined : (b : Body) → partsIn b .joined ≡ true → joinedIn b ≡ otherBallot b

@@ -8,7 +8,7 @@ use order::Settling;
 use paper::Command;
 ghost use mathlib.Core.Path.{_≡_};
 ghost use Rattle.order.specs.Calls.{settled, handed, settlingNumber, handingNumber};
-ghost use Rattle.pumxaqert.specs.Flat.{settlingValues, handingCount};
+ghost use Rattle.order.specs.Calls.{settlingValues, handingCount};
 
 fn command_values(k: Command) -> [u64; 4]
     ensures { λ r. ⌜ r ≡ settlingValues (Settling.Settled k) ⌝ }

@@ -4,10 +4,10 @@ use mathlib.Core.Bool.{Bool, true, false, _&&_, _||_, cond}
 use mathlib.Core.List.{List, [], _∷_, _++_, append-assoc, append-nil}
 use Prim.Native.Nat.{ℕ, _+_, _-_, _≤_, _<_}
 use native.Mathlib.Omega.{arith}
-use lib.Dec.{leb}
+use lib.Dec.{leb, ltb}
 use lib.ListN.{length, getD, take, drop, take-append-drop, length-drop}
 use lib.Seq.{take-all, take-add, drop-drop}
-use borrow.Author.Tests.{leb-true, le-leb, eq-eqb, eqb-true}
+use borrow.Author.Tests.{leb-true, le-leb, eq-eqb, eqb-true, ltb-false}
 use Rattle.numbers.specs.Num.{numAt, splice}
 use Rattle.numbers.specs.Fields.{sizeOf, fieldsAt, FieldsFit}
 use Rattle.numbers.proofs.Laws.{splice-same}
@@ -16,7 +16,7 @@ use Rattle.codec.specs.Parts.{commandWidths, depsWidths, commandNumbers, comman
 use Rattle.codec.proofs.Laws.{op-small, command-is, depsAt-depsBytes, commandBytes-commandAt, depsBytes-depsAt}
 use Rattle.paper.specs.Command.{noop}
 use Rattle.paper.specs.Deps.{noDeps, sameDeps}
-use Rattle.paper.specs.Setup.{setupOk}
+use Rattle.paper.specs.Setup.{copiesOk, numbersOk, copyOk, setupOk}
 use Rattle.paper.specs.Fits.{DepsFit, CarriedFits, MessageFits}
 use Rattle.paper.specs.Message.{rowIn, partsOf, partsIn, kindOf, carriedIn, bodyOf, kept}
 use Rattle.paper.specs.Valid.{valid, depsCarried}
@@ -26,10 +26,12 @@ use Rattle.paper.proofs.Valid.{clauses-of}
 use Rattle.paper.specs.declared.Carried.{Carried}
 use Rattle.paper.specs.declared.Parts.{Parts}
 use Rattle.paper.specs.declared.Message.{Message}
+use Rattle.paper.specs.declared.Refusal.{Refusal}
+use Rattle.paper.specs.declared.Refusal.the-variants as why
 use Rattle.wire.specs.declared.Reading.the-variants as reading
 use Rattle.wire.specs.declared.Writing.the-variants as writing
 use Rattle.wire.specs.Wire.{headWidths, toldWidths, joinedWidths, headNumbers, past, commandStart, depsStart, joinedStart, restEnd, lengthOf, part, toldBytes, joinedBytes, headBytes, restBytes, messageBytes, kindAt, carriedAt, besideAt, bodyAt, messageAt, framed, opAt, opFits, validBytes}
-use Rattle.wire.specs.Calls.{readMessage, Wrote, wrote}
+use Rattle.wire.specs.Calls.{readMessage, Wrote, wrote, writingCount}
 use Rattle.wire.proofs.Laws.{past-over, told-room, command-room, deps-room, joined-room, ten, long-enough, Framed, framed-is, length-headBytes, told-ends, command-ends, deps-ends, length-messageBytes, received-ok, wrote-ok}
 
 -- each number fits its field
@@ -264,8 +266,7 @@ written-reads-back n s c m f p v =
     let w : (opFits (messageBytes m) && valid n s c (messageAt (messageBytes m))) ≡ true = rw (op-written m f, e) v in
     sym (received-ok n s c (messageBytes m) p (framed-written m f) w) ∙ ap (λ (x : Message). record { answer = reading.Valid; message = x }) e
 
--- The same of the calls: after the writer's answer, the bytes that it counts are read by the copy named in `to` as that message.
-pub write-then-read : (n s c : ℕ) (out : List ℕ) (m : Message) → MessageFits m → setupOk n s c ≡ true → setupOk n s (m .to) ≡ true → 256 ≤ length out
+write-then-read : (n s c : ℕ) (out : List ℕ) (m : Message) → MessageFits m → setupOk n s c ≡ true → setupOk n s (m .to) ≡ true → 256 ≤ length out
     → valid n s (m .to) m ≡ true → readMessage n s (m .to) (take (lengthOf (kindOf (m .body))) (wrote n s c out m .out)) ≡ record { answer = reading.Valid; message = m }
 write-then-read n s c out m f p q r v =
     let w = ap (λ (x : Wrote). x .out) (wrote-ok n s c out m p r v) in
@@ -275,6 +276,29 @@ write-then-read n s c out m f p q r v =
     splice-same out 0 (messageBytes m) (lengthOf (kindOf (m .body))) l (omega arith) in
     rw (← w, t) (written-reads-back n s (m .to) m f q v)
 
+-- The same of the calls: where the writer answers a count, so many bytes of the room are read by the copy named in `to` as that
+-- message.
+pub written-read : (n s c : ℕ) (out : List ℕ) (m : Message) (k : ℕ) → MessageFits m → wrote n s c out m .answer ≡ writing.Bytes k
+    → readMessage n s (m .to) (take k (wrote n s c out m .out)) ≡ record { answer = reading.Valid; message = m }
+unfolding wrote setupOk
+written-read n s c out m k f e = go (setupOk n s c) refl (ltb (length out) 256) refl (valid n s (m .to) m) refl
+  where
+    refused : {A : Type 0} (r : Refusal) → writing.Refused r ≡ writing.Bytes k → A
+    refused r h = let z : _≡_ {A = ℕ} 0 1 = cc in absurd (omega arith)
+
+    go : (a : Bool) → setupOk n s c ≡ a → (b : Bool) → ltb (length out) 256 ≡ b → (v : Bool) → valid n s (m .to) m ≡ v
+        → readMessage n s (m .to) (take k (wrote n s c out m .out)) ≡ record { answer = reading.Valid; message = m }
+    go false p b q v r = refused why.Setup (rw p at e)
+    go true p true q v r = refused why.Room (rw (p, q) at e)
+    go true p false q false r = refused why.Message (rw (p, q, r) at e)
+    go true p false q true r =
+        let long : 256 ≤ length out = ltb-false (length out) 256 q in
+        let a : writing.Bytes (lengthOf (kindOf (m .body))) ≡ writing.Bytes k = ap (λ (w : Wrote). w .answer) (wrote-ok n s c out m p long r) ∙ e in
+        let count : lengthOf (kindOf (m .body)) ≡ k = ap writingCount a in
+        let sizes = and-true (copiesOk n && numbersOk s) (copyOk n c) p .0 in
+        let there : setupOk n s (m .to) ≡ true = rw (sizes, clauses-of n s (m .to) m r .to) in
+        rw (← count) (write-then-read n s c out m f p there long r)
+
 -- Accepted bytes write back equal: the message that the reader hands back is written as the bytes that were read.
 pub accepted-writes-back : (n s c : ℕ) (b : List ℕ) → ((i : ℕ) → getD b i 0 < 256) → validBytes n s c b ≡ true → messageBytes (messageAt b) ≡ b
 unfolding validBytes
@@ -283,8 +307,7 @@ accepted-writes-back n s c b byte h =
     let q = and-true (framed b) (opFits b) (p .0) in
     messageBytes-messageAt b byte (framed-is b (q .0)) (leb-true _ 2 (q .1))
 
--- The same of the calls: the writer takes the message, counts the bytes that were read, and writes them.
-pub read-then-write : (n s c d : ℕ) (b out : List ℕ) → ((i : ℕ) → getD b i 0 < 256) → setupOk n s d ≡ true → 256 ≤ length out → validBytes n s c b ≡ true
+read-then-write : (n s c d : ℕ) (b out : List ℕ) → ((i : ℕ) → getD b i 0 < 256) → setupOk n s d ≡ true → 256 ≤ length out → validBytes n s c b ≡ true
     → wrote n s d out (messageAt b) ≡ record { answer = writing.Bytes (length b); out = splice out 0 b }
 unfolding validBytes
 read-then-write n s c d b out byte p r h =
@@ -295,3 +318,19 @@ read-then-write n s c d b out byte p r h =
     let l : lengthOf (kindOf (messageAt b .body)) ≡ length b = sym (length-messageBytes (messageAt b)) ∙ ap length e in
     sym (wrote-ok n s d out (messageAt b) p r u)
     ∙ ap₂ (λ (k : ℕ) (x : List ℕ). record { answer = writing.Bytes k; out = splice out 0 x }) l e
+
+-- The same of the calls: what the reader hands back where it answers that it is valid, the writer takes, counts as many bytes as were
+-- read, and writes them.
+pub read-written : (n s c d : ℕ) (b out : List ℕ) → ((i : ℕ) → getD b i 0 < 256) → setupOk n s d ≡ true → 256 ≤ length out → readMessage n s c b .answer ≡ reading.Valid
+    → wrote n s d out (readMessage n s c b .message) ≡ record { answer = writing.Bytes (length b); out = splice out 0 b }
+unfolding readMessage
+read-written n s c d b out byte p r e = go (setupOk n s c) refl (validBytes n s c b) refl
+  where
+    refused : {A : Type 0} (r : Refusal) → reading.Refused r ≡ reading.Valid → A
+    refused r h = let z : _≡_ {A = ℕ} 0 1 = cc in absurd (omega arith)
+
+    go : (a : Bool) → setupOk n s c ≡ a → (v : Bool) → validBytes n s c b ≡ v
+        → wrote n s d out (readMessage n s c b .message) ≡ record { answer = writing.Bytes (length b); out = splice out 0 b }
+    go false q v h = refused why.Setup (rw q at e)
+    go true q false h = refused why.Message (rw (q, h) at e)
+    go true q true h = rw (q, h) (read-then-write n s c d b out byte p r h)

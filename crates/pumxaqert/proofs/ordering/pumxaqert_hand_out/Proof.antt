@@ -3,7 +3,7 @@ use Rattle.pumxaqert.proofs.ordering.pumxaqert_hand_out.Statement.{stat
 use Rattle.pumxaqert.proofs.ordering.pumxaqert_hand_out.Tie as tie
 use mathlib.Core.Path.{sym, ap, _∙_}
 use Rattle.order.specs.Calls.{handingNumber}
-use Rattle.pumxaqert.specs.Flat.{handingCount}
+use Rattle.order.specs.Calls.{handingCount}
 
 hand-out-requires : tie.Need-hand-out-requires
 hand-out-requires c κs = search needs

@@ -4,7 +4,7 @@ use Rattle.pumxaqert.proofs.ordering.pumxaqert_settled.Tie as tie
 use mathlib.Core.Path.{sym, ap, _∙_}
 use mathlib.Core.List.{[], _∷_}
 use Rattle.order.specs.Calls.{settlingNumber}
-use Rattle.pumxaqert.specs.Flat.{settlingValues}
+use Rattle.order.specs.Calls.{settlingValues}
 
 settled-requires : tie.Need-settled-requires
 settled-requires c κs = search needs
