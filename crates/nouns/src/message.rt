@@ -1,4 +1,5 @@
 // The table of bodies, a row for each kind, and beside it all that goes by a body's cases.
+use crate::logic::equal;
 use crate::logic::wide8;
 use crate::vote::noop;
 use paper::Ballots;
@@ -22,6 +23,7 @@ ghost use Rattle.paper.specs.Message.{
   rowOf,
   rowIn,
   kindOf,
+  isCommit,
   commandCarried,
   joinedCarried,
   noneCarried,
@@ -150,6 +152,12 @@ pub fn kind_of(b: Body) -> u8
         } => 7,
         Body::Nack(_) => 8,
     }
+}
+
+pub fn is_commit(b: Body) -> bool
+    ensures { λ r. ⌜ r ≡ isCommit b ⌝ }
+{
+    equal(wide8(kind_of(b)), 5)
 }
 
 pub fn row_in(b: Body) -> Row

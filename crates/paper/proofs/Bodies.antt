@@ -1,13 +1,14 @@
 -- The table of bodies: every body has a row, a body is made of its kind and of what it carries, and a known kind is some
 -- body's. Assumes nothing.
 use Prim.Native.Nat.{ℕ, zero, suc, _<_}
-use mathlib.Core.Path.{_≡_, refl}
+use mathlib.Core.Path.{_≡_, refl, sym, ap, _∙_}
 use mathlib.Core.Bool.{Bool, true, false, _&&_, cond}
 use mathlib.Core.List.{List, [], _∷_}
 use native.Mathlib.Omega.{arith}
 use lib.ListN.{getD}
+use borrow.Author.Tests.{eqb-true}
 use Rattle.paper.specs.Command.{noop}
-use Rattle.paper.specs.Message.{unknown, rows, rowOf, rowIn, partsOf, partsIn, kindOf, carriedIn, bodyOf, kept}
+use Rattle.paper.specs.Message.{unknown, rows, rowOf, rowIn, partsOf, partsIn, kindOf, isCommit, carriedIn, commandIn, bodyOf, kept}
 use Rattle.paper.specs.declared.Body.{Body}
 use Rattle.paper.specs.declared.Body.the-variants.{PreAccept, PreAcceptOk, Accept, AcceptOk, Commit, Prepare, PrepareOk, Nack}
 use Rattle.paper.specs.declared.Carried.{Carried}
@@ -46,6 +47,10 @@ body-is (Commit k) = refl
 body-is Prepare = refl
 body-is (PrepareOk v t k) = refl
 body-is (Nack x) = refl
+
+pub commit-is : (b : Body) → isCommit b ≡ true → b ≡ Commit (commandIn b)
+unfolding bodyOf
+commit-is b h = sym (body-is b) ∙ ap (λ (k : ℕ). bodyOf k (carriedIn b)) (eqb-true (kindOf b) 5 h)
 
 -- what is tested of every row of the table, and of none, holds of each kind's row
 unfoldable pub allOf : (Row → Bool) → List Row → Bool

@@ -3,6 +3,7 @@
 use Prim.Native.Nat.{ℕ}
 use mathlib.Core.Bool.{Bool, true, false, cond}
 use mathlib.Core.List.{List, [], _∷_}
+use lib.Dec.{eqb}
 use lib.ListN.{getD}
 use Rattle.paper.specs.Command.{noop}
 use Rattle.paper.specs.Deps.{noDeps}
@@ -67,6 +68,9 @@ kindOf (Commit c) = 5
 kindOf Prepare = 6
 kindOf (PrepareOk v t c) = 7
 kindOf (Nack j) = 8
+
+abbrev pub isCommit : Body → Bool
+isCommit b = eqb (kindOf b) 5
 
 -- a body carries nothing; a command; a joined ballot
 abbrev pub noneCarried : Carried

@@ -6,14 +6,13 @@ use Prim.Native.Nat.{ℕ, zero, suc, _^_, _≤_, _<_}
 use native.Mathlib.Omega.{arith}
 use lib.ListN.{length}
 use Rattle.paper.specs.Setup.{setupOk}
-use Rattle.paper.specs.Message.{commandIn, voteIn}
+use Rattle.paper.specs.Message.{isCommit, commandIn, voteIn}
 use Rattle.paper.specs.Valid.{valid}
 use Rattle.paper.proofs.Laws.{and-true}
 use Rattle.paper.specs.declared.Command.{Command}
 use Rattle.paper.specs.declared.Vote.{Vote}
 use Rattle.paper.specs.declared.Record.{Record}
 use Rattle.paper.specs.declared.Body.{Body}
-use Rattle.paper.specs.declared.Body.the-variants.{PreAccept, PreAcceptOk, Accept, AcceptOk, Commit, Prepare, PrepareOk, Nack}
 use Rattle.paper.specs.declared.Message.{Message}
 use Rattle.paper.specs.declared.Refusal.{Refusal}
 use Rattle.paper.specs.declared.Refusal.the-variants as why
@@ -48,16 +47,9 @@ use Rattle.log.proofs.Calls.{setup-of, three, receive-open}
 use Rattle.receive.specs.Message as specs
 
 -- only a Commit can be refused 10
-pub conflict-is : (r : Record) (m : Message) (b : Body) → (specs.isCommit b && differs r m (commandIn b)) ≡ conflict r m b
+pub conflict-is : (r : Record) (m : Message) (b : Body) → (isCommit b && differs r m (commandIn b)) ≡ conflict r m b
 unfolding conflict
-conflict-is r m (PreAccept k) = refl
-conflict-is r m PreAcceptOk = refl
-conflict-is r m (Accept k) = refl
-conflict-is r m AcceptOk = refl
-conflict-is r m (Commit k) = refl
-conflict-is r m Prepare = refl
-conflict-is r m (PrepareOk v t k) = refl
-conflict-is r m (Nack x) = refl
+conflict-is r m b = refl
 
 -- a PrepareOK
 module _ (n c o j : ℕ) (r : Record) (seen : Command → List ℕ) where

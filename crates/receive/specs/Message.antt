@@ -1,26 +1,13 @@
 -- A valid message at a table past the gate: what it does, and what its step rests on. Assumes nothing.
 use Prim.Native.Nat.{ℕ, _≤_, _<_}
 use mathlib.Core.Path.{_≡_}
-use mathlib.Core.Bool.{Bool, true, false}
+use mathlib.Core.Bool.{true}
 use mathlib.Core.List.{List}
 use Rattle.paper.specs.Valid.{valid}
 use Rattle.paper.specs.declared.Message.{Message}
-use Rattle.paper.specs.declared.Body.{Body}
-use Rattle.paper.specs.declared.Body.the-variants.{PreAccept, PreAcceptOk, Accept, AcceptOk, Commit, Prepare, PrepareOk, Nack}
 use Rattle.table.specs.Sizes.{Sizes}
 use Rattle.paper.specs.Fits.{MessageFits}
 use Rattle.log.specs.Events.{Passed}
-
--- only a Commit can differ from a stored one
-abbrev pub isCommit : Body → Bool
-isCommit (PreAccept k) = false
-isCommit PreAcceptOk = false
-isCommit (Accept k) = false
-isCommit AcceptOk = false
-isCommit (Commit k) = true
-isCommit Prepare = false
-isCommit (PrepareOk v t k) = false
-isCommit (Nack x) = false
 
 pub record Hearing (n s c : ℕ) (t : List ℕ) (room : ℕ) (m : Message) : Type 0 where
   pub passed : Passed n s c t room

@@ -15,6 +15,7 @@ use nouns::logic::both;
 use nouns::logic::wide8;
 use nouns::logic::wide16;
 use nouns::message::command_in;
+use nouns::message::is_commit;
 use nouns::message::vote_in;
 use paper::Body;
 use paper::Command;
@@ -33,26 +34,7 @@ ghost use Rattle.rules.specs.Received.{receive, refused10};
 ghost use Rattle.rules.specs.Seen.{seen};
 ghost use Rattle.seen.specs.Records.{recordsIn};
 ghost use Rattle.table.specs.Sizes.{Sizes};
-ghost use Rattle.receive.specs.Message.{isCommit, Ready};
-
-fn is_commit(b: Body) -> bool
-    ensures { λ r. ⌜ r ≡ isCommit b ⌝ }
-{
-    match b {
-        Body::PreAccept(_) => false,
-        Body::PreAcceptOk => false,
-        Body::Accept(_) => false,
-        Body::AcceptOk => false,
-        Body::Commit(_) => true,
-        Body::Prepare => false,
-        Body::PrepareOk {
-            voted: _,
-            status: _,
-            command: _,
-        } => false,
-        Body::Nack(_) => false,
-    }
-}
+ghost use Rattle.receive.specs.Message.{Ready};
 
 // A Commit that differs from the stored one: refusal 10.
 pub fn refused10(r: Record, m: Message) -> bool

@@ -52,6 +52,7 @@ followers =
       commit-other-command = refl;
       commit-other-deps = refl;
       commit-equal = refl;
+      accept-differs = refl;
       commit-open = refl;
     }
 

@@ -96,6 +96,7 @@ pub record Followers : Type 0 where
   pub commit-other-command : refused10 (held 25 (vote 5 9 4 each)) (from 2 0 18 (Commit (write 6)) each) ≡ true
   pub commit-other-deps : refused10 (held 25 (vote 5 9 4 each)) (from 2 0 18 (Commit (write 5)) more) ≡ true
   pub commit-equal : refused10 (held 25 (vote 5 9 4 each)) (from 2 0 18 (Commit (write 5)) each) ≡ false
+  pub accept-differs : refused10 (held 25 (vote 5 9 4 each)) (from 2 0 18 (Accept (write 6)) more) ≡ false
   pub commit-open : refused10 (held 25 (vote 5 9 3 each)) (from 2 0 18 (Commit (write 6)) more) ≡ false
 
 -- copy 1 leads 1.3 at ballot 0, or o.3 at ballot 25

@@ -1,7 +1,8 @@
 -- A received message, by its kind. Assumes nothing.
 use Prim.Native.Nat.{ℕ}
-use mathlib.Core.Bool.{Bool, false}
+use mathlib.Core.Bool.{Bool, _&&_}
 use mathlib.Core.List.{List}
+use Rattle.paper.specs.Message.{isCommit, commandIn}
 use Rattle.paper.specs.declared.Command.{Command}
 use Rattle.paper.specs.declared.Record.{Record}
 use Rattle.paper.specs.declared.Message.{Message}
@@ -31,15 +32,9 @@ byKind n c o j seen r m (Nack x) = nack r m x
 abbrev pub receive : ℕ → ℕ → (Command → List ℕ) → Record → Message → Step
 receive n c seen r m = byKind n c (m .owner) (m .number) seen r m (m .body)
 
+-- only a Commit can differ from a stored one
 unfoldable pub conflict : Record → Message → Body → Bool
-conflict r m (PreAccept k) = false
-conflict r m PreAcceptOk = false
-conflict r m (Accept k) = false
-conflict r m AcceptOk = false
-conflict r m (Commit k) = differs r m k
-conflict r m Prepare = false
-conflict r m (PrepareOk v t k) = false
-conflict r m (Nack x) = false
+conflict r m b = isCommit b && differs r m (commandIn b)
 
 -- refusal 10
 abbrev pub refused10 : Record → Message → Bool

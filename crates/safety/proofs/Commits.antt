@@ -1,6 +1,6 @@
 -- What is committed in a state of a run: one value, requested, covering, and never refused. Assumes nothing.
 use Prim.Native.Nat.{ℕ, _<_}
-use mathlib.Core.Path.{_≡_, refl, sym, ap, _∙_}
+use mathlib.Core.Path.{_≡_, refl, sym, ap, subst, _∙_}
 use mathlib.Core.Logic.{_⊎_, inl, inr, ⊎-elim}
 use mathlib.Core.Bool.{Bool, true, false, _&&_, not}
 use mathlib.Core.List.{List, List·Memᴰ}
@@ -11,12 +11,14 @@ use lib.ListN.{getD}
 use Rattle.paper.specs.Instance.{instanceOk}
 use Rattle.paper.specs.Command.{noop, isNoop, interfere, sameCommand}
 use Rattle.paper.specs.Deps.{covers, sameDeps}
+use Rattle.paper.specs.Message.{isCommit, commandIn}
 use Rattle.paper.specs.Valid.{valid}
+use Rattle.paper.proofs.Bodies.{commit-is}
 use Rattle.paper.specs.declared.Command.{Command}
 use Rattle.paper.specs.declared.Record.{Record}
 use Rattle.paper.specs.declared.Message.{Message}
 use Rattle.paper.specs.declared.Body.{Body}
-use Rattle.paper.specs.declared.Body.the-variants.{PreAccept, PreAcceptOk, Accept, AcceptOk, Commit, Prepare, PrepareOk, Nack}
+use Rattle.paper.specs.declared.Body.the-variants.{Commit}
 use Rattle.rules.specs.Step.{isCommitted}
 use Rattle.rules.specs.Commit.{differs}
 use Rattle.rules.specs.Received.{conflict}
@@ -139,15 +141,8 @@ module _ {C : Case} {z : State} (t : Tie C z) where
       r : Record
       r = z .tables c o j
 
-      by : (b : Body) → Means (G (code o j)) m b → conflict r m b ≡ false
-      by (PreAccept k) w = refl
-      by PreAcceptOk w = refl
-      by (Accept k) w = refl
-      by AcceptOk w = refl
-      by Prepare w = refl
-      by (PrepareOk a b k) w = refl
-      by (Nack a) w = refl
-      by (Commit k) (l, w) = go (isCommitted r) refl
+      final : (k : Command) → Means (G (code o j)) m (Commit k) → differs r m k ≡ false
+      final k (l, w) = go (isCommitted r) refl
         where
           go : (b : Bool) → isCommitted r ≡ b → (b && not (sameCommand k (r .vote .command) && sameDeps (m .deps) (r .vote .deps))) ≡ false
           go false e = refl
@@ -155,3 +150,10 @@ module _ {C : Case} {z : State} (t : Tie C z) where
               let g = com-in c o j (r .vote .command) (r .vote .deps) (record { status = e; command = refl; deps = refl }) in
               let q : val k (m .deps) ≡ valueOf (r .vote) = one-value (code o j) (val k (m .deps)) (valueOf (r .vote)) (inv t (code o j) .msgs (mCommit (val k (m .deps))) w) (evidence c o j (valueOf (r .vote)) g) in
               rw (same-command-refl k (r .vote .command) (ap cmd q), same-deps-refl (m .deps) (r .vote .deps) (ap (λ (u : Value). u .deps) q)) refl
+
+      by : (b : Body) → Means (G (code o j)) m b → conflict r m b ≡ false
+      by b w = which (isCommit b) refl
+        where
+          which : (x : Bool) → isCommit b ≡ x → (x && differs r m (commandIn b)) ≡ false
+          which false e = refl
+          which true e = final (commandIn b) (subst (λ (y : Body). Means (G (code o j)) m y) (commit-is b e) w)

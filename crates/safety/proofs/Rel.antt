@@ -141,16 +141,34 @@ rel-begun F c lc b v k p A joined-is voted-is status-is value-is l phase-is not-
   self = λ n. member-none c lc;
 }
 
--- what a message tells the model
+-- what a message tells the model: nothing; one of its messages; one with a value; one whose command, or status, is not told
+pub data Saying : Type 0 where
+  nothing : Saying
+  plain : Msg → Saying
+  valued : Msg → Saying
+  someCommand : (Command → Msg) → Saying
+  someStatus : ℕ → (Status → Msg) → Saying
+
+-- d: the dependencies beside it
+abbrev pub Told : Sys → List ℕ → Saying → Type 0
+Told S d nothing = T true
+Told S d (plain y) = Sent S y
+Told S d (valued y) = (length d ≡ 7) × Sent S y
+Told S d (someCommand f) = (length d ≡ 7) × ((k : Command) × Sent S (f k))
+Told S d (someStatus t f) = (length d ≡ 7) × ((u : Status) × (statusNumber u ≡ t) × Sent S (f u))
+
+abbrev pub saying : ℕ → ℕ → List ℕ → Body → Saying
+saying q b d (PreAccept k) = valued (mPreAccept b (val k d))
+saying q b d PreAcceptOk = someCommand (λ k. mPreAcceptOk q b (val k d))
+saying q b d (Accept k) = valued (mAccept b (val k d))
+saying q b d AcceptOk = plain (mAcceptOk q b)
+saying q b d (Commit k) = valued (mCommit (val k d))
+saying q b d Prepare = nothing
+saying q b d (PrepareOk v t k) = someStatus t (λ u. mPrepareOk q b (record { voted = v; status = u; value = val k d }))
+saying q b d (Nack x) = nothing
+
 abbrev pub Means : Sys → Message → Body → Type 0
-Means S m (PreAccept k) = (length (m .deps) ≡ 7) × Sent S (mPreAccept (m .ballot) (val k (m .deps)))
-Means S m PreAcceptOk = (length (m .deps) ≡ 7) × ((k : Command) × Sent S (mPreAcceptOk (m .from) (m .ballot) (val k (m .deps))))
-Means S m (Accept k) = (length (m .deps) ≡ 7) × Sent S (mAccept (m .ballot) (val k (m .deps)))
-Means S m AcceptOk = Sent S (mAcceptOk (m .from) (m .ballot))
-Means S m (Commit k) = (length (m .deps) ≡ 7) × Sent S (mCommit (val k (m .deps)))
-Means S m Prepare = T true
-Means S m (PrepareOk v t k) = (length (m .deps) ≡ 7) × ((u : Status) × (statusNumber u ≡ t) × Sent S (mPrepareOk (m .from) (m .ballot) (record { voted = v; status = u; value = val k (m .deps) })))
-Means S m (Nack x) = T true
+Means S m b = Told S (m .deps) (saying (m .from) (m .ballot) (m .deps) b)
 
 -- a message of o.j, or one that tells nothing
 pub data Out (S : Sys) (o j : ℕ) (m : Message) : Type 0 where

@@ -13,7 +13,6 @@ use Rattle.paper.specs.declared.Command.{Command}
 use Rattle.paper.specs.declared.Record.{Record}
 use Rattle.paper.specs.declared.Message.{Message}
 use Rattle.paper.specs.declared.Body.{Body}
-use Rattle.paper.specs.declared.Body.the-variants.{PreAccept, PreAcceptOk, Accept, AcceptOk, Commit, Prepare, PrepareOk, Nack}
 use Rattle.rules.specs.declared.Step.{Step}
 use Rattle.rules.specs.Seen.{Records, met, seen}
 use Rattle.rules.specs.Events.{put, addressed, messagesFrom, messages}
@@ -30,7 +29,7 @@ use Rattle.safety.proofs.Older.{Le, le-refl}
 use Rattle.safety.proofs.Inv.Good.{good, holds}
 use Rattle.safety.proofs.Inv.Multi.{Guard, no-vote, accepts, commits, seen as g-seen, GReach, alone}
 use Rattle.safety.proofs.Inv.HandOut.{MReach, m-step, m-g}
-use Rattle.safety.proofs.Rel.{statusNumber, status-eq, val, Rel, Means, Out, quiet, spoken, Kind, kept, takes, counts, Spot, Ref, same, moved}
+use Rattle.safety.proofs.Rel.{statusNumber, status-eq, val, Rel, Means, Out, quiet, spoken, Kind, kept, takes, counts, Spot, Ref, same, moved, Saying, nothing, plain, valued, someCommand, someStatus, Told, saying}
 use Rattle.safety.proofs.Rel.{commits as k-commits}
 
 -- the marks of a copy as numbers, the newest first
@@ -67,25 +66,18 @@ one-message (suc k) q to m y h = go (member q to) (one-message k (q + 1) to m y)
 
 -- what a message tells stays told
 means-up : (S X : Sys) → ((y : Msg) → Sent S y → Sent X y) → (m : Message) (b : Body) → Means S m b → Means X m b
-means-up S X up m (PreAccept k) (l, t) = (l, up _ t)
-means-up S X up m PreAcceptOk (l, (k, t)) = (l, (k, up _ t))
-means-up S X up m (Accept k) (l, t) = (l, up _ t)
-means-up S X up m AcceptOk t = up _ t
-means-up S X up m (Commit k) (l, t) = (l, up _ t)
-means-up S X up m Prepare t = t
-means-up S X up m (PrepareOk v t k) (l, (u, e, q)) = (l, (u, e, up _ q))
-means-up S X up m (Nack x) t = t
+means-up S X up m b t = go (saying (m .from) (m .ballot) (m .deps) b) t
+  where
+    go : (y : Saying) → Told S (m .deps) y → Told X (m .deps) y
+    go nothing t = t
+    go (plain y) t = up _ t
+    go (valued y) (l, t) = (l, up _ t)
+    go (someCommand f) (l, (k, t)) = (l, (k, up _ t))
+    go (someStatus n f) (l, (u, e, q)) = (l, (u, e, up _ q))
 
 -- whom it goes to says nothing
 means-to : (X : Sys) (m : Message) (d : ℕ) (b : Body) → Means X m b → Means X (addressed m d) b
-means-to X m d (PreAccept k) t = t
-means-to X m d PreAcceptOk t = t
-means-to X m d (Accept k) t = t
-means-to X m d AcceptOk t = t
-means-to X m d (Commit k) t = t
-means-to X m d Prepare t = t
-means-to X m d (PrepareOk v u k) t = t
-means-to X m d (Nack y) t = t
+means-to X m d b t = t
 
 -- the state x beside a state G of the model, in which copy c has set the marks M c
 pub record Tie (C : Case) (x : State) : Type 0 where
