@@ -227,4 +227,19 @@ module _ (n s : ℕ) (setup : Setup n s) where
         (D .order (z .first) (u .later) (v .later) (z .start) (u .run) (v .run) a b c e o j p i k l d f (to-rules n s setup y (v .later) (v .tie) c o j k d h)
         (to-rules n s setup y (v .later) (v .tie) e p i l f g) it (rw (u .tie .copies a .marks) bf) (rw at mo) (rw at mp));
     lasting = lasting;
+    marking = record {
+      once = λ x₀ x st rx a i b.
+          let z = begin n s setup st in
+          let p = atX n s setup x₀ x x st rx stay in
+          D .marking .once (z .first) (p .later) (z .start) (p .run) a i (rw (p .tie .copies a .marks) b);
+      listed = λ x₀ x st rx a o j h.
+          let z = begin n s setup st in
+          let p = atX n s setup x₀ x x st rx stay in
+          let (i, m) = D .marking .listed (z .first) (p .later) (z .start) (p .run) a o j (rw (p .tie .copies a .marks) h) in
+          (i, rw (← record-is n s setup x (p .later) (p .tie) a o j i) m);
+      marked = λ x₀ x st rx a o j i m.
+          let z = begin n s setup st in
+          let p = atX n s setup x₀ x x st rx stay in
+          rw (← p .tie .copies a .marks) (D .marking .marked (z .first) (p .later) (z .start) (p .run) a o j i (rw (record-is n s setup x (p .later) (p .tie) a o j i) m));
+    };
   }

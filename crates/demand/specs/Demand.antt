@@ -9,6 +9,7 @@ use Rattle.paper.specs.Command.{isNoop, interfere}
 use Rattle.paper.specs.Deps.{covers}
 use Rattle.paper.specs.declared.Command.{Command}
 use Rattle.rules.specs.Step.{isCommitted}
+use Rattle.rules.specs.Order.{isMarked}
 use Rattle.table.specs.Table.{recordIn}
 use Rattle.log.specs.Events.{answerNumber}
 use Rattle.log.specs.Events as log
@@ -66,6 +67,14 @@ module _ (n s : ℕ) where
     pub never-1 : (x₀ x : State) → Start n s x₀ → Run n s x₀ x → (c : ℕ) → c < n → Unrefused c (x .copies c .lent) 1
     pub never-11 : (x₀ x : State) → Start n s x₀ → Run n s x₀ x → (c : ℕ) → c < n → Unrefused c (x .copies c .lent) 11
 
+  -- the marks that a copy has saved are the mark bytes of its saved table, and none was saved twice
+  pub record Marking : Type 0 where
+    pub once : (x₀ x : State) → Start n s x₀ → Run n s x₀ x → (a : ℕ) (i : Instance) → Before i i (x .copies a .marks) → ⊥
+    pub listed : (x₀ x : State) → Start n s x₀ → Run n s x₀ x → (a o j : ℕ) → List·Memᴰ (o, j) (x .copies a .marks)
+        → (instanceOk n s o j ≡ true) × (isMarked (recordIn s (savedTable (x .copies a)) o j) ≡ true)
+    pub marked : (x₀ x : State) → Start n s x₀ → Run n s x₀ x → (a o j : ℕ) → instanceOk n s o j ≡ true
+        → isMarked (recordIn s (savedTable (x .copies a)) o j) ≡ true → List·Memᴰ (o, j) (x .copies a .marks)
+
   -- demand 3
   pub record Demand : Type 0 where
     pub agreement : Agreement
@@ -73,3 +82,4 @@ module _ (n s : ℕ) where
     pub covering : Covering
     pub order : Order
     pub lasting : Lasting
+    pub marking : Marking

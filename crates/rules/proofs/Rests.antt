@@ -1,5 +1,5 @@
 -- What each part of demand 3 rests on, one law for each: a wrong rule breaks the law that its part needs. Assumes nothing.
-use Prim.Native.Nat.{ℕ, zero, suc, _+_, _*_, _-_, _≤_, _<_}
+use Prim.Native.Nat.{ℕ, zero, suc, _+_, _-_, _≤_, _<_}
 use mathlib.Core.Path.{_≡_, refl, ap}
 use mathlib.Core.Bool.{Bool, true, false, _&&_, _||_, not, cond}
 use mathlib.Core.Logic.{⊎-elim}
@@ -8,12 +8,9 @@ use native.Mathlib.Omega.{arith}
 use native.Mathlib.Nat.{eq-or-lt-of-le}
 use lib.Dec.{leb, ltb, eqb}
 use lib.ListN.{getD}
-use borrow.Author.Tests.{leb-true, eqb-true, lt-ltb, not-true}
+use borrow.Author.Tests.{lt-ltb}
 use Rattle.paper.specs.Logic.{implies, allBelow}
-use Rattle.paper.specs.Setup.{faults}
-use Rattle.paper.specs.Command.{noop, sameCommand, interfere}
-use Rattle.paper.specs.Deps.{sameDeps}
-use Rattle.paper.specs.Vote.{member, count}
+use Rattle.paper.specs.Command.{interfere}
 use Rattle.paper.specs.Message.{voteIn}
 use Rattle.paper.proofs.Laws.{and-true, allBelow-at}
 use Rattle.paper.proofs.Deps.{join-entry}
@@ -23,22 +20,21 @@ use Rattle.paper.specs.declared.Body.{Body}
 use Rattle.paper.specs.declared.Body.the-variants.{PreAccept, PreAcceptOk, Accept, AcceptOk, Commit, Prepare, PrepareOk, Nack}
 use Rattle.paper.specs.declared.Message.{Message}
 use Rattle.rules.specs.declared.Step.{Step}
-use Rattle.rules.specs.Sets.{those, lowest, highest}
+use Rattle.rules.specs.Sets.{highest}
 use Rattle.rules.specs.Step.{isCommitted, awaited, commitBack, nackBack}
 use Rattle.rules.specs.Seen.{Records, met, seenEntry}
-use Rattle.rules.specs.Afresh.{afresh}
-use Rattle.rules.specs.Request.{isBlank, lowestBlank, request}
+use Rattle.rules.specs.Request.{isBlank, lowestBlank}
 use Rattle.rules.specs.PreAccept.{votedAt, preAccept}
-use Rattle.rules.specs.PreAcceptOk.{added, matching, fastEnough, onPreAcceptOk}
+use Rattle.rules.specs.PreAcceptOk.{onPreAcceptOk}
 use Rattle.rules.specs.Accept.{accept}
 use Rattle.rules.specs.AcceptOk.{onAcceptOk}
-use Rattle.rules.specs.Commit.{differs, commit}
+use Rattle.rules.specs.Commit.{commit}
 use Rattle.rules.specs.Prepare.{prepare}
-use Rattle.rules.specs.PrepareOk.{toldBy, voter, topVoted, topVoter, sameVoter, maybeFast, afreshCommand, onPrepareOk}
+use Rattle.rules.specs.PrepareOk.{onPrepareOk}
 use Rattle.rules.specs.Nack.{nack}
 use Rattle.rules.specs.Nudge.{nudge}
 use Rattle.rules.specs.Received.{byKind}
-use Rattle.rules.specs.Events.{requestNumber, onRequest}
+use Rattle.rules.specs.Events.{requestNumber}
 use Rattle.rules.specs.Order.{everywhere, reaches, waitsFor, isSettled, isMarked, candidate}
 
 -- what holds of both branches of a test, each where it is taken, holds of the whole
@@ -81,29 +77,6 @@ module _ (c o j : ℕ) (r : Record) (m : Message) where
   unfolding preAccept
   votes-once p q v l k d = rw (p, q, v, l) (refl, refl)
 
-  -- an Accept is voted for as it came
-  pub votes-for : isCommitted r ≡ false → ltb (m .ballot) (r .joined) ≡ false → (k : Command)
-      → accept c o j r m k .entry .vote ≡ record { voted = m .ballot; status = 3; command = k; deps = m .deps }
-  unfolding accept
-  votes-for p q k = rw (p, q)
-
--- the owner commits on 2F-1 replies that are equal to what it sent
-pub fast-equal : (n : ℕ) (r : Record) → fastEnough n r ≡ true → 2 * faults n - 1 ≤ count (those (λ q. member q (r .set) && sameDeps (added r q) (r .vote .deps)))
-unfolding fastEnough matching
-fast-equal n r h = leb-true _ _ h
-
--- F replies of status 2 are taken for a fast commit only at ballot 0 and where the owner did not reply
-pub fast-without-owner : (n o : ℕ) (r : Record) → maybeFast n o r ≡ true → (topVoted r ≡ 0) × (member o (r .set) ≡ false) × (faults n ≤ count (those (sameVoter r)))
-unfolding maybeFast
-fast-without-owner n o r h =
-    let p = and-true (eqb (topVoted r) 0 && not (member o (r .set))) (leb (faults n) (count (those (sameVoter r)))) h in
-    let q = and-true (eqb (topVoted r) 0) (not (member o (r .set))) (p .0) in
-    (eqb-true _ _ (q .0), not-true _ (q .1), leb-true _ _ (p .1))
-
--- what is chosen otherwise was voted for at the highest ballot
-pub top-voted : (r : Record) (q : ℕ) → topVoter r q ≡ true → toldBy r q .voted ≡ topVoted r
-top-voted r q h = eqb-true _ _ (and-true (voter r q) (eqb (toldBy r q .voted) (topVoted r)) h .1)
-
 -- 2: a committed command was requested or is a no-op
 pub blank-above : (k j : ℕ) (row : ℕ → Record) → j ≤ lowestBlank k j row
 unfolding lowestBlank
@@ -124,15 +97,6 @@ blank-found (suc k) j row h = go (isBlank (row j)) refl h (λ l. blank-found k (
 pub request-blank : (s c : ℕ) (t : Records) → requestNumber s c t ≤ s → isBlank (t c (requestNumber s c t)) ≡ true
 unfolding requestNumber
 request-blank s c t l = blank-found s 1 (t c) (omega arith)
-
-pub request-command : (n s c : ℕ) (t : Records) (k : Command) → onRequest n s c t k .entry .vote .command ≡ k
-unfolding onRequest request afresh
-request-command n s c t k = refl
-
--- a recovery proposes what a copy told it, and a no-op only where none told a vote
-pub recovered-command : (r : Record) → afreshCommand r ≡ cond (eqb (those (voter r)) 0) noop (toldBy r (lowest (topVoter r)) .command)
-unfolding afreshCommand
-recovered-command r = refl
 
 -- 3: of two interfering committed commands at least one covers the other
 pub highest-above : (k : ℕ) (f : ℕ → Bool) (i : ℕ) → 1 ≤ i → i ≤ k → f i ≡ true → i ≤ highest k f
@@ -199,8 +163,3 @@ module _ (n c o j : ℕ) (r : Record) (h : isCommitted r ≡ true) where
   pub nudge-final : nudge n c o j r .entry ≡ r
   unfolding nudge
   nudge-final = rw h
-
-  -- and a Commit that differs is refused
-  pub differing-refused : (m : Message) (k : Command) → (sameCommand k (r .vote .command) && sameDeps (m .deps) (r .vote .deps)) ≡ false → differs r m k ≡ true
-  unfolding differs
-  differing-refused m k e = both _ _ h (ap not e)

@@ -2,21 +2,23 @@
 use Prim.Native.Nat.{ℕ, suc, _*_, _≤_, _<_}
 use mathlib.Core.Path.{_≡_, ap}
 use mathlib.Core.Logic.{⊎-elim}
-use mathlib.Core.Bool.{_||_}
+use mathlib.Core.Bool.{true, _||_}
 use mathlib.Core.List.{List}
 use native.Mathlib.Omega.{arith}
 use lib.Dec.{eqb}
+use Rattle.paper.specs.Instance.{instanceOk}
 use Rattle.paper.specs.declared.Command.{Command}
 use Rattle.safety.specs.Run.{State, Setup, Start, Run, stay}
-use Rattle.safety.specs.Demand.{Committed, Agreement, Requested, Covering, Order, Lasting, Demand}
+use Rattle.safety.specs.Demand.{Committed, Agreement, Requested, Covering, Order, Lasting, Marking, Demand}
 use Rattle.reach.proofs.Tests.{or-cases, eqb-eq}
 use Rattle.safety.proofs.Value.{Value, cmd}
-use Rattle.safety.proofs.Case.{Case, copies, code}
+use Rattle.safety.proofs.Case.{Case, copies, code, range}
 use Rattle.safety.proofs.Rel.{val}
 use Rattle.safety.proofs.Sim.{Next}
 use Rattle.safety.proofs.Runs.{history-more, marks-more, begin, run-next}
 use Rattle.safety.proofs.Commits.{Com, com-in, in-com, com-stays, evidence, one-value, asked-for, one-covers, never-differs}
 use Rattle.safety.proofs.Ordered.{front, in-order}
+use Rattle.safety.proofs.Listed.{listed-range, once, listed-marked, marked-listed}
 
 -- N = 2F+1
 module _ (F s : ℕ) (fit : F ≤ 3) (pos : 0 < F) where
@@ -46,6 +48,10 @@ module _ (F s : ℕ) (fit : F ≤ 3) (pos : 0 < F) where
         let q : val k d ≡ val l e = one-value t (code o j) (val k d) (val l e) (evidence t a o j (val k d) (in-x a o j k d h)) (evidence t b o j (val l e) (in-y b o j l e g)) in
         (ap cmd q, ap (λ (v : Value). v .deps) q)
 
+  -- an owner is less than eight
+  small : (o j : ℕ) → instanceOk n s o j ≡ true → o < 8
+  small o j i = let (l, a, b) = range n s o j i in omega (arith, l, fit)
+
   demand : Demand n s
   demand = record {
     agreement = λ x₀ x y st rx ry. agreed x₀ x y st rx ry;
@@ -57,6 +63,14 @@ module _ (F s : ℕ) (fit : F ≤ 3) (pos : 0 < F) where
       commit = λ x₀ x y st rx ry a o j k d h. in-com (atY x₀ x y st rx ry .tie) a o j k d (in-x x₀ x y st rx ry a o j k d h);
       marks = λ x₀ x y st rx ry a. marks-more ry a;
       unrefused = λ x₀ x st rx c m h v. never-differs (atY x₀ x x st rx stay .tie) c m h v;
+    };
+    marking = record {
+      once = λ x₀ x st rx a i b. once (atY x₀ x x st rx stay .tie) a i b;
+      listed = λ x₀ x st rx a o j h.
+          let i = listed-range n s (omega (arith, fit)) st rx a (o, j) h in
+          (i, listed-marked (atY x₀ x x st rx stay .tie) a o j (small o j i) h);
+      marked = λ x₀ x st rx a o j i m.
+          marked-listed (atY x₀ x x st rx stay .tie) a o j (small o j i) (λ (p, k) h. small p k (listed-range n s (omega (arith, fit)) st rx a (p, k) h)) m;
     };
   }
 
@@ -82,3 +96,6 @@ order n s h = demand-3 n s h .order
 
 pub lasting : (n s : ℕ) → Setup n s → Lasting n s
 lasting n s h = demand-3 n s h .lasting
+
+pub marking : (n s : ℕ) → Setup n s → Marking n s
+marking n s h = demand-3 n s h .marking

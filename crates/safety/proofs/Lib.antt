@@ -25,5 +25,6 @@ pub mod Runs
 pub mod Handing
 pub mod Commits
 pub mod Ordered
+pub mod Listed
 pub mod Demand
 pub mod Witness

@@ -44,7 +44,7 @@ module _ (C : Case) where
 module _ {C : Case} {z : State} (t : Tie C z) where
   open Tie t using (G, M, reach, listed)
 
-  early : (c : ℕ) (a b : Instance) → Before a b (z .marks c) → Earlier C (code (a .0) (a .1)) (code (b .0) (b .1)) (M c)
+  pub early : (c : ℕ) (a b : Instance) → Before a b (z .marks c) → Earlier C (code (a .0) (a .1)) (code (b .0) (b .1)) (M c)
   early c a b h = rw (listed c) (early-of C [] h)
 
   pub in-order : (a b c e o j p i : ℕ) (k l : Command) (d f : List ℕ) → Com C G c o j (val k d) → Com C G e p i (val l f) → interfere k l ≡ true

@@ -9,7 +9,9 @@ use Rattle.paper.specs.Deps.{covers}
 use Rattle.paper.specs.Valid.{valid}
 use Rattle.paper.specs.declared.Command.{Command}
 use Rattle.paper.specs.declared.Message.{Message}
+use Rattle.paper.specs.Instance.{instanceOk}
 use Rattle.rules.specs.Step.{isCommitted}
+use Rattle.rules.specs.Order.{isMarked}
 use Rattle.rules.specs.Received.{refused10}
 use Rattle.safety.specs.Run.{State, Instance, requested, Start, Run}
 
@@ -56,6 +58,14 @@ module _ (n s : ℕ) where
     pub unrefused : (x₀ x : State) → Start n s x₀ → Run n s x₀ x → (c : ℕ) (m : Message) → List·Memᴰ m (x .sent) → valid n s c m ≡ true
         → refused10 (x .tables c (m .owner) (m .number)) m ≡ false
 
+  -- what a copy has listed as handed out is what its table marks, and nothing is listed twice
+  pub record Marking : Type 0 where
+    pub once : (x₀ x : State) → Start n s x₀ → Run n s x₀ x → (a : ℕ) (i : Instance) → Before i i (x .marks a) → ⊥
+    pub listed : (x₀ x : State) → Start n s x₀ → Run n s x₀ x → (a o j : ℕ) → List·Memᴰ (o, j) (x .marks a)
+        → (instanceOk n s o j ≡ true) × (isMarked (x .tables a o j) ≡ true)
+    pub marked : (x₀ x : State) → Start n s x₀ → Run n s x₀ x → (a o j : ℕ) → instanceOk n s o j ≡ true → isMarked (x .tables a o j) ≡ true
+        → List·Memᴰ (o, j) (x .marks a)
+
   -- demand 3
   pub record Demand : Type 0 where
     pub agreement : Agreement
@@ -63,3 +73,4 @@ module _ (n s : ℕ) where
     pub covering : Covering
     pub order : Order
     pub lasting : Lasting
+    pub marking : Marking
