@@ -49,8 +49,8 @@ use Rattle.demand.specs.Examples as paper
 use Rattle.demand.proofs.Answers.{Holds, blank-holds, request-does, message-does, recover-does, recover-used-up, request-full, room-short, settled-does, handed-does, hands, hands-none}
 
 -- a commit of o.1, as copy 1 tells copy 0
-abbrev told : ℕ → List ℕ → Message
-told o d = record { from = 1; to = 0; owner = o; number = 1; ballot = 0; body = Commit (write 1); deps = d }
+abbrev commitOf : ℕ → List ℕ → Message
+commitOf o d = record { from = 1; to = 0; owner = o; number = 1; ballot = 0; body = Commit (write 1); deps = d }
 
 -- a hand-out of three places that finds two
 two-out : (t : List ℕ) (u : Records) → Holds 3 4 0 t u → (o j p i : ℕ) → nextOut 3 4 u ≡ At o j → nextOut 3 4 (mark u o j) ≡ At p i → nextOut 3 4 (mark (mark u o j) p i) ≡ Nowhere
@@ -78,39 +78,39 @@ examples out room =
     let seven : Setup 7 4 = record { copies = refl; numbers = refl } in
     let zero-blank = blank-holds 3 4 three 0 (omega arith) in
     let asks = request-does 3 4 0 (blankTable 3 4 0) _ zero-blank out room 2 7 100 refl (record { key = omega arith; edit = omega arith }) (omega arith) refl in
-    let waits = message-does 3 4 0 paper.asked _ (asks .holds) out room (paper.message 1 0 0 PreAcceptOk (deps3 0 1 0)) refl refl refl in
+    let waits = message-does 3 4 0 paper.askedTable _ (asks .holds) out room (paper.about 1 0 0 PreAcceptOk (deps3 0 1 0)) refl refl refl in
     let own = request-does 3 4 1 (blankTable 3 4 1) _ (blank-holds 3 4 three 1 (omega arith)) out room 2 7 5 refl (record { key = omega arith; edit = omega arith }) (omega arith) refl in
     let two-of-seven = blank-holds 7 4 seven 2 (omega arith) in
-    let low = message-does 7 4 2 (blankTable 7 4 2) _ two-of-seven out room (paper.message 5 2 13 Prepare noDeps) refl refl refl in
-    let last = message-does 7 4 2 (blankTable 7 4 2) _ two-of-seven out room (paper.message 0 2 4_294_967_288 Prepare noDeps) refl refl refl in
+    let low = message-does 7 4 2 (blankTable 7 4 2) _ two-of-seven out room (paper.about 5 2 13 Prepare noDeps) refl refl refl in
+    let last = message-does 7 4 2 (blankTable 7 4 2) _ two-of-seven out room (paper.about 0 2 4_294_967_288 Prepare noDeps) refl refl refl in
     let two-of-five = blank-holds 5 4 five 2 (omega arith) in
     let prepares = recover-does 5 4 2 (blankTable 5 4 2) _ two-of-five out room 0 1 refl refl refl in
-    let one = message-does 5 4 2 paper.recovering _ (prepares .holds) out room (paper.message 1 2 10 (PrepareOk 0 2 (write 1)) noDeps) refl refl refl in
-    let owner = message-does 5 4 2 paper.recovering _ (prepares .holds) out room (paper.message 0 2 10 (PrepareOk 0 2 (write 1)) noDeps) refl refl refl in
-    let joins = message-does 5 4 2 (blankTable 5 4 2) _ two-of-five out room (paper.message 1 2 17 Prepare noDeps) refl refl refl in
+    let one = message-does 5 4 2 paper.recoveringTable _ (prepares .holds) out room (paper.about 1 2 10 (PrepareOk 0 2 (write 1)) noDeps) refl refl refl in
+    let owner = message-does 5 4 2 paper.recoveringTable _ (prepares .holds) out room (paper.about 0 2 10 (PrepareOk 0 2 (write 1)) noDeps) refl refl refl in
+    let joins = message-does 5 4 2 (blankTable 5 4 2) _ two-of-five out room (paper.about 1 2 17 Prepare noDeps) refl refl refl in
     let past = recover-does 5 4 2 (putRecord 4 (blankTable 5 4 2) 0 1 _) _ (joins .holds) out room 0 1 refl refl refl in
-    let lower = message-does 5 4 2 paper.pastOthers _ (past .holds) out room (paper.message 1 2 26 (PrepareOk 10 3 (write 1)) noDeps) refl refl refl in
-    let first = message-does 3 4 0 (blankTable 3 4 0) _ zero-blank out room (told 0 (deps3 0 1 0)) refl refl refl in
-    let second = message-does 3 4 0 (putRecord 4 (blankTable 3 4 0) 0 1 _) _ (first .holds) out room (told 1 (deps3 1 0 0)) refl refl refl in
-    let third = message-does 3 4 0 paper.cycle _ (second .holds) out room (told 2 (deps3 2 1 0)) refl refl refl in
-    let alone = message-does 3 4 0 (blankTable 3 4 0) _ zero-blank out room (told 0 (deps3 0 0 1)) refl refl refl in
-    let covered = message-does 3 4 0 (putRecord 4 (blankTable 3 4 0) 0 1 _) _ (alone .holds) out room (told 2 noDeps) refl refl refl in
+    let lower = message-does 5 4 2 paper.pastTable _ (past .holds) out room (paper.about 1 2 26 (PrepareOk 10 3 (write 1)) noDeps) refl refl refl in
+    let first = message-does 3 4 0 (blankTable 3 4 0) _ zero-blank out room (commitOf 0 (deps3 0 1 0)) refl refl refl in
+    let second = message-does 3 4 0 (putRecord 4 (blankTable 3 4 0) 0 1 _) _ (first .holds) out room (commitOf 1 (deps3 1 0 0)) refl refl refl in
+    let third = message-does 3 4 0 paper.cycleTable _ (second .holds) out room (commitOf 2 (deps3 2 1 0)) refl refl refl in
+    let alone = message-does 3 4 0 (blankTable 3 4 0) _ zero-blank out room (commitOf 0 (deps3 0 0 1)) refl refl refl in
+    let covered = message-does 3 4 0 (putRecord 4 (blankTable 3 4 0) 0 1 _) _ (alone .holds) out room (commitOf 2 noDeps) refl refl refl in
     record {
       W1 = asks .is;
-      W2 = message-does 3 4 0 paper.asked _ (asks .holds) out room (paper.message 1 0 0 PreAcceptOk noDeps) refl refl refl .is;
-      W3-answers = message-does 3 4 1 paper.ownWrite _ (own .holds) out room (paper.message 0 1 0 (PreAccept (write 100)) noDeps) refl refl refl .is;
+      W2 = message-does 3 4 0 paper.askedTable _ (asks .holds) out room (paper.about 1 0 0 PreAcceptOk noDeps) refl refl refl .is;
+      W3-answers = message-does 3 4 1 paper.ownTable _ (own .holds) out room (paper.about 0 1 0 (PreAccept (write 100)) noDeps) refl refl refl .is;
       W3-waits = waits .is;
-      W3-commits = message-does 3 4 0 paper.waiting _ (waits .holds) out room (paper.message 2 0 0 PreAcceptOk noDeps) refl refl refl .is;
-      W4 = message-does 3 4 0 paper.waiting _ (waits .holds) out room (paper.message 2 0 0 PreAcceptOk (deps3 0 0 1)) refl refl refl .is;
+      W3-commits = message-does 3 4 0 paper.waitingTable _ (waits .holds) out room (paper.about 2 0 0 PreAcceptOk noDeps) refl refl refl .is;
+      W4 = message-does 3 4 0 paper.waitingTable _ (waits .holds) out room (paper.about 2 0 0 PreAcceptOk (deps3 0 0 1)) refl refl refl .is;
       W5-first = recover-does 7 4 2 (blankTable 7 4 2) _ two-of-seven out room 0 1 refl refl refl .is;
-      W5-later = recover-does 7 4 2 (paper.joined 13) _ (low .holds) out room 0 1 refl refl refl .is;
-      W5-last = recover-used-up 7 4 2 (paper.joined 4_294_967_288) _ (last .holds) out room 0 1 refl refl refl;
-      W6-accept = message-does 5 4 2 paper.withOne _ (one .holds) out room (paper.message 3 2 10 (PrepareOk 0 2 (write 1)) noDeps) refl refl refl .is;
-      W6-afresh = message-does 5 4 2 paper.withOne _ (one .holds) out room (paper.message 3 2 10 (PrepareOk 0 1 (write 1)) noDeps) refl refl refl .is;
-      W6-owner = message-does 5 4 2 paper.withOwner _ (owner .holds) out room (paper.message 3 2 10 (PrepareOk 0 2 (write 1)) noDeps) refl refl refl .is;
-      W7 = message-does 5 4 2 paper.withLower _ (lower .holds) out room (paper.message 3 2 26 (PrepareOk 17 3 (write 2)) noDeps) refl refl refl .is;
-      W8 = two-out paper.cycle _ (second .holds) 0 1 1 1 refl refl refl;
-      W9 = two-out paper.chain _ (covered .holds) 2 1 0 1 refl refl refl;
+      W5-later = recover-does 7 4 2 (paper.joinedTable 13) _ (low .holds) out room 0 1 refl refl refl .is;
+      W5-last = recover-used-up 7 4 2 (paper.joinedTable 4_294_967_288) _ (last .holds) out room 0 1 refl refl refl;
+      W6-accept = message-does 5 4 2 paper.oneTold _ (one .holds) out room (paper.about 3 2 10 (PrepareOk 0 2 (write 1)) noDeps) refl refl refl .is;
+      W6-afresh = message-does 5 4 2 paper.oneTold _ (one .holds) out room (paper.about 3 2 10 (PrepareOk 0 1 (write 1)) noDeps) refl refl refl .is;
+      W6-owner = message-does 5 4 2 paper.ownerTold _ (owner .holds) out room (paper.about 3 2 10 (PrepareOk 0 2 (write 1)) noDeps) refl refl refl .is;
+      W7 = message-does 5 4 2 paper.lowerTold _ (lower .holds) out room (paper.about 3 2 26 (PrepareOk 17 3 (write 2)) noDeps) refl refl refl .is;
+      W8 = two-out paper.cycleTable _ (second .holds) 0 1 1 1 refl refl refl;
+      W9 = two-out paper.chainTable _ (covered .holds) 2 1 0 1 refl refl refl;
       W10 = settled-does 3 4 0 _ _ (third .holds) 2 1 0 2 refl refl;
     }
 
@@ -120,12 +120,12 @@ limits out =
     let three : Setup 3 4 = record { copies = refl; numbers = refl } in
     let blanks = blank-holds 3 4 three 0 (omega arith) in
     let room : List ℕ = replicate 256 0 in
-    let first = message-does 3 4 0 (blankTable 3 4 0) _ blanks room (omega arith) (told 0 (deps3 0 1 0)) refl refl refl in
-    let second = message-does 3 4 0 (putRecord 4 (blankTable 3 4 0) 0 1 _) _ (first .holds) room (omega arith) (told 1 (deps3 1 0 0)) refl refl refl in
+    let first = message-does 3 4 0 (blankTable 3 4 0) _ blanks room (omega arith) (commitOf 0 (deps3 0 1 0)) refl refl refl in
+    let second = message-does 3 4 0 (putRecord 4 (blankTable 3 4 0) 0 1 _) _ (first .holds) room (omega arith) (commitOf 1 (deps3 1 0 0)) refl refl refl in
     record {
       full = λ long.
           let asks = request-does 3 1 0 (blankTable 3 1 0) _ (blank-holds 3 1 (record { copies = refl; numbers = refl }) 0 (omega arith)) out long 2 7 100 refl (record { key = omega arith; edit = omega arith }) (omega arith) refl in
-          request-full 3 1 0 paper.used _ (asks .holds) out long 2 7 100 refl (omega arith) refl;
-      no-place = handed-does 3 4 0 paper.cycle _ (second .holds) [];
+          request-full 3 1 0 paper.usedTable _ (asks .holds) out long 2 7 100 refl (omega arith) refl;
+      no-place = handed-does 3 4 0 paper.cycleTable _ (second .holds) [];
       short = λ e. room-short 3 4 0 (blankTable 3 4 0) _ blanks out _ (omega (arith, e));
     }
