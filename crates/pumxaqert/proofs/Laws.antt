@@ -13,7 +13,7 @@ use Rattle.wire.specs.declared.Reading.{Reading}
 use Rattle.wire.specs.declared.Reading.the-variants as reading
 use Rattle.wire.specs.declared.Received.{Received}
 use Rattle.wire.specs.declared.Writing.{Writing}
-use Rattle.wire.specs.Calls.{readingNumber, wrote, writingNumber, writingCount}
+use Rattle.wire.specs.Calls.{readingNumber, Wrote, wrote, writingNumber, writingCount}
 use Rattle.order.specs.declared.Settling.the-variants as settling
 use Rattle.paper.specs.Command.{opNumber}
 use Rattle.paper.specs.declared.Command.{Command}
@@ -28,19 +28,25 @@ pub other-voted : (b : Body) → partsIn b .joined ≡ false → votedIn b ≡ o
 unfolding otherBallot
 other-voted b e = rw e
 
+-- what the reader ensures of its number and the fields, and the writer of its number, the count and the room
+abbrev pub Reads : Received → ℕ → List ℕ → Type 0
+Reads x r f = (r ≡ readingNumber (x .answer)) × (f ≡ readValues (x .answer) (x .message))
+
+abbrev pub Writes : Wrote → ℕ → ℕ → List ℕ → Type 0
+Writes x r k o = (r ≡ writingNumber (x .answer)) × ((k ≡ writingCount (x .answer)) × (o ≡ x .out))
+
 module _ {x y : Received} (e : x ≡ y) where
   answers : x .answer ≡ y .answer
   answers = ap (λ (z : Received). z .answer) e
 
-  pub read-valid : {f : List ℕ} → x .answer ≡ reading.Valid → f ≡ fieldsOf (x .message) → (0 ≡ readingNumber (y .answer)) × (f ≡ readValues (y .answer) (y .message))
+  pub read-valid : {f : List ℕ} → x .answer ≡ reading.Valid → f ≡ fieldsOf (x .message) → Reads y 0 f
   read-valid v ef =
       let q : reading.Valid ≡ y .answer = sym v ∙ answers in (
         ap readingNumber q,
         ef ∙ ap (λ (z : Received). fieldsOf (z .message)) e ∙ ap (λ (a : Reading). readValues a (y .message)) q,
       )
 
-  pub read-refused : (r : Refusal) {k : ℕ} {f : List ℕ} → x .answer ≡ reading.Refused r → k ≡ numberOf r → f ≡ replicate 18 0
-      → (k ≡ readingNumber (y .answer)) × (f ≡ readValues (y .answer) (y .message))
+  pub read-refused : (r : Refusal) {k : ℕ} {f : List ℕ} → x .answer ≡ reading.Refused r → k ≡ numberOf r → f ≡ replicate 18 0 → Reads y k f
   read-refused r v ek ef =
       let q : reading.Refused r ≡ y .answer = sym v ∙ answers in
       (ek ∙ ap readingNumber q, ef ∙ ap (λ (a : Reading). readValues a (y .message)) q)
@@ -60,8 +66,7 @@ message-none fs g em eg e =
 
 -- a written message, as numbers
 pub wrote-as : (n s c : ℕ) (out fs : List ℕ) {m : Message} {x : Writing} {o : List ℕ} → m ≡ messageOf fs → x ≡ wrote n s c out m .answer → o ≡ wrote n s c out m .out
-    → (y : Writing) → x ≡ y
-    → (writingNumber y ≡ writingNumber (wrote n s c out (messageOf fs) .answer)) × ((writingCount y ≡ writingCount (wrote n s c out (messageOf fs) .answer)) × (o ≡ wrote n s c out (messageOf fs) .out))
+    → (y : Writing) → x ≡ y → Writes (wrote n s c out (messageOf fs)) (writingNumber y) (writingCount y) o
 wrote-as n s c out fs em ex eo y e =
     let q = sym e ∙ ex ∙ ap (λ (k : Message). wrote n s c out k .answer) em in
     (ap writingNumber q, (ap writingCount q, eo ∙ ap (λ (k : Message). wrote n s c out k .out) em))

@@ -1,0 +1,292 @@
+-- A message is made of its fields, eighteen numbers of a message are its fields, and with that both round trips of the C calls:
+-- written fields read back equal, accepted bytes write back equal. Assumes nothing.
+use mathlib.Core.Path.{_≡_, refl, sym, ap, _∙_}
+use mathlib.Core.Bool.{Bool, true, false, _&&_, cond}
+use mathlib.Core.List.{List, [], _∷_, _++_}
+use Prim.Native.Nat.{ℕ, zero, suc, _+_, _%_, _^_, _≤_, _<_}
+use native.Mathlib.Omega.{arith}
+use lib.Dec.{eqb, ltb}
+use lib.ListN.{length, getD, take, drop}
+use lib.Seq.{ext-getD}
+use borrow.Author.Tests.{eqb-true, eq-eqb}
+use Rattle.numbers.specs.Num.{splice}
+use Rattle.codec.specs.Parts.{opOf, depsNumbers}
+use Rattle.codec.proofs.Laws.{opOf-opNumber, op-small, deps-are}
+use Rattle.paper.specs.Logic.{allBelow}
+use Rattle.paper.specs.Command.{opNumber}
+use Rattle.paper.specs.Setup.{setupOk}
+use Rattle.paper.specs.Fits.{CommandFits, DepsFit, CarriedFits, MessageFits}
+use Rattle.paper.specs.Message.{rowOf, partsIn, kindOf, noneCarried, commandCarried, joinedCarried, carriedIn, bodyOf, commandIn, votedIn, statusIn, joinedIn, noMessage}
+use Rattle.paper.specs.Valid.{valid}
+use Rattle.paper.proofs.Laws.{and-true, allBelow-at}
+use Rattle.paper.proofs.Numbers.{numberOf-pos}
+use Rattle.paper.proofs.Valid.{clauses-of}
+use Rattle.paper.specs.declared.Command.{Command}
+use Rattle.paper.specs.declared.Body.{Body}
+use Rattle.paper.specs.declared.Body.the-variants.{PreAccept, PreAcceptOk, Accept, AcceptOk, Commit, Prepare, PrepareOk, Nack}
+use Rattle.paper.specs.declared.Carried.{Carried}
+use Rattle.paper.specs.declared.Message.{Message}
+use Rattle.paper.specs.declared.Refusal.{Refusal}
+use Rattle.paper.specs.declared.Refusal.the-variants as why
+use Rattle.wire.specs.declared.Reading.{Reading}
+use Rattle.wire.specs.declared.Reading.the-variants as reading
+use Rattle.wire.specs.declared.Received.{Received}
+use Rattle.wire.specs.declared.Writing.{Writing}
+use Rattle.wire.specs.declared.Writing.the-variants as writing
+use Rattle.wire.specs.Wire.{framed, opFits, validBytes}
+use Rattle.wire.specs.Calls.{readMessage, Wrote, wrote, readingNumber, writingNumber, writingCount}
+use Rattle.wire.proofs.Laws.{framed-is}
+use Rattle.wire.proofs.Fits.{messageAt-fits}
+use Rattle.wire.proofs.Round.{written-read, read-written}
+use Rattle.pumxaqert.specs.Fields.{otherBallot, fieldsOf, readValues, commandFrom, bodyFrom, depsFrom, messageFrom, sameFields, messageOf}
+use Rattle.pumxaqert.proofs.Laws.{Reads, Writes}
+
+-- a number that fits its place is not cut
+whole8 : (x : ℕ) → x < 256 → x % 256 ≡ x
+whole8 x h = omega arith
+
+whole16 : (x : ℕ) → x < 256 ^ 2 → x % 65536 ≡ x
+whole16 x h = omega arith
+
+whole32 : (x : ℕ) → x < 256 ^ 4 → x % 4294967296 ≡ x
+whole32 x h = omega arith
+
+other-fits : (b : Body) → CarriedFits (carriedIn b) → otherBallot b < 256 ^ 4
+unfolding otherBallot
+other-fits b f = go (partsIn b .joined)
+  where
+    go : (t : Bool) → cond t (joinedIn b) (votedIn b) < 256 ^ 4
+    go true = f .joined
+    go false = f .voted
+
+-- a body is made of its kind and of what it carries, with one place for its other ballot
+body-back : (b : Body) → bodyFrom (kindOf b) (otherBallot b) (statusIn b) (commandIn b) ≡ b
+unfolding bodyFrom bodyOf otherBallot rowOf
+body-back (PreAccept k) = refl
+body-back PreAcceptOk = refl
+body-back (Accept k) = refl
+body-back AcceptOk = refl
+body-back (Commit k) = refl
+body-back Prepare = refl
+body-back (PrepareOk v t k) = refl
+body-back (Nack j) = refl
+
+same-own : (n : ℕ) (fs : List ℕ) → allBelow n (λ i. eqb (getD fs i 0) (getD fs i 0)) ≡ true
+unfolding allBelow
+same-own zero fs = refl
+same-own (suc n) fs = rw (eq-eqb (getD fs n 0) (getD fs n 0) refl) (same-own n fs)
+
+module _ (m : Message) (f : MessageFits m) where
+  command-back : commandFrom (fieldsOf m) ≡ commandIn (m .body)
+  unfolding commandFrom fieldsOf
+  command-back =
+      let c = commandIn (m .body) in
+      let o : opNumber (c .op) % 256 ≡ opNumber (c .op) = whole8 (opNumber (c .op)) (omega (arith, op-small (c .op))) in
+      let p : opOf (opNumber (c .op) % 256) ≡ c .op = ap opOf o ∙ opOf-opNumber (c .op) in
+      λ i. record { op = p i; key = whole32 (c .key) (f .body .command .key) i; edit = c .edit }
+
+  deps-back : depsFrom (fieldsOf m) ≡ m .deps
+  unfolding depsFrom fieldsOf
+  deps-back =
+      let w : (i : ℕ) → getD (m .deps) i 0 % 65536 ≡ getD (m .deps) i 0 = λ i. whole16 (getD (m .deps) i 0) (f .deps .each i) in
+      let e : depsFrom (fieldsOf m) ≡ depsNumbers (m .deps) = λ i. w 0 i ∷ w 1 i ∷ w 2 i ∷ w 3 i ∷ w 4 i ∷ w 5 i ∷ w 6 i ∷ [] in
+      e ∙ deps-are (m .deps) (f .deps)
+
+  -- a message that fits is made of its fields
+  pub fields-message : messageFrom (fieldsOf m) ≡ m
+  unfolding messageFrom fieldsOf
+  fields-message =
+      let b = m .body in
+      let v = whole32 (otherBallot b) (other-fits b (f .body)) in
+      let t = whole8 (statusIn b) (f .body .status) in
+      let e : bodyFrom (kindOf b) (otherBallot b % 4294967296) (statusIn b % 256) (commandFrom (fieldsOf m)) ≡ b =
+      (λ i. bodyFrom (kindOf b) (v i) (t i) (command-back i)) ∙ body-back b in
+      λ i. record {
+        from = whole8 (m .from) (f .from) i;
+        to = whole8 (m .to) (f .to) i;
+        owner = whole8 (m .owner) (f .owner) i;
+        number = whole16 (m .number) (f .number) i;
+        ballot = whole32 (m .ballot) (f .ballot) i;
+        body = e i;
+        deps = deps-back i;
+      }
+
+  pub fields-messageOf : messageOf (fieldsOf m) ≡ m
+  unfolding messageOf sameFields
+  fields-messageOf =
+      let q : sameFields (fieldsOf m) (fieldsOf (messageFrom (fieldsOf m))) ≡ true =
+      ap (λ (x : Message). sameFields (fieldsOf m) (fieldsOf x)) fields-message ∙ same-own 18 (fieldsOf m) in
+      rw q fields-message
+
+-- so fields tell messages apart
+pub fields-apart : (m k : Message) → MessageFits m → MessageFits k → fieldsOf m ≡ fieldsOf k → m ≡ k
+fields-apart m k f g e = sym (fields-message m f) ∙ ap messageFrom e ∙ fields-message k g
+
+fields-long : (m : Message) → length (fieldsOf m) ≡ 18
+unfolding fieldsOf
+fields-long m = refl
+
+sameFields-eq : (f g : List ℕ) → length f ≡ 18 → length g ≡ 18 → sameFields f g ≡ true → f ≡ g
+unfolding sameFields
+sameFields-eq f g p q h =
+    ext-getD 0 f g (p ∙ sym q) (λ i l. eqb-true _ _ (allBelow-at 18 (λ j. eqb (getD f j 0) (getD g j 0)) h i (omega arith)))
+
+-- eighteen numbers that are some message's are the fields of the message that they make
+pub message-fields : (fs : List ℕ) → length fs ≡ 18 → sameFields fs (fieldsOf (messageFrom fs)) ≡ true → fieldsOf (messageOf fs) ≡ fs
+unfolding messageOf
+message-fields fs l e = rw e (sym (sameFields-eq fs (fieldsOf (messageFrom fs)) l (fields-long (messageFrom fs)) e))
+
+-- what is made of numbers fits, as each is cut to its place
+joined-carried : (j : ℕ) → j < 256 ^ 4 → CarriedFits (joinedCarried j)
+joined-carried j h = record { voted = omega arith; status = omega arith; command = record { key = omega arith; edit = omega arith }; joined = h }
+
+none-carried : CarriedFits noneCarried
+none-carried = joined-carried 0 (omega arith)
+
+command-carried : (c : Command) → CommandFits c → CarriedFits (commandCarried c)
+command-carried c f = record { voted = omega arith; status = omega arith; command = f; joined = omega arith }
+
+body-fits : (x : Carried) → CarriedFits x → (k : ℕ) → CarriedFits (carriedIn (bodyOf k x))
+unfolding bodyOf
+body-fits x f zero = none-carried
+body-fits x f (suc zero) = command-carried (x .command) (f .command)
+body-fits x f (suc (suc zero)) = none-carried
+body-fits x f (suc (suc (suc zero))) = command-carried (x .command) (f .command)
+body-fits x f (suc (suc (suc (suc zero)))) = none-carried
+body-fits x f (suc (suc (suc (suc (suc zero))))) = command-carried (x .command) (f .command)
+body-fits x f (suc (suc (suc (suc (suc (suc zero)))))) = none-carried
+body-fits x f (suc (suc (suc (suc (suc (suc (suc zero))))))) = record { voted = f .voted; status = f .status; command = f .command; joined = omega arith }
+body-fits x f (suc (suc (suc (suc (suc (suc (suc (suc zero)))))))) = joined-carried (x .joined) (f .joined)
+body-fits x f (suc (suc (suc (suc (suc (suc (suc (suc (suc k))))))))) = none-carried
+
+cut8 : (x : ℕ) → x % 256 < 256
+cut8 x = omega arith
+
+cut16 : (x : ℕ) → x % 65536 < 256 ^ 2
+cut16 x = omega arith
+
+cut32 : (x : ℕ) → x % 4294967296 < 256 ^ 4
+cut32 x = omega arith
+
+deps-fit : (fs : List ℕ) → DepsFit (depsFrom fs)
+unfolding depsFrom
+deps-fit fs = record { seven = refl; each = each }
+  where
+    each : (i : ℕ) → getD (depsFrom fs) i 0 < 256 ^ 2
+    each zero = cut16 _
+    each (suc zero) = cut16 _
+    each (suc (suc zero)) = cut16 _
+    each (suc (suc (suc zero))) = cut16 _
+    each (suc (suc (suc (suc zero)))) = cut16 _
+    each (suc (suc (suc (suc (suc zero))))) = cut16 _
+    each (suc (suc (suc (suc (suc (suc zero)))))) = cut16 _
+    each (suc (suc (suc (suc (suc (suc (suc i))))))) = omega arith
+
+pub messageFrom-fits : (fs : List ℕ) → getD fs 10 0 < 256 ^ 8 → MessageFits (messageFrom fs)
+unfolding messageFrom bodyFrom commandFrom
+messageFrom-fits fs h = record {
+  from = cut8 (getD fs 1 0);
+  to = cut8 (getD fs 2 0);
+  owner = cut8 (getD fs 3 0);
+  number = cut16 (getD fs 4 0);
+  ballot = cut32 (getD fs 5 0);
+  body = body-fits _ (record {
+    voted = cut32 (getD fs 6 0);
+    status = cut8 (getD fs 7 0);
+    command = record { key = cut32 (getD fs 9 0); edit = h };
+    joined = cut32 (getD fs 6 0);
+  }) (getD fs 0 0);
+  deps = deps-fit fs;
+}
+
+-- no copy takes the message that numbers of none make: it is a Prepare at ballot 0
+none-valid : (n s c : ℕ) → valid n s c noMessage ≡ true → ⊥
+unfolding rowOf
+none-valid n s c h = let r : false ≡ true = clauses-of n s c noMessage h .recovery in let z : _≡_ {A = ℕ} 0 1 = cc in omega arith
+
+-- a count is answered for what its receiver takes
+module _ (n s c : ℕ) (out : List ℕ) (m : Message) (k : ℕ) (e : wrote n s c out m .answer ≡ writing.Bytes k) where
+  refused : {A : Type 0} (r : Refusal) → writing.Refused r ≡ writing.Bytes k → A
+  refused r h = let z : _≡_ {A = ℕ} 0 1 = cc in absurd (omega arith)
+
+  counted : valid n s (m .to) m ≡ true
+  unfolding wrote
+  counted = go (setupOk n s c) refl (ltb (length out) 256) refl (valid n s (m .to) m) refl
+    where
+      go : (a : Bool) → setupOk n s c ≡ a → (b : Bool) → ltb (length out) 256 ≡ b → (v : Bool) → valid n s (m .to) m ≡ v → valid n s (m .to) m ≡ true
+      go false p b q v r = refused why.Setup (rw p at e)
+      go true p true q v r = refused why.Room (rw (p, q) at e)
+      go true p false q false r = refused why.Message (rw (p, q, r) at e)
+      go true p false q true r = r
+
+-- so it is answered for fields of a message alone
+some-message : (n s c : ℕ) (out fs : List ℕ) (k : ℕ) → wrote n s c out (messageOf fs) .answer ≡ writing.Bytes k → sameFields fs (fieldsOf (messageFrom fs)) ≡ true
+unfolding messageOf
+some-message n s c out fs k h = go (sameFields fs (fieldsOf (messageFrom fs))) refl
+  where
+    go : (b : Bool) → sameFields fs (fieldsOf (messageFrom fs)) ≡ b → sameFields fs (fieldsOf (messageFrom fs)) ≡ true
+    go true e = e
+    go false e = absurd (none-valid n s 0 (counted n s c out noMessage k (rw e at h)))
+
+-- number 0 stands for a count, and for a message that was read
+writing-zero : (a : Writing) → 0 ≡ writingNumber a → a ≡ writing.Bytes (writingCount a)
+writing-zero (writing.Bytes k) e = refl
+writing-zero (writing.Refused r) e = absurd (omega (arith, numberOf-pos r))
+
+reading-zero : (a : Reading) → 0 ≡ readingNumber a → a ≡ reading.Valid
+reading-zero reading.Valid e = refl
+reading-zero (reading.Refused r) e = absurd (omega (arith, numberOf-pos r))
+
+to-is : (m : Message) (fs : List ℕ) → fieldsOf m ≡ fs → m .to ≡ getD fs 2 0
+unfolding fieldsOf
+to-is m fs e = ap (λ (l : List ℕ). getD l 2 0) e
+
+-- Written fields read back equal: where the writer answers a count, so many bytes of the room are read by the copy named in `to` as
+-- the fields that were given.
+pub written-fields-read : (n s c : ℕ) (out fs : List ℕ) (k : ℕ) (o : List ℕ) (r : ℕ) (gs : List ℕ) → length fs ≡ 18 → ((i : ℕ) → getD fs i 0 < 256 ^ 8)
+    → Writes (wrote n s c out (messageOf fs)) 0 k o → Reads (readMessage n s (getD fs 2 0) (take k o)) r gs → (r ≡ 0) × (gs ≡ fs)
+unfolding messageOf
+written-fields-read n s c out fs k o r gs l small (w0, (wk, wo)) (rn, rf) =
+    let m : Message = messageOf fs in
+    let e : wrote n s c out m .answer ≡ writing.Bytes k = writing-zero (wrote n s c out m .answer) w0 ∙ ap writing.Bytes (sym wk) in
+    let same = some-message n s c out fs k e in
+    let fits : MessageFits m = rw same (messageFrom-fits fs (small 10)) in
+    let back : fieldsOf m ≡ fs = message-fields fs l same in
+    let to : m .to ≡ getD fs 2 0 = to-is m fs back in
+    let x : readMessage n s (m .to) (take k (wrote n s c out m .out)) ≡ record { answer = reading.Valid; message = m } = written-read n s c out m k fits e in
+    let y : readMessage n s (getD fs 2 0) (take k o) ≡ record { answer = reading.Valid; message = m } = rw (← to, wo) x in
+    (rn ∙ ap (λ (z : Received). readingNumber (z .answer)) y, rf ∙ ap (λ (z : Received). readValues (z .answer) (z .message)) y ∙ back)
+
+-- what was read fits
+read-fits : (n s c : ℕ) (b : List ℕ) → ((i : ℕ) → getD b i 0 < 256) → readMessage n s c b .answer ≡ reading.Valid → MessageFits (readMessage n s c b .message)
+unfolding readMessage validBytes
+read-fits n s c b byte e = go (setupOk n s c) refl (validBytes n s c b) refl
+  where
+    unread : {A : Type 0} (r : Refusal) → reading.Refused r ≡ reading.Valid → A
+    unread r h = let z : _≡_ {A = ℕ} 0 1 = cc in absurd (omega arith)
+
+    go : (a : Bool) → setupOk n s c ≡ a → (v : Bool) → validBytes n s c b ≡ v → MessageFits (readMessage n s c b .message)
+    go false q v h = unread why.Setup (rw q at e)
+    go true q false h = unread why.Message (rw (q, h) at e)
+    go true q true h =
+        let p = and-true (framed b && opFits b) _ h .0 in
+        rw (q, h) (messageAt-fits b byte (framed-is b (and-true (framed b) (opFits b) p .0)))
+
+front : (l v : List ℕ) → splice l 0 v ≡ v ++ drop (length v) l
+unfolding splice
+front l v = let n : 0 + length v ≡ length v = omega arith in rw n
+
+-- Accepted bytes write back equal: given the fields that were read, the writer counts as many bytes as were read and writes them; the
+-- later ones of the room stay.
+pub accepted-bytes-written : (n s c d : ℕ) (b out fs : List ℕ) (r k : ℕ) (o : List ℕ) → ((i : ℕ) → getD b i 0 < 256) → setupOk n s d ≡ true → 256 ≤ length out
+    → Reads (readMessage n s c b) 0 fs → Writes (wrote n s d out (messageOf fs)) r k o → (r ≡ 0) × ((k ≡ length b) × (o ≡ b ++ drop (length b) out))
+accepted-bytes-written n s c d b out fs r k o byte p l (r0, rf) (wn, (wk, wo)) =
+    let m : Message = readMessage n s c b .message in
+    let e : readMessage n s c b .answer ≡ reading.Valid = reading-zero (readMessage n s c b .answer) r0 in
+    let f : fs ≡ fieldsOf m = rf ∙ ap (λ (a : Reading). readValues a m) e in
+    let q : messageOf fs ≡ m = ap messageOf f ∙ fields-messageOf m (read-fits n s c b byte e) in
+    let w : wrote n s d out (messageOf fs) ≡ record { answer = writing.Bytes (length b); out = splice out 0 b } =
+    ap (wrote n s d out) q ∙ read-written n s c d b out byte p l e in (
+      wn ∙ ap (λ (z : Wrote). writingNumber (z .answer)) w,
+      (wk ∙ ap (λ (z : Wrote). writingCount (z .answer)) w, wo ∙ ap (λ (z : Wrote). z .out) w ∙ front out b),
+    )

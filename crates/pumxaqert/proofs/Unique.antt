@@ -1,0 +1,72 @@
+-- No second result satisfies a contract of the C calls: each names every result as a function of what came in. Assumes nothing.
+use mathlib.Core.Path.{_≡_, sym, _∙_}
+use mathlib.Core.List.{List}
+use Prim.Native.Nat.{ℕ}
+use Rattle.wire.specs.Calls.{readMessage, wrote}
+use Rattle.table.specs.Calls.{blanked, blankedTable, judged, partStart, partLength, lengthOf, blankingNumber, judgingNumber}
+use Rattle.log.specs.Events.{Outcome, requested, received, recovered, nudged, answerNumber}
+use Rattle.order.specs.Calls.{settled, Handed, handed, settlingNumber, settlingValues, handingNumber, handingCount}
+use Rattle.pumxaqert.specs.Fields.{messageOf}
+use Rattle.pumxaqert.specs.Flat.{answerValues}
+use Rattle.pumxaqert.proofs.Laws.{Reads, Writes}
+
+pub pumxaqert-read-message-unique : (n s c : ℕ) (b : List ℕ) (r q : ℕ) (f g : List ℕ) → Reads (readMessage n s c b) r f → Reads (readMessage n s c b) q g
+    → (r ≡ q) × (f ≡ g)
+pumxaqert-read-message-unique n s c b r q f g x y = (x .0 ∙ sym (y .0), x .1 ∙ sym (y .1))
+
+pub pumxaqert-write-message-unique : (n s c : ℕ) (out fs : List ℕ) (r q k l : ℕ) (o p : List ℕ) → Writes (wrote n s c out (messageOf fs)) r k o
+    → Writes (wrote n s c out (messageOf fs)) q l p → (r ≡ q) × (k ≡ l) × (o ≡ p)
+pumxaqert-write-message-unique n s c out fs r q k l o p x y = (x .0 ∙ sym (y .0), x .1 .0 ∙ sym (y .1 .0), x .1 .1 ∙ sym (y .1 .1))
+
+-- what an event's call ensures of its number, the values, the table and the room
+abbrev Gives : Outcome → ℕ → List ℕ → List ℕ → List ℕ → Type 0
+Gives x r v t o = (r ≡ answerNumber (x .answer)) × ((v ≡ answerValues (x .answer)) × ((t ≡ x .table) × (o ≡ x .out)))
+
+module _ (r q : ℕ) (v w t u o p : List ℕ) where
+  abbrev Same : Type 0
+  Same = (r ≡ q) × (v ≡ w) × (t ≡ u) × (o ≡ p)
+
+  event-unique : (x : Outcome) → Gives x r v t o → Gives x q w u p → Same
+  event-unique x f g =
+      (f .0 ∙ sym (g .0), f .1 .0 ∙ sym (g .1 .0), f .1 .1 .0 ∙ sym (g .1 .1 .0), f .1 .1 .1 ∙ sym (g .1 .1 .1))
+
+  pub pumxaqert-request-unique : (n s c : ℕ) (table out : List ℕ) (op key edit : ℕ) → Gives (requested n s c table out op key edit) r v t o
+      → Gives (requested n s c table out op key edit) q w u p → Same
+  pumxaqert-request-unique n s c table out op key edit = event-unique (requested n s c table out op key edit)
+
+  pub pumxaqert-message-unique : (n s c : ℕ) (table out b : List ℕ) → Gives (received n s c table out b) r v t o → Gives (received n s c table out b) q w u p → Same
+  pumxaqert-message-unique n s c table out b = event-unique (received n s c table out b)
+
+  pub pumxaqert-recover-unique : (n s c : ℕ) (table out : List ℕ) (i j : ℕ) → Gives (recovered n s c table out i j) r v t o → Gives (recovered n s c table out i j) q w u p
+      → Same
+  pumxaqert-recover-unique n s c table out i j = event-unique (recovered n s c table out i j)
+
+  pub pumxaqert-nudge-unique : (n s c : ℕ) (table out : List ℕ) (i j : ℕ) → Gives (nudged n s c table out i j) r v t o → Gives (nudged n s c table out i j) q w u p → Same
+  pumxaqert-nudge-unique n s c table out i j = event-unique (nudged n s c table out i j)
+
+pub pumxaqert-settled-unique : (n s c : ℕ) (t : List ℕ) (o j r q : ℕ) (v w : List ℕ) → r ≡ settlingNumber (settled n s c t o j) → v ≡ settlingValues (settled n s c t o j)
+    → q ≡ settlingNumber (settled n s c t o j) → w ≡ settlingValues (settled n s c t o j) → (r ≡ q) × (v ≡ w)
+pumxaqert-settled-unique n s c t o j r q v w a b d e = (a ∙ sym d, b ∙ sym e)
+
+-- what the hand-out ensures of its number, the count, the table and the list
+abbrev Hands : Handed → ℕ → ℕ → List ℕ → List ℕ → Type 0
+Hands x r k t l = (r ≡ handingNumber (x .answer)) × ((k ≡ handingCount (x .answer)) × ((t ≡ x .table) × (l ≡ x .list)))
+
+pub pumxaqert-hand-out-unique : (n s c : ℕ) (table list : List ℕ) (r q k i : ℕ) (t u l m : List ℕ) → Hands (handed n s c table list) r k t l
+    → Hands (handed n s c table list) q i u m → (r ≡ q) × (k ≡ i) × (t ≡ u) × (l ≡ m)
+pumxaqert-hand-out-unique n s c table list r q k i t u l m f g =
+    (f .0 ∙ sym (g .0), f .1 .0 ∙ sym (g .1 .0), f .1 .1 .0 ∙ sym (g .1 .1 .0), f .1 .1 .1 ∙ sym (g .1 .1 .1))
+
+pub pumxaqert-blank-unique : (n s c : ℕ) (t : List ℕ) (r q : ℕ) (u v : List ℕ) → r ≡ blankingNumber (blanked n s c t) → u ≡ blankedTable n s c t
+    → q ≡ blankingNumber (blanked n s c t) → v ≡ blankedTable n s c t → (r ≡ q) × (u ≡ v)
+pumxaqert-blank-unique n s c t r q u v a b d e = (a ∙ sym d, b ∙ sym e)
+
+pub pumxaqert-judge-unique : (n s c : ℕ) (t : List ℕ) (r q : ℕ) → r ≡ judgingNumber (judged n s c t) → q ≡ judgingNumber (judged n s c t) → r ≡ q
+pumxaqert-judge-unique n s c t r q a b = a ∙ sym b
+
+pub pumxaqert-part-unique : (n s c : ℕ) (t : List ℕ) (o j r q k l : ℕ) → r ≡ partStart n s c t o j → k ≡ partLength n s c t o j → q ≡ partStart n s c t o j
+    → l ≡ partLength n s c t o j → (r ≡ q) × (k ≡ l)
+pumxaqert-part-unique n s c t o j r q k l a b d e = (a ∙ sym d, b ∙ sym e)
+
+pub pumxaqert-table-length-unique : (n s r q : ℕ) → r ≡ lengthOf n s → q ≡ lengthOf n s → r ≡ q
+pumxaqert-table-length-unique n s r q a b = a ∙ sym b
