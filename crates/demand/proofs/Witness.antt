@@ -99,6 +99,8 @@ pub record Larger : Type 0 where
   pub seven-two : Reached 7 1 (λ x. recordIn 1 (savedTable (x .copies 0)) 0 1 .vote .status ≡ 2)
   pub seven-slow : Reached 7 1 (λ x. Committed 7 1 x 0 0 1 (write 1) (deps 0 1 0))
   pub seven-perhaps : Reached 7 1 (λ x. Committed 7 1 x 4 0 1 (write 1) (deps 0 0 0))
+  pub seven-asks : Reached 7 1 (λ x. recordIn 1 (savedTable (x .copies 4)) 0 1 .phase ≡ 2)
+  pub seven-afresh : Reached 7 1 (λ x. Committed 7 1 x 4 0 1 (write 1) (deps 0 0 0))
 
 pub shown-bytes : Shown
 unfolding instanceOk
@@ -130,4 +132,6 @@ larger-bytes = let r = shown .1 in record {
   seven-two = holds-there 7 1 seven-one 0 (λ r. r .vote .status ≡ 2) refl (r .seven-two);
   seven-slow = commits 7 1 seven-one 0 (write 1) (deps 0 1 0) (omega arith) refl (r .seven-slow);
   seven-perhaps = commits 7 1 seven-one 4 (write 1) (deps 0 0 0) (omega arith) refl (r .seven-perhaps);
+  seven-asks = holds-there 7 1 seven-one 4 (λ r. r .phase ≡ 2) refl (r .seven-asks);
+  seven-afresh = commits 7 1 seven-one 4 (write 1) (deps 0 0 0) (omega arith) refl (r .seven-afresh);
 }

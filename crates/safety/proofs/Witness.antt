@@ -195,6 +195,14 @@ seven-perhaps =
     ask 0 (write 1) ∷ arrives 0 ∷ arrives 1 ∷ arrives 2 ∷ recovers 4 0 1 ∷ arrives 10 ∷ arrives 11 ∷ arrives 12 ∷ arrives 15 ∷ arrives 16 ∷ arrives 17 ∷ arrives 19 ∷ arrives 20 ∷ arrives 21
     ∷ arrives 24 ∷ arrives 25 ∷ arrives 26 ∷ []
 
+-- what two others took cannot have been fast: it is asked for anew
+seven-asks : List Line
+seven-asks = ask 0 (write 1) ∷ arrives 0 ∷ arrives 1 ∷ recovers 4 0 1 ∷ arrives 9 ∷ arrives 10 ∷ arrives 11 ∷ arrives 14 ∷ arrives 15 ∷ arrives 16 ∷ []
+
+seven-afresh : List Line
+seven-afresh =
+    seven-asks ++ arrives 18 ∷ arrives 19 ∷ arrives 20 ∷ arrives 23 ∷ arrives 24 ∷ arrives 25 ∷ arrives 27 ∷ arrives 28 ∷ arrives 29 ∷ arrives 32 ∷ arrives 33 ∷ arrives 34 ∷ []
+
 -- what was asked for fits the calls: key and edit are a u32 and a u64
 abbrev pub fitting : List (Happening Settling) → Bool
 fitting [] = true
@@ -246,10 +254,12 @@ pub record Larger : Type 0 where
   pub seven-two : Reached 7 1 (λ x. x .tables 0 0 1 .vote .status ≡ 2)
   pub seven-slow : Reached 7 1 (λ x. Committed x 0 0 1 (write 1) (deps 0 1 0))
   pub seven-perhaps : Reached 7 1 (λ x. Committed x 4 0 1 (write 1) (deps 0 0 0))
+  pub seven-asks : Reached 7 1 (λ x. x .tables 4 0 1 .phase ≡ 2)
+  pub seven-afresh : Reached 7 1 (λ x. Committed x 4 0 1 (write 1) (deps 0 0 0))
 
 pub shown : Shown × Larger
 unfolding fast slow out lost saved-edit told five-waits five-fast five-slow five-perhaps five-asks five-afresh seven-waits seven-fast seven-two seven-slow
-    seven-perhaps write deps put requestNumber lowestBlank isBlank sameVote sameCommand sameDeps allBelow onRequest
+    seven-perhaps seven-asks seven-afresh write deps put requestNumber lowestBlank isBlank sameVote sameCommand sameDeps allBelow onRequest
     Rattle.rules.specs.Request.request afresh others absent bitsBelow messagesFrom member valid firstFailing firstOf holdsOf rowOf ballotOk lead commandOk
     depsOk voteOk toldOk noneIsBlank instanceOk conflict differs onMessage byKind preAccept seenFrom seenEntry highest met interfere joinFrom
     onPreAcceptOk awaited collect preAcceptedBy fastEnough slowEnough someEnough matching different committing acceptingJoin accepting joinAll
@@ -277,5 +287,7 @@ shown = (
     seven-two = by-script 7 1 seven-two _ refl refl refl;
     seven-slow = by-script 7 1 seven-slow _ refl refl (record { status = refl; command = refl; deps = refl });
     seven-perhaps = by-script 7 1 seven-perhaps _ refl refl (record { status = refl; command = refl; deps = refl });
+    seven-asks = by-script 7 1 seven-asks _ refl refl refl;
+    seven-afresh = by-script 7 1 seven-afresh _ refl refl (record { status = refl; command = refl; deps = refl });
   },
 )
