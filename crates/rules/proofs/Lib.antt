@@ -1,5 +1,5 @@
+pub mod Pins
 pub mod Worked
 pub mod Rests
 pub mod Joins
 pub mod Codes
-pub mod Pins

@@ -3,11 +3,12 @@ use mathlib.Core.Path.{refl}
 use lib.Count.{ones}
 use Rattle.paper.specs.Logic.{allBelow}
 use Rattle.paper.specs.Instance.{instanceOk}
-use Rattle.paper.specs.Command.{sameCommand}
+use Rattle.paper.specs.Command.{sameCommand, interfere}
 use Rattle.paper.specs.Deps.{sameDeps, covers, joinFrom}
 use Rattle.paper.specs.Vote.{member}
-use Rattle.rules.specs.Sets.{bitsBelow, others, absent, lowestFrom, largestBelow}
+use Rattle.rules.specs.Sets.{bitsBelow, others, absent, lowestFrom, largestBelow, highest}
 use Rattle.rules.specs.Step.{collect, awaited, commitBack, nackBack}
+use Rattle.rules.specs.Seen.{met, seenEntry, seenFrom}
 use Rattle.rules.specs.Accepting.{joinAll, accepting, acceptingJoin}
 use Rattle.rules.specs.Afresh.{afresh}
 use Rattle.rules.specs.Committing.{committing}
@@ -25,7 +26,7 @@ use Rattle.rules.specs.Nudge.{again, nudge}
 use Rattle.rules.specs.Received.{byKind, conflict}
 use Rattle.rules.specs.Events.{put}
 use Rattle.rules.specs.Order.{everywhere, somewhere, firstOwner, firstNumber, coversIn, reachesIn, reaches, waitsFor, firstOpen, isSettled, candidate, nextOut, handOut}
-use Rattle.rules.specs.Pins.{Followers, Leads, Recoveries, Nudges, Orders}
+use Rattle.rules.specs.Pins.{Followers, Leads, Recoveries, Nudges, Sights, Orders}
 
 pub followers : Followers
 unfolding allBelow sameCommand sameDeps joinFrom commitBack nackBack preAccept accept commit differs prepare byKind conflict
@@ -120,6 +121,16 @@ nudges =
       idle-refused = refl;
       busy-taken = refl;
       committed-taken = refl;
+    }
+
+pub sights : Sights
+unfolding interfere highest met seenEntry seenFrom put
+sights =
+    record {
+      last-of-row = refl;
+      of-its-key = refl;
+      not-itself = refl;
+      committed-too = refl;
     }
 
 pub orders : Orders

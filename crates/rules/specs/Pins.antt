@@ -9,6 +9,8 @@ use Rattle.paper.specs.Command.{noop}
 use Rattle.paper.specs.Vote.{noVote}
 use Rattle.paper.specs.Deps.{noDeps}
 use Rattle.paper.specs.Message.{noMessage}
+use Rattle.paper.specs.declared.Op.the-variants.{Write}
+use Rattle.paper.specs.declared.Command.{Command}
 use Rattle.paper.specs.declared.Vote.{Vote}
 use Rattle.paper.specs.declared.Record.{Record}
 use Rattle.paper.specs.declared.Message.{Message}
@@ -16,7 +18,7 @@ use Rattle.paper.specs.declared.Body.{Body}
 use Rattle.paper.specs.declared.Body.the-variants.{PreAccept, PreAcceptOk, Accept, AcceptOk, Commit, Prepare, PrepareOk, Nack}
 use Rattle.rules.specs.declared.Step.{Step}
 use Rattle.rules.specs.declared.First.the-variants.{At, Nowhere}
-use Rattle.rules.specs.Seen.{Records}
+use Rattle.rules.specs.Seen.{Records, seen}
 use Rattle.rules.specs.Request.{request}
 use Rattle.rules.specs.Recover.{recover}
 use Rattle.rules.specs.Nudge.{nothingToNudge, nudge}
@@ -199,6 +201,24 @@ pub record Nudges : Type 0 where
   pub idle-refused : nothingToNudge (held 25 (vote 5 9 3 each)) ≡ true
   pub busy-taken : nothingToNudge (busy 25 (vote 5 9 2 each) 1 6 (replicate 7 noVote)) ≡ false
   pub committed-taken : nothingToNudge (held 25 (vote 5 9 4 each)) ≡ false
+
+-- votes for key 7 in every status, one for key 8, and one of a copy that a group of three has not
+abbrev pub otherKey : Command
+otherKey = record { op = Write; key = 8; edit = 5 }
+
+abbrev pub sights : Records
+sights =
+    put (put (put (put (put blanks 0 1 (held 0 (vote 5 0 1 noDeps))) 0 3 (held 0 (vote 5 0 2 noDeps))) 1 1 (held 0 (vote 5 0 3 noDeps)))
+    1 2 (held 0 (record { voted = 0; status = 2; command = otherKey; deps = noDeps })))
+    3 1 (held 0 (vote 5 0 4 noDeps))
+
+pub record Sights : Type 0 where
+  -- the last of a row, and none of another key or of no copy
+  pub last-of-row : seen 3 4 sights 0 1 (write 6) ≡ deps3 3 1 0
+  pub of-its-key : seen 3 4 sights 2 1 otherKey ≡ deps3 0 2 0
+  -- the instance itself does not count
+  pub not-itself : seen 3 4 sights 0 3 (write 6) ≡ deps3 1 1 0
+  pub committed-too : seen 5 4 sights 0 1 (write 6) ≡ 3 ∷ 1 ∷ 0 ∷ 1 ∷ 0 ∷ 0 ∷ 0 ∷ []
 
 -- a command with these dependencies that is voted for and open
 abbrev pub ongoing : List ℕ → Record
