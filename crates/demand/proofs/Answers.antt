@@ -98,6 +98,9 @@ pub record Holds (n s c : ℕ) (t : List ℕ) (u : Records) : Type 0 where
 pub blank-holds : (n s : ℕ) → Setup n s → (c : ℕ) → c < n → Holds n s c (blankTable n s c) (λ o j. blank)
 blank-holds n s h c l = record { kept = blank-table n s h c l; is = blank-records n s h c }
 
+held-here : (n s c : ℕ) (t : List ℕ) (u : Records) → Holds n s c t u → (o j : ℕ) → instanceOk n s o j ≡ true → recordIn s t o j ≡ u o j
+held-here n s c t u h o j i = sym (at-range n s t o j i) ∙ ap (λ (v : Records). v o j) (h .is)
+
 -- what an event answers, and what the table holds then
 pub record Does (n s c : ℕ) (t out : List ℕ) (u : Records) (x : Outcome) (o j : ℕ) (z : Step) : Type 0 where
   pub is : x ≡ acted s t out o j z
@@ -119,9 +122,6 @@ module _ (n s c : ℕ) (t : List ℕ) (u : Records) (h : Holds n s c t u) (out :
           is = put-records n s c t (h .kept) o j i (z .entry) k ∙ ap (λ (v : Records). put v o j (z .entry)) (h .is);
         };
       }
-
-  here : (o j : ℕ) → instanceOk n s o j ≡ true → recordIn s t o j ≡ u o j
-  here o j i = sym (at-range n s t o j i) ∙ ap (λ (v : Records). v o j) (h .is)
 
   pub request-does : (op key edit : ℕ) → opTaken op ≡ true → CommandFits (commandOf op key edit) → c < n → leb (requestNumber s c u) s ≡ true
       → Does n s c t out u (requested n s c t out op key edit) c (requestNumber s c u) (onRequest n s c u (commandOf op key edit))
@@ -157,7 +157,7 @@ module _ (n s c : ℕ) (t : List ℕ) (u : Records) (h : Holds n s c t u) (out :
       let same : onMessage n s c (recordsIn s t) m ≡ onMessage n s c u m =
       message-alike n s (recordsIn s t) (records n s t) (alike n s t) c m i ∙ ap (λ (w : Records). onMessage n s c w m) (h .is) in
       let taken : received n s c t out (messageBytes m) ≡ acted s t out (m .owner) (m .number) (onMessage n s c (recordsIn s t) m) =
-      open-gate _ ∙ receive-open n s c t out (messageBytes m) setup ∙ go _ _ (r .is) (r .taken) (ap (λ (w : Record). refused10 w m) (here (m .owner) (m .number) i) ∙ new) in
+      open-gate _ ∙ receive-open n s c t out (messageBytes m) setup ∙ go _ _ (r .is) (r .taken) (ap (λ (w : Record). refused10 w m) (held-here n s c t u h (m .owner) (m .number) i) ∙ new) in
       does _ (m .owner) (m .number) (onMessage n s c u m) i (rw (← same) (message-event n s c setup (recordsIn s t) (held n s c t (h .kept)) m v fits .held))
       (taken ∙ ap (acted s t out (m .owner) (m .number)) same)
     where
@@ -171,8 +171,8 @@ module _ (n s c : ℕ) (t : List ℕ) (u : Records) (h : Holds n s c t u) (out :
       → Does n s c t out u (recovered n s c t out o j) o j (onRecover n c u o j)
   recover-does o j i fresh more =
       let setup = setup-of n s c t (h .kept .setup) in
-      let p : isCommitted (recordIn s t o j) ≡ false = rw (here o j i) fresh in
-      let q : outOfBallots (recordIn s t o j) ≡ false = rw (here o j i) more in
+      let p : isCommitted (recordIn s t o j) ≡ false = rw (held-here n s c t u h o j i) fresh in
+      let q : outOfBallots (recordIn s t o j) ≡ false = rw (held-here n s c t u h o j i) more in
       let same : onRecover n c (recordsIn s t) o j ≡ onRecover n c u o j =
       recover-alike n s (recordsIn s t) (records n s t) (alike n s t) c o j i ∙ ap (λ (v : Records). onRecover n c v o j) (h .is) in
       does _ o j (onRecover n c u o j) i (rw (← same) (recover-event n s c setup (recordsIn s t) (held n s c t (h .kept)) o j i p q .held))
@@ -180,8 +180,8 @@ module _ (n s c : ℕ) (t : List ℕ) (u : Records) (h : Holds n s c t u) (out :
 
   pub recover-used-up : (o j : ℕ) → instanceOk n s o j ≡ true → isCommitted (u o j) ≡ false → outOfBallots (u o j) ≡ true → recovered n s c t out o j ≡ refuse why.BallotsUsedUp t out
   recover-used-up o j i fresh up =
-      let p : isCommitted (recordIn s t o j) ≡ false = rw (here o j i) fresh in
-      let q : outOfBallots (recordIn s t o j) ≡ true = rw (here o j i) up in
+      let p : isCommitted (recordIn s t o j) ≡ false = rw (held-here n s c t u h o j i) fresh in
+      let q : outOfBallots (recordIn s t o j) ≡ true = rw (held-here n s c t u h o j i) up in
       open-gate _ ∙ sym (recover-7 n s c t out o j i p q)
 
 -- too little room; the settled question, and a hand-out a place at a time
@@ -194,9 +194,6 @@ module _ (n s c : ℕ) (t : List ℕ) (u : Records) (h : Holds n s c t u) where
 
   sound-here : judging.Sound ≡ judged n s c t
   sound-here = sym (sound-judged n s c t (h .kept))
-
-  same : (o j : ℕ) → instanceOk n s o j ≡ true → recordIn s t o j ≡ u o j
-  same o j i = sym (at-range n s t o j i) ∙ ap (λ (v : Records). v o j) (h .is)
 
   pub settled-does : (o j p k : ℕ) → instanceOk n s o j ≡ true → firstOpen n s u o j ≡ At p k → settled n s c t o j ≡ settling.Waits p k
   settled-does o j p k i e =
@@ -221,7 +218,7 @@ module _ (n s c : ℕ) (t : List ℕ) (u : Records) (h : Holds n s c t u) where
   hands room o j e =
       let a : nextOut n s (recordsIn s t) ≡ At o j = next-here ∙ e in
       let f : Found n s (candidate n s (recordsIn s t)) (At o j) = subst (Found n s (candidate n s (recordsIn s t))) a (nextOut-found n s (recordsIn s t)) in
-      let m : markedIn s t o j ≡ putRecord s t o j (marked (u o j)) = ap (λ (r : Record). putRecord s t o j (marked r)) (same o j (f .0)) in
+      let m : markedIn s t o j ≡ putRecord s t o j (marked (u o j)) = ap (λ (r : Record). putRecord s t o j (marked r)) (held-here n s c t u h o j (f .0)) in
       record {
         table = next-table n s c t (h .kept) o j f room a ∙ ap (handedTable room n s) m;
         codes = next-codes n s c t (h .kept) o j f room a ∙ ap (λ (w : List ℕ). codeOf o j ∷ handedCodes room n s w) m;
