@@ -14,7 +14,7 @@ use Rattle.paper.specs.Ballot.{ballotOk, lead}
 use Rattle.paper.specs.Vote.{noVote, blank, sameVote, noneIsBlank, voteOk, toldOk, addedOk, member}
 use Rattle.paper.specs.Sound.{collectedOk, replyOk, repliesOk, rangesOk, votesOk, preparingOk, proposingOk, busyOk, phasesOk, soundRecord}
 use Rattle.paper.specs.Message.{rowOf}
-use Rattle.paper.specs.Valid.{Clause, FromRange, ToRange, OwnerRange, NumberRange, BallotRange, RecoveryBallot, ToHere, FromAnother, FromLead, ToLead, VotedRange, ToldBelow, StatusRange, ToldVoted, FreshOp, ToldOp, KeyRange, EditRange, EntryRange, ToldEntry, JoinedRange, JoinedAbove, DepsCarried, Failing, none, first, holdsOf, firstOf, firstFailing}
+use Rattle.paper.specs.Valid.{Clause, FromRange, ToRange, OwnerRange, NumberRange, BallotRange, RecoveryBallot, ToHere, FromAnother, FromLead, ToLead, VotedRange, ToldBelow, StatusRange, ToldVoted, OpRange, FreshOp, ToldOp, KeyRange, EditRange, EntryRange, ToldEntry, JoinedRange, JoinedAbove, DepsCarried, Failing, none, first, holdsOf, entryClauses, firstOf, firstFailing, opIn}
 use Rattle.paper.specs.declared.Op.{Op}
 use Rattle.paper.specs.declared.Op.the-variants.{Noop, Read, Write}
 use Rattle.paper.specs.declared.Command.{Command}
@@ -72,9 +72,13 @@ about o j m = record { from = m .from; to = m .to; owner = o; number = j; ballot
 abbrev toward : ℕ → Message → Message
 toward q m = record { from = m .from; to = q; owner = m .owner; number = m .number; ballot = m .ballot; body = m .body; deps = m .deps }
 
+-- what copy c of n, with s numbers each, says of a message by value
+abbrev given : ℕ → ℕ → ℕ → Message → Failing
+given n s c m = firstFailing n s c (opIn m) m
+
 -- what copy 2 says of it
 abbrev takes : Message → Failing
-takes m = firstFailing 5 4 2 m
+takes m = given 5 4 2 m
 
 abbrev commitAt : ℕ → Message
 commitAt b = message 0 b (Commit write) noDeps
@@ -97,7 +101,7 @@ nackOf j = message 0 10 (Nack j) noDeps
 
 validLines : List (Line Failing)
 validLines =
-    -- a firstFailing message of each kind
+    -- a valid message of each kind
     passes (takes (message 1 0 (PreAccept write) (entry 3 4)))
     ∷ passes (takes (message 0 10 PreAcceptOk (entry 3 4)))
     ∷ passes (takes (message 1 9 (Accept write) (entry 3 4)))
@@ -109,11 +113,11 @@ validLines =
     -- fromRange: from below N
     ∷ passes (takes (commitFrom 4))
     ∷ breaks FromRange (takes (commitFrom 5))
-    ∷ breaks FromRange (firstFailing 3 4 2 (commitFrom 3))
-    ∷ passes (firstFailing 7 4 2 (commitFrom 6))
+    ∷ breaks FromRange (given 3 4 2 (commitFrom 3))
+    ∷ passes (given 7 4 2 (commitFrom 6))
     -- toRange: to below N
-    ∷ passes (firstFailing 5 4 4 (toward 4 (commitFrom 0)))
-    ∷ breaks ToRange (firstFailing 5 4 5 (toward 5 (commitFrom 0)))
+    ∷ passes (given 5 4 4 (toward 4 (commitFrom 0)))
+    ∷ breaks ToRange (given 5 4 5 (toward 5 (commitFrom 0)))
     -- ownerRange: owner below N
     ∷ passes (takes (about 4 3 (commitFrom 0)))
     ∷ breaks OwnerRange (takes (about 5 3 (commitFrom 0)))
@@ -131,15 +135,15 @@ validLines =
     ∷ breaks BallotRange (takes (commitAt 13))
     ∷ breaks BallotRange (takes (commitAt 15))
     ∷ passes (takes (commitAt 16))
-    ∷ breaks BallotRange (firstFailing 3 4 2 (commitAt 11))
-    ∷ passes (firstFailing 7 4 2 (commitAt 14))
+    ∷ breaks BallotRange (given 3 4 2 (commitAt 11))
+    ∷ passes (given 7 4 2 (commitAt 14))
     -- recoveryBallot: kinds 6 and 7 at ballot 0
     ∷ breaks RecoveryBallot (takes (message 1 0 Prepare noDeps))
     ∷ passes (takes (message 0 8 Prepare noDeps))
     ∷ breaks RecoveryBallot (takes (about 2 3 (message 0 0 (PrepareOk 0 0 noop) noDeps)))
     ∷ passes (takes (about 2 3 (message 0 0 PreAcceptOk noDeps)))
     -- toHere: another copy's
-    ∷ breaks ToHere (firstFailing 5 4 3 (commitFrom 0))
+    ∷ breaks ToHere (given 5 4 3 (commitFrom 0))
     -- fromAnother: its own
     ∷ breaks FromAnother (takes (commitFrom 2))
     -- fromLead: kinds 1, 3, 6, at ballot 0 from the owner
@@ -165,9 +169,9 @@ validLines =
     ∷ passes (takes (commitWith (entry 4 4)))
     ∷ breaks (EntryRange 5) (takes (commitWith (entry 5 1)))
     ∷ breaks (EntryRange 6) (takes (commitWith (entry 6 1)))
-    ∷ breaks (EntryRange 3) (firstFailing 3 4 2 (commitWith (entry 3 1)))
-    ∷ passes (firstFailing 7 4 2 (commitWith (entry 6 4)))
-    ∷ breaks (EntryRange 6) (firstFailing 7 4 2 (commitWith (entry 6 5)))
+    ∷ breaks (EntryRange 3) (given 3 4 2 (commitWith (entry 3 1)))
+    ∷ passes (given 7 4 2 (commitWith (entry 6 4)))
+    ∷ breaks (EntryRange 6) (given 7 4 2 (commitWith (entry 6 5)))
     -- joinedRange: the Nack's ballot
     ∷ passes (takes (nackOf 12))
     ∷ breaks JoinedRange (takes (nackOf 13))
@@ -202,21 +206,23 @@ validLines =
     ∷ breaks JoinedAbove (takes (nackOf 10))
     ∷ breaks JoinedAbove (takes (nackOf 0))
     -- of several, the first: the head's ranges, the way, the body's fields in the order of the bytes
-    ∷ breaks FromRange (firstFailing 5 4 3 (toward 5 (commitFrom 5)))
-    ∷ breaks BallotRange (firstFailing 5 4 3 (about 1 3 (commitAt 1)))
-    ∷ breaks ToHere (firstFailing 5 4 3 (message 3 0 (PreAccept noop) (entry 5 1)))
+    ∷ breaks FromRange (given 5 4 3 (toward 5 (commitFrom 5)))
+    ∷ breaks BallotRange (given 5 4 3 (about 1 3 (commitAt 1)))
+    ∷ breaks ToHere (given 5 4 3 (message 3 0 (PreAccept noop) (entry 5 1)))
     ∷ breaks FromLead (takes (message 3 0 (PreAccept noop) (entry 5 1)))
     ∷ breaks FreshOp (takes (message 1 0 (PreAccept (command Noop 1 1)) (entry 5 1)))
     ∷ breaks VotedRange (takes (tells 21 4 (command Noop 1 1) (entry 5 1)))
     ∷ breaks StatusRange (takes (tells 9 4 (command Noop 1 1) (entry 5 1)))
     ∷ breaks KeyRange (takes (tells 9 3 (command Noop 1 1) (entry 5 1)))
     ∷ breaks (ToldEntry 0) (takes (tells 0 0 noop (1 ∷ 5 ∷ 0 ∷ 0 ∷ 0 ∷ 0 ∷ 0 ∷ [])))
-    ∷ breaks JoinedRange (takes (message 0 10 (Nack 1) (entry 3 4)))
+    ∷ breaks OpRange (firstFailing 5 4 2 3 (message 1 0 (PreAccept (command Noop 1 1)) (entry 5 1)))
+    ∷ breaks DepsCarried (takes (message 5 10 (Nack 1) (entry 3 4)))
+    ∷ breaks JoinedRange (takes (nackOf 1))
     ∷ []
 
 -- "Valid": each line as the paper has it
 valid-clauses : computedOf validLines ≡ writtenOf validLines
-unfolding computedOf writtenOf validLines firstFailing firstOf holdsOf rowOf ballotOk lead sameDeps allBelow
+unfolding computedOf writtenOf validLines entryClauses firstFailing firstOf holdsOf rowOf ballotOk lead sameDeps allBelow
 valid-clauses = refl
 
 -- Records: of 1.3, at copy 2 of five, which leads ballots 10 and 18.

@@ -2,6 +2,7 @@ pub mod Laws
 pub mod Numbers
 pub mod Bodies
 pub mod Valid
+pub mod First
 pub mod Clauses
 pub mod Deps
 pub mod Widest

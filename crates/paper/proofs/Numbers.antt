@@ -1,29 +1,37 @@
--- The paper's number tells any two refusals apart, and none is 0. Assumes nothing.
+-- The paper's number, with the offset beside it, tells any two refusals apart; none is 0, and none is 3. Assumes nothing.
 use Prim.Native.Nat.{ℕ, _≤_}
-use mathlib.Core.Path.{_≡_, refl, sym, ap, _∙_}
+use mathlib.Core.Path.{_≡_, refl, sym, ap₂, _∙_}
 use mathlib.Core.Bool.{cond}
 use native.Mathlib.Omega.{arith}
 use lib.Dec.{eqb}
-use Rattle.paper.specs.Refusal.{numberOf}
+use Rattle.paper.specs.Refusal.{numberOf, offsetIn}
 use Rattle.paper.specs.declared.Refusal.{Refusal}
-use Rattle.paper.specs.declared.Refusal.the-variants.{Setup, Unsound, Room, Message, Op, Instance, RecoverCommitted, NudgeIdle, BallotsUsedUp, NoBlank, OtherCommit}
+use Rattle.paper.specs.declared.Refusal.the-variants.{Setup, Unsound, Room, UnknownKind, WrongLength, WrongWay, WrongLead, WrongField, Op, Instance, RecoverCommitted, NudgeIdle, BallotsUsedUp, NoBlank, OtherCommit}
 
--- the refusal of a number
-refusalOf : ℕ → Refusal
-refusalOf k =
+-- the refusal of a number and an offset
+refusalOf : ℕ → ℕ → Refusal
+refusalOf k a =
     cond (eqb k 1) Setup
     (cond (eqb k 11) Unsound
     (cond (eqb k 2) Room
-    (cond (eqb k 3) Message
+    (cond (eqb k 31) UnknownKind
+    (cond (eqb k 32) WrongLength
+    (cond (eqb k 33) WrongWay
+    (cond (eqb k 34) WrongLead
+    (cond (eqb k 35) (WrongField a)
     (cond (eqb k 4) Op
-    (cond (eqb k 6) Instance (cond (eqb k 8) RecoverCommitted (cond (eqb k 9) NudgeIdle (cond (eqb k 7) BallotsUsedUp (cond (eqb k 5) NoBlank OtherCommit)))))))))
+    (cond (eqb k 6) Instance (cond (eqb k 8) RecoverCommitted (cond (eqb k 9) NudgeIdle (cond (eqb k 7) BallotsUsedUp (cond (eqb k 5) NoBlank OtherCommit)))))))))))))
 
-back : (r : Refusal) → refusalOf (numberOf r) ≡ r
+back : (r : Refusal) → refusalOf (numberOf r) (offsetIn r) ≡ r
 unfolding refusalOf
 back Setup = refl
 back Unsound = refl
 back Room = refl
-back Message = refl
+back UnknownKind = refl
+back WrongLength = refl
+back WrongWay = refl
+back WrongLead = refl
+back (WrongField k) = refl
 back Op = refl
 back Instance = refl
 back RecoverCommitted = refl
@@ -32,14 +40,36 @@ back BallotsUsedUp = refl
 back NoBlank = refl
 back OtherCommit = refl
 
-pub numberOf-apart : (a b : Refusal) → numberOf a ≡ numberOf b → a ≡ b
-numberOf-apart a b e = sym (back a) ∙ ap refusalOf e ∙ back b
+pub numberOf-apart : (a b : Refusal) → numberOf a ≡ numberOf b → offsetIn a ≡ offsetIn b → a ≡ b
+numberOf-apart a b e o = sym (back a) ∙ ap₂ refusalOf e o ∙ back b
+
+-- 3 is no refusal's number
+pub three-none : (r : Refusal) → numberOf r ≡ 3 → ⊥
+three-none Setup e = omega arith
+three-none Unsound e = omega arith
+three-none Room e = omega arith
+three-none UnknownKind e = omega arith
+three-none WrongLength e = omega arith
+three-none WrongWay e = omega arith
+three-none WrongLead e = omega arith
+three-none (WrongField k) e = omega arith
+three-none Op e = omega arith
+three-none Instance e = omega arith
+three-none RecoverCommitted e = omega arith
+three-none NudgeIdle e = omega arith
+three-none BallotsUsedUp e = omega arith
+three-none NoBlank e = omega arith
+three-none OtherCommit e = omega arith
 
 pub numberOf-pos : (r : Refusal) → 1 ≤ numberOf r
 numberOf-pos Setup = omega arith
 numberOf-pos Unsound = omega arith
 numberOf-pos Room = omega arith
-numberOf-pos Message = omega arith
+numberOf-pos UnknownKind = omega arith
+numberOf-pos WrongLength = omega arith
+numberOf-pos WrongWay = omega arith
+numberOf-pos WrongLead = omega arith
+numberOf-pos (WrongField k) = omega arith
 numberOf-pos Op = omega arith
 numberOf-pos Instance = omega arith
 numberOf-pos RecoverCommitted = omega arith

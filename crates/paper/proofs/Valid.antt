@@ -1,17 +1,21 @@
 -- A valid message is one of which every clause holds; those of the vote that it carries taken together, as records have them.
 -- Assumes nothing.
-use Prim.Native.Nat.{ℕ, _<_}
-use mathlib.Core.Path.{_≡_, refl}
+use Prim.Native.Nat.{ℕ, zero, suc, _+_, _≤_, _<_}
+use mathlib.Core.Path.{_≡_, refl, sym, _∙_}
 use mathlib.Core.Bool.{Bool, true, false, _&&_, cond}
-use mathlib.Core.List.{List, [], _∷_}
+use mathlib.Core.List.{List, [], _∷_, _++_}
 use native.Mathlib.Omega.{arith}
 use Rattle.paper.specs.Logic.{implies, allBelow}
-use Rattle.paper.specs.Command.{keyOk, editOk, commandOk}
+use Rattle.paper.specs.Command.{opNumber, keyOk, editOk, commandOk}
 use Rattle.paper.specs.Deps.{entryOk, depsOk}
 use Rattle.paper.specs.Vote.{votedOk, statusOk, voteOk, noneVoted, noneOp, noneEntry, noneIsBlank, toldOk}
-use Rattle.paper.specs.Message.{rowIn, voteIn, joinedIn}
-use Rattle.paper.specs.Valid.{fromRange, toRange, ownerRange, numberRange, ballotRange, recoveryBallot, toHere, fromAnother, fromLead, toLead, toldBelow, freshOp, joinedRange, joinedAbove, depsCarried, Clause, first, holdsOf, holds, clauses, firstOf, firstFailing, isNone, valid}
+use Rattle.paper.specs.Message.{rowIn, commandIn, voteIn, joinedIn}
+use Rattle.paper.specs.Valid.{fromRange, toRange, ownerRange, numberRange, ballotRange, recoveryBallot, toHere, fromAnother, fromLead, toLead, toldBelow, freshOp, joinedRange, joinedAbove, depsCarried, opRange, Clause, DepsCarried, EntryRange, ToldEntry, headClauses, wayClauses, toldClauses, commandClauses, entryClauses, depsClauses, joinedClauses, Failing, none, first, holdsOf, holds, clauses, firstOf, firstFailing, isNone, opIn, valid, verdictOf, verdictOn}
+use Rattle.paper.specs.declared.Op.{Op}
+use Rattle.paper.specs.declared.Op.the-variants.{Noop, Read, Write}
 use Rattle.paper.specs.declared.Vote.{Vote}
+use Rattle.paper.specs.declared.Verdict.{Verdict}
+use Rattle.paper.specs.declared.Verdict.the-variants as verdict
 use Rattle.paper.specs.declared.Row.{Row}
 use Rattle.paper.specs.declared.Message.{Message}
 use Rattle.paper.proofs.Laws.{and-true, allBelow-at}
@@ -35,8 +39,19 @@ unfolding firstOf
 of-all f [] h = refl
 of-all f (x ∷ xs) (e, h) = rw e (of-all f xs h)
 
+joint : (f : Clause → Bool) (xs ys : List Clause) → All f xs → All f ys → All f (xs ++ ys)
+joint f [] ys p q = q
+joint f (x ∷ xs) ys (a, p) q = (a, joint f xs ys p q)
+
+entries-in : (f : Clause → Bool) → ((i : ℕ) → i < 7 → f (EntryRange i) ≡ true) → ((i : ℕ) → i < 7 → f (ToldEntry i) ≡ true) → (k i : ℕ) → i + k ≤ 7
+    → All f (entryClauses k i)
+unfolding entryClauses
+entries-in f r t zero i l = tt
+entries-in f r t (suc k) i l = (r i (omega arith), (t i (omega arith), entries-in f r t k (i + 1) (omega arith)))
+
 -- the clauses of a message with row w that carries the vote v and the joined ballot j
 pub record Clauses (n s c : ℕ) (w : Row) (m : Message) (v : Vote) (j : ℕ) : Type 0 where
+  pub carried : depsCarried w m ≡ true
   pub from : fromRange n m ≡ true
   pub to : toRange n m ≡ true
   pub owner : ownerRange n m ≡ true
@@ -53,7 +68,6 @@ pub record Clauses (n s c : ℕ) (w : Row) (m : Message) (v : Vote) (j : ℕ) : 
   pub fresh : freshOp w m v ≡ true
   pub joined : joinedRange n j ≡ true
   pub above : joinedAbove w m j ≡ true
-  pub carried : depsCarried w m ≡ true
 
 -- a test of each of the seven places
 seven : (f : ℕ → Bool) → f 0 ≡ true → f 1 ≡ true → f 2 ≡ true → f 3 ≡ true → f 4 ≡ true → f 5 ≡ true → f 6 ≡ true → allBelow 7 f ≡ true
@@ -75,14 +89,15 @@ asked : (t b : Bool) → implies t b ≡ true → t ≡ true → b ≡ true
 asked true b h e = h
 asked false b h e = absurd (let z : _≡_ {A = ℕ} 0 1 = cc in omega arith)
 
-module _ (n s c : ℕ) (w : Row) (m : Message) (v : Vote) (j : ℕ) where
-  all-clauses : All (holdsOf n s c w m v j) clauses → Clauses n s c w m v j
-  unfolding holdsOf depsOk
+module _ (n s c : ℕ) (w : Row) (m : Message) (v : Vote) (o j : ℕ) where
+  all-clauses : All (holdsOf n s c w m v o j) clauses → Clauses n s c w m v j
+  unfolding holdsOf depsOk entryClauses
   all-clauses h =
-      let (h1, (h2, (h3, (h4, (h5, (h6, (w1, (w2, (w3, (w4, b)))))))))) = h in
-      let (v1, (v2, (v3, (v4, (o1, (o2, (k1, (k2, d)))))))) = b in
-      let (r0, (t0, (r1, (t1, (r2, (t2, (r3, (t3, (r4, (t4, (r5, (t5, (r6, (t6, (j1, (j2, (j3, z))))))))))))))))) = d in
+      let (c1, (h1, (h2, (h3, (h4, (h5, (h6, (w1, (w2, (w3, (w4, b))))))))))) = h in
+      let (v1, (v2, (v3, (v4, (o0, (o1, (o2, (k1, (k2, d))))))))) = b in
+      let (r0, (t0, (r1, (t1, (r2, (t2, (r3, (t3, (r4, (t4, (r5, (t5, (r6, (t6, (j1, (j2, z)))))))))))))))) = d in
       record {
+        carried = c1;
         from = h1;
         to = h2;
         owner = h3;
@@ -101,12 +116,11 @@ module _ (n s c : ℕ) (w : Row) (m : Message) (v : Vote) (j : ℕ) where
         fresh = o1;
         joined = j1;
         above = j2;
-        carried = j3;
       }
 
-  clauses-all : Clauses n s c w m v j → All (holdsOf n s c w m v j) clauses
+  clauses-all : Clauses n s c w m v j → opRange o ≡ true → All (holdsOf n s c w m v o j) clauses
   unfolding holdsOf depsOk voteOk commandOk noneIsBlank
-  clauses-all k =
+  clauses-all k op =
       let (a, deps) = and-true (votedOk n v && statusOk 3 v && commandOk (v .command)) _ (k .vote) in
       let (b, command) = and-true (votedOk n v && statusOk 3 v) _ a in
       let (voted, status) = and-true (votedOk n v) _ b in
@@ -114,103 +128,18 @@ module _ (n s c : ℕ) (w : Row) (m : Message) (v : Vote) (j : ℕ) where
       let r : (i : ℕ) → i < 7 → entryOk n s (v .deps) i ≡ true = λ i l. allBelow-at 7 (entryOk n s (v .deps)) deps i l in
       let t : (i : ℕ) → i < 7 → implies (w .parts .told) (noneEntry v i) ≡ true = λ i l. only (w .parts .told) (noneVoted v && noneOp v) (allBelow 7 (noneEntry v)) (k .blank) (noneEntry v i)
       (λ e. allBelow-at 7 (noneEntry v) e i l) in
-      let o = front (w .parts .told) (noneVoted v) (noneOp v) (allBelow 7 (noneEntry v)) (k .blank) in (
-        k .from,
-        (
-          k .to,
-          (
-            k .owner,
-            (
-              k .number,
-              (
-                k .ballot,
-                (
-                  k .recovery,
-                  (
-                    k .here,
-                    (
-                      k .another,
-                      (
-                        k .lead,
-                        (
-                          k .reply,
-                          (
-                            voted,
-                            (
-                              k .below,
-                              (
-                                status,
-                                (
-                                  o .0,
-                                  (
-                                    k .fresh,
-                                    (
-                                      o .1,
-                                      (
-                                        key,
-                                        (
-                                          edit,
-                                          (
-                                            r 0 (omega arith),
-                                            (
-                                              t 0 (omega arith),
-                                              (
-                                                r 1 (omega arith),
-                                                (
-                                                  t 1 (omega arith),
-                                                  (
-                                                    r 2 (omega arith),
-                                                    (
-                                                      t 2 (omega arith),
-                                                      (
-                                                        r 3 (omega arith),
-                                                        (
-                                                          t 3 (omega arith),
-                                                          (
-                                                            r 4 (omega arith),
-                                                            (
-                                                              t 4 (omega arith),
-                                                              (
-                                                                r 5 (omega arith),
-                                                                (
-                                                                  t 5 (omega arith),
-                                                                  (
-                                                                    r 6 (omega arith),
-                                                                    (
-                                                                      t 6 (omega arith),
-                                                                      (k .joined, (k .above, (k .carried, tt))),
-                                                                    ),
-                                                                  ),
-                                                                ),
-                                                              ),
-                                                            ),
-                                                          ),
-                                                        ),
-                                                      ),
-                                                    ),
-                                                  ),
-                                                ),
-                                              ),
-                                            ),
-                                          ),
-                                        ),
-                                      ),
-                                    ),
-                                  ),
-                                ),
-                              ),
-                            ),
-                          ),
-                        ),
-                      ),
-                    ),
-                  ),
-                ),
-              ),
-            ),
-          ),
-        ),
-      )
+      let x = front (w .parts .told) (noneVoted v) (noneOp v) (allBelow 7 (noneEntry v)) (k .blank) in
+      let f = holdsOf n s c w m v o j in
+      let head : All f (DepsCarried ∷ headClauses) = (k .carried, (k .from, (k .to, (k .owner, (k .number, (k .ballot, (k .recovery, tt))))))) in
+      let way : All f wayClauses = (k .here, (k .another, (k .lead, (k .reply, tt)))) in
+      let told : All f toldClauses = (voted, (k .below, (status, (x .0, tt)))) in
+      let commands : All f commandClauses = (op, (k .fresh, (x .1, (key, (edit, tt))))) in
+      let entries = entries-in f r t 7 0 (omega arith) in
+      let joined : All f joinedClauses = (k .joined, (k .above, tt)) in
+      let front : All f (DepsCarried ∷ headClauses ++ wayClauses ++ toldClauses) =
+      joint f (DepsCarried ∷ headClauses ++ wayClauses) toldClauses (joint f (DepsCarried ∷ headClauses) wayClauses head way) told in
+      let rest = joint f (commandClauses ++ depsClauses) joinedClauses (joint f commandClauses depsClauses commands entries) joined in
+      joint f (DepsCarried ∷ headClauses ++ wayClauses ++ toldClauses) (commandClauses ++ depsClauses ++ joinedClauses) front rest
     where
       only : (t a b : Bool) → implies t (a && b) ≡ true → (d : Bool) → (b ≡ true → d ≡ true) → implies t d ≡ true
       only true a b h d g = g (and-true a b h .1)
@@ -220,16 +149,61 @@ module _ (n s c : ℕ) (w : Row) (m : Message) (v : Vote) (j : ℕ) where
       front true a b d h = and-true a b (and-true (a && b) d h .0)
       front false a b d h = (refl, refl)
 
-  -- what a PrepareOK may tell
-  pub told-of : Clauses n s c w m v j → w .parts .told ≡ true → toldOk n s (m .ballot) v ≡ true
-  unfolding toldOk
-  told-of k e = rw (k .vote, asked _ _ (k .below) e) (asked _ _ (k .blank) e)
+-- what a PrepareOK may tell
+pub told-of : (n s c : ℕ) (w : Row) (m : Message) (v : Vote) (j : ℕ) → Clauses n s c w m v j → w .parts .told ≡ true → toldOk n s (m .ballot) v ≡ true
+unfolding toldOk
+told-of n s c w m v j k e = rw (k .vote, asked _ _ (k .below) e) (asked _ _ (k .blank) e)
+
+-- an op by value is one of the three
+op-in : (x : Op) → opRange (opNumber x) ≡ true
+op-in Noop = refl
+op-in Read = refl
+op-in Write = refl
+
+-- tests that hold together are equal
+alike : (a b : Bool) → (a ≡ true → b ≡ true) → (b ≡ true → a ≡ true) → a ≡ b
+alike true b f g = sym (f refl)
+alike false true f g = g refl
+alike false false f g = refl
 
 module _ (n s c : ℕ) (m : Message) where
+  abbrev Holding : Type 0
+  Holding = Clauses n s c (rowIn (m .body)) m (voteIn m) (joinedIn (m .body))
+
+  -- of the op in the bytes valid asks nothing but its range
+  from-none : (o : ℕ) → isNone (firstFailing n s c o m) ≡ true → (opRange o ≡ true) × Holding
+  unfolding firstFailing holdsOf
+  from-none o h =
+      let a : All (holds n s c o m) clauses = all-of (holds n s c o m) clauses h in
+      let (c1, (h1, (h2, (h3, (h4, (h5, (h6, (w1, (w2, (w3, (w4, (v1, (v2, (v3, (v4, (o0, more)))))))))))))))) = a in
+      (o0, all-clauses n s c (rowIn (m .body)) m (voteIn m) o (joinedIn (m .body)) a)
+
+  to-none : (o : ℕ) → opRange o ≡ true → Holding → isNone (firstFailing n s c o m) ≡ true
+  unfolding firstFailing
+  to-none o e k = of-all (holds n s c o m) clauses (clauses-all n s c (rowIn (m .body)) m (voteIn m) o (joinedIn (m .body)) k e)
+
   pub clauses-of : valid n s c m ≡ true → Clauses n s c (rowIn (m .body)) m (voteIn m) (joinedIn (m .body))
-  unfolding valid firstFailing
-  clauses-of h = all-clauses n s c (rowIn (m .body)) m (voteIn m) (joinedIn (m .body)) (all-of (holds n s c m) clauses h)
+  unfolding valid
+  clauses-of h = from-none (opIn m) h .1
 
   pub valid-of : Clauses n s c (rowIn (m .body)) m (voteIn m) (joinedIn (m .body)) → valid n s c m ≡ true
-  unfolding valid firstFailing
-  valid-of k = of-all (holds n s c m) clauses (clauses-all n s c (rowIn (m .body)) m (voteIn m) (joinedIn (m .body)) k)
+  unfolding valid
+  valid-of k = to-none (opIn m) (op-in (commandIn (m .body) .op)) k
+
+  -- none fails of a valid message with an op in its bytes, and of no other
+  pub none-fails : (o : ℕ) → isNone (firstFailing n s c o m) ≡ (opRange o && valid n s c m)
+  none-fails o =
+      alike _ _ (λ h. let (e, k) = from-none o h in rw e (valid-of k)) (λ h. let (e, v) = and-true (opRange o) (valid n s c m) h in to-none o e (clauses-of v))
+
+-- a verdict is valid where none fails
+pub isValid : Verdict → Bool
+isValid verdict.Valid = true
+isValid (verdict.Blamed x) = false
+
+pub valid-verdict : (n s c o : ℕ) (m : Message) → isValid (verdictOn n s c o m) ≡ (opRange o && valid n s c m)
+unfolding verdictOn isValid
+valid-verdict n s c o m = go (firstFailing n s c o m) ∙ none-fails n s c m o
+  where
+    go : (x : Failing) → isValid (verdictOf x) ≡ isNone x
+    go none = refl
+    go (first x) = refl

@@ -1,25 +1,35 @@
--- "Messages": when a message is valid: the clauses, in the order in which a later refusal will name the first that fails.
--- Length, kind byte and op byte are the bytes' own: the wire asks them. Assumes nothing.
--- n, s: the setup; c: the copy that receives; m: the message; w: the row of its kind; v: the vote that it carries; j: the joined
--- ballot that it carries.
-use Prim.Native.Nat.{ℕ}
+-- "Messages", and document 02, 1/12: when a message is valid: the clauses, in the order in which a refusal names the first that
+-- fails, and whom it blames. Kind byte and length are the bytes' own: the wire asks them. Assumes nothing.
+-- n, s: the setup; c: the copy that receives; m: the message; w: the row of its kind; v: the vote that it carries; o: the op's
+-- number as it stands in the bytes; j: the joined ballot that it carries.
+use Prim.Native.Nat.{ℕ, zero, suc, _+_}
 use mathlib.Core.Bool.{Bool, true, false, _&&_, _||_, not, cond}
 use mathlib.Core.List.{List, [], _∷_, _++_}
 use lib.Dec.{leb, ltb, eqb}
 use Rattle.paper.specs.Logic.{implies}
 use Rattle.paper.specs.Instance.{ownerOk, numberOk}
 use Rattle.paper.specs.Setup.{copyOk}
-use Rattle.paper.specs.Command.{isNoop, keyOk, editOk}
+use Rattle.paper.specs.Command.{opNumber, isNoop, keyOk, editOk}
 use Rattle.paper.specs.Deps.{entryOk, sameDeps, noDeps}
 use Rattle.paper.specs.Ballot.{ballotOk, lead}
 use Rattle.paper.specs.Vote.{votedOk, statusOk, votedBelow, noneVoted, noneOp, noneEntry}
-use Rattle.paper.specs.Message.{rowIn, voteIn, joinedIn, isWord, isReply, isFresh, isRecovery}
+use Rattle.paper.specs.Message.{rowIn, commandIn, voteIn, joinedIn, isWord, isReply, isFresh, isRecovery}
 use Rattle.paper.specs.declared.Vote.{Vote}
 use Rattle.paper.specs.declared.Row.{Row}
 use Rattle.paper.specs.declared.Message.{Message}
+use Rattle.paper.specs.declared.Field.{Field}
+use Rattle.paper.specs.declared.Field.the-variants as field
+use Rattle.paper.specs.declared.Blame.{Blame}
+use Rattle.paper.specs.declared.Blame.the-variants as blame
+use Rattle.paper.specs.declared.Verdict.{Verdict}
+use Rattle.paper.specs.declared.Verdict.the-variants as verdict
 
 abbrev pub leadOf : Message → ℕ
 leadOf m = lead (m .owner) (m .ballot)
+
+-- a body without dependencies has zero ones beside it: others would make it longer. What is read from bytes always does
+abbrev pub depsCarried : Row → Message → Bool
+depsCarried w m = w .parts .deps || sameDeps (m .deps) noDeps
 
 -- all ranges above
 abbrev pub fromRange : ℕ → Message → Bool
@@ -69,6 +79,10 @@ toldOp w v = implies (w .parts .told) (noneOp v)
 abbrev pub toldEntry : Row → Vote → ℕ → Bool
 toldEntry w v i = implies (w .parts .told) (noneEntry v i)
 
+-- 0, 1 or 2
+abbrev pub opRange : ℕ → Bool
+opRange o = leb o 2
+
 -- kind 1 at ballot 0 has no no-op
 abbrev pub freshOp : Row → Message → Vote → Bool
 freshOp w m v = implies (isFresh (w .ballots) && eqb (m .ballot) 0) (not (isNoop (v .command)))
@@ -81,59 +95,71 @@ joinedRange n j = ballotOk n j
 abbrev pub joinedAbove : Row → Message → ℕ → Bool
 joinedAbove w m j = implies (w .parts .joined) (ltb (m .ballot) j)
 
--- a body without dependencies has zero ones beside it; what is read from bytes always does
-abbrev pub depsCarried : Row → Message → Bool
-depsCarried w m = w .parts .deps || sameDeps (m .deps) noDeps
-
 pub data Clause : Type 0 where
+  DepsCarried : Clause
   FromRange ToRange OwnerRange NumberRange BallotRange RecoveryBallot : Clause
   ToHere FromAnother FromLead ToLead : Clause
   VotedRange ToldBelow StatusRange ToldVoted : Clause
-  FreshOp ToldOp KeyRange EditRange : Clause
+  OpRange FreshOp ToldOp KeyRange EditRange : Clause
   EntryRange ToldEntry : ℕ → Clause
-  JoinedRange JoinedAbove DepsCarried : Clause
+  JoinedRange JoinedAbove : Clause
 
-unfoldable pub holdsOf : ℕ → ℕ → ℕ → Row → Message → Vote → ℕ → Clause → Bool
-holdsOf n s c w m v j FromRange = fromRange n m
-holdsOf n s c w m v j ToRange = toRange n m
-holdsOf n s c w m v j OwnerRange = ownerRange n m
-holdsOf n s c w m v j NumberRange = numberRange s m
-holdsOf n s c w m v j BallotRange = ballotRange n m
-holdsOf n s c w m v j RecoveryBallot = recoveryBallot w m
-holdsOf n s c w m v j ToHere = toHere c m
-holdsOf n s c w m v j FromAnother = fromAnother c m
-holdsOf n s c w m v j FromLead = fromLead w m
-holdsOf n s c w m v j ToLead = toLead w m
-holdsOf n s c w m v j VotedRange = votedOk n v
-holdsOf n s c w m v j ToldBelow = toldBelow w m v
-holdsOf n s c w m v j StatusRange = statusOk 3 v
-holdsOf n s c w m v j ToldVoted = toldVoted w v
-holdsOf n s c w m v j FreshOp = freshOp w m v
-holdsOf n s c w m v j ToldOp = toldOp w v
-holdsOf n s c w m v j KeyRange = keyOk (v .command)
-holdsOf n s c w m v j EditRange = editOk (v .command)
-holdsOf n s c w m v j (EntryRange i) = entryOk n s (v .deps) i
-holdsOf n s c w m v j (ToldEntry i) = toldEntry w v i
-holdsOf n s c w m v j JoinedRange = joinedRange n j
-holdsOf n s c w m v j JoinedAbove = joinedAbove w m j
-holdsOf n s c w m v j DepsCarried = depsCarried w m
+unfoldable pub holdsOf : ℕ → ℕ → ℕ → Row → Message → Vote → ℕ → ℕ → Clause → Bool
+holdsOf n s c w m v o j DepsCarried = depsCarried w m
+holdsOf n s c w m v o j FromRange = fromRange n m
+holdsOf n s c w m v o j ToRange = toRange n m
+holdsOf n s c w m v o j OwnerRange = ownerRange n m
+holdsOf n s c w m v o j NumberRange = numberRange s m
+holdsOf n s c w m v o j BallotRange = ballotRange n m
+holdsOf n s c w m v o j RecoveryBallot = recoveryBallot w m
+holdsOf n s c w m v o j ToHere = toHere c m
+holdsOf n s c w m v o j FromAnother = fromAnother c m
+holdsOf n s c w m v o j FromLead = fromLead w m
+holdsOf n s c w m v o j ToLead = toLead w m
+holdsOf n s c w m v o j VotedRange = votedOk n v
+holdsOf n s c w m v o j ToldBelow = toldBelow w m v
+holdsOf n s c w m v o j StatusRange = statusOk 3 v
+holdsOf n s c w m v o j ToldVoted = toldVoted w v
+holdsOf n s c w m v o j OpRange = opRange o
+holdsOf n s c w m v o j FreshOp = freshOp w m v
+holdsOf n s c w m v o j ToldOp = toldOp w v
+holdsOf n s c w m v o j KeyRange = keyOk (v .command)
+holdsOf n s c w m v o j EditRange = editOk (v .command)
+holdsOf n s c w m v o j (EntryRange i) = entryOk n s (v .deps) i
+holdsOf n s c w m v o j (ToldEntry i) = toldEntry w v i
+holdsOf n s c w m v o j JoinedRange = joinedRange n j
+holdsOf n s c w m v o j JoinedAbove = joinedAbove w m j
 
 -- a clause, of a message as received by copy c
-abbrev pub holds : ℕ → ℕ → ℕ → Message → Clause → Bool
-holds n s c m x = holdsOf n s c (rowIn (m .body)) m (voteIn m) (joinedIn (m .body)) x
+abbrev pub holds : ℕ → ℕ → ℕ → ℕ → Message → Clause → Bool
+holds n s c o m x = holdsOf n s c (rowIn (m .body)) m (voteIn m) o (joinedIn (m .body)) x
 
--- in the order in which they are tried: the head's ranges, the way, the body's fields as they stand in the bytes
-abbrev pub entryClauses : ℕ → List Clause
-entryClauses i = EntryRange i ∷ ToldEntry i ∷ []
+-- in the order in which they are tried: the length, the head's ranges, the way, the body's fields as they stand in the bytes
+abbrev pub headClauses : List Clause
+headClauses = FromRange ∷ ToRange ∷ OwnerRange ∷ NumberRange ∷ BallotRange ∷ RecoveryBallot ∷ []
+
+abbrev pub wayClauses : List Clause
+wayClauses = ToHere ∷ FromAnother ∷ FromLead ∷ ToLead ∷ []
+
+abbrev pub toldClauses : List Clause
+toldClauses = VotedRange ∷ ToldBelow ∷ StatusRange ∷ ToldVoted ∷ []
+
+abbrev pub commandClauses : List Clause
+commandClauses = OpRange ∷ FreshOp ∷ ToldOp ∷ KeyRange ∷ EditRange ∷ []
+
+-- those of k entries, from i on
+unfoldable pub entryClauses : ℕ → ℕ → List Clause
+entryClauses zero i = []
+entryClauses (suc k) i = EntryRange i ∷ ToldEntry i ∷ entryClauses k (i + 1)
+
+abbrev pub depsClauses : List Clause
+depsClauses = entryClauses 7 0
+
+abbrev pub joinedClauses : List Clause
+joinedClauses = JoinedRange ∷ JoinedAbove ∷ []
 
 abbrev pub clauses : List Clause
-clauses =
-    (FromRange ∷ ToRange ∷ OwnerRange ∷ NumberRange ∷ BallotRange ∷ RecoveryBallot ∷ [])
-    ++ (ToHere ∷ FromAnother ∷ FromLead ∷ ToLead ∷ [])
-    ++ (VotedRange ∷ ToldBelow ∷ StatusRange ∷ ToldVoted ∷ [])
-    ++ (FreshOp ∷ ToldOp ∷ KeyRange ∷ EditRange ∷ [])
-    ++ entryClauses 0 ++ entryClauses 1 ++ entryClauses 2 ++ entryClauses 3 ++ entryClauses 4 ++ entryClauses 5 ++ entryClauses 6
-    ++ (JoinedRange ∷ JoinedAbove ∷ DepsCarried ∷ [])
+clauses = (DepsCarried ∷ headClauses) ++ wayClauses ++ toldClauses ++ commandClauses ++ depsClauses ++ joinedClauses
 
 -- the first of these clauses that fails
 pub data Failing : Type 0 where
@@ -144,13 +170,52 @@ unfoldable pub firstOf : (Clause → Bool) → List Clause → Failing
 firstOf f [] = none
 firstOf f (x ∷ xs) = cond (f x) (firstOf f xs) (first x)
 
-unfoldable pub firstFailing : ℕ → ℕ → ℕ → Message → Failing
-firstFailing n s c m = firstOf (holds n s c m) clauses
+unfoldable pub firstFailing : ℕ → ℕ → ℕ → ℕ → Message → Failing
+firstFailing n s c o m = firstOf (holds n s c o m) clauses
 
 abbrev pub isNone : Failing → Bool
 isNone none = true
 isNone (first x) = false
 
+-- the op's number in a message by value
+abbrev pub opIn : Message → ℕ
+opIn m = opNumber (commandIn (m .body) .op)
+
 -- none fails
 unfoldable pub valid : ℕ → ℕ → ℕ → Message → Bool
-valid n s c m = isNone (firstFailing n s c m)
+valid n s c m = isNone (firstFailing n s c (opIn m) m)
+
+-- whom a clause blames that fails: of two fields the one that stands later
+unfoldable pub blameOf : Clause → Blame
+blameOf DepsCarried = blame.Length
+blameOf FromRange = blame.Of field.From
+blameOf ToRange = blame.Of field.To
+blameOf OwnerRange = blame.Of field.Owner
+blameOf NumberRange = blame.Of field.Number
+blameOf BallotRange = blame.Of field.Ballot
+blameOf RecoveryBallot = blame.Of field.Ballot
+blameOf ToHere = blame.Way
+blameOf FromAnother = blame.Way
+blameOf FromLead = blame.Lead
+blameOf ToLead = blame.Lead
+blameOf VotedRange = blame.Of field.Voted
+blameOf ToldBelow = blame.Of field.Voted
+blameOf StatusRange = blame.Of field.Status
+blameOf ToldVoted = blame.Of field.Status
+blameOf OpRange = blame.Of field.Op
+blameOf FreshOp = blame.Of field.Op
+blameOf ToldOp = blame.Of field.Op
+blameOf KeyRange = blame.Of field.Key
+blameOf EditRange = blame.Of field.Edit
+blameOf (EntryRange i) = blame.Of (field.Entry i)
+blameOf (ToldEntry i) = blame.Of (field.Entry i)
+blameOf JoinedRange = blame.Of field.Joined
+blameOf JoinedAbove = blame.Of field.Joined
+
+abbrev pub verdictOf : Failing → Verdict
+verdictOf none = verdict.Valid
+verdictOf (first x) = verdict.Blamed (blameOf x)
+
+-- what a message, received by copy c with this op in its bytes, is found to be
+unfoldable pub verdictOn : ℕ → ℕ → ℕ → ℕ → Message → Verdict
+verdictOn n s c o m = verdictOf (firstFailing n s c o m)

@@ -97,12 +97,47 @@ pub struct Row {
     pub parts: Parts,
 }
 
-// Why a call is refused, in the order in which the reasons are tried.
+// The fields of a message after its kind, in the order of the bytes; each entry of the dependencies is one.
+pub enum Field {
+    From,
+    To,
+    Owner,
+    Number,
+    Ballot,
+    Voted,
+    Status,
+    Op,
+    Key,
+    Edit,
+    Entry(usize),
+    Joined,
+}
+
+// What is wrong with bytes that are no valid message.
+pub enum Blame {
+    Kind,
+    Length,
+    Way,
+    Lead,
+    Of(Field),
+}
+
+// What a message is found to be.
+pub enum Verdict {
+    Valid,
+    Blamed(Blame),
+}
+
+// Why a call is refused, in the order in which the reasons are tried. A bad field comes with the offset of its first byte.
 pub enum Refusal {
     Setup,
     Unsound,
     Room,
-    Message,
+    UnknownKind,
+    WrongLength,
+    WrongWay,
+    WrongLead,
+    WrongField(usize),
     Op,
     Instance,
     RecoverCommitted,
