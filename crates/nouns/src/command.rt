@@ -6,7 +6,7 @@ use crate::logic::wide32;
 use paper::Command;
 use paper::Op;
 ghost use mathlib.Core.Path.{_≡_};
-ghost use Rattle.paper.specs.Command.{opNumber, isNoop, sameCommand, commandOk, interfere};
+ghost use Rattle.paper.specs.Command.{opNumber, isNoop, sameCommand, keyOk, editOk, commandOk, interfere};
 
 pub fn op_number(op: Op) -> usize
     ensures { λ r. ⌜ r ≡ opNumber op ⌝ }
@@ -33,6 +33,18 @@ pub fn same_command(a: Command, b: Command) -> bool
     let op = equal(op_number(x), op_number(y));
     let key = equal(wide32(a.key), wide32(b.key));
     both(both(op, key), equal64(a.edit, b.edit))
+}
+
+pub fn key_ok(c: Command) -> bool
+    ensures { λ r. ⌜ r ≡ keyOk c ⌝ }
+{
+    implies(is_noop(c), equal(wide32(c.key), 0))
+}
+
+pub fn edit_ok(c: Command) -> bool
+    ensures { λ r. ⌜ r ≡ editOk c ⌝ }
+{
+    implies(is_noop(c), equal64(c.edit, 0))
 }
 
 pub fn command_ok(c: Command) -> bool

@@ -11,7 +11,8 @@ pub fn entry_limit(n: usize, s: usize, i: usize) -> usize
     if i < n { s } else { 0 }
 }
 
-fn entry_ok(n: usize, s: usize, i: usize, x: u16) -> bool
+// Entry i of the dependencies is x.
+pub fn entry_ok(n: usize, s: usize, i: usize, x: u16) -> bool
     ensures { λ r. ⌜ r ≡ leb x (entryLimit n s i) ⌝ }
 {
     at_most(wide16(x), entry_limit(n, s, i))

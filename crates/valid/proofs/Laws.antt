@@ -1,98 +1,86 @@
--- Valid, as the code asks it: the clauses in groups, and clauses that few kinds are asked, outcome by outcome. Assumes nothing.
-use Prim.Native.Nat.{ℕ}
-use mathlib.Core.Path.{_≡_, refl, sym, _∙_}
-use mathlib.Core.Bool.{Bool, true, false, _&&_}
-use Rattle.paper.specs.Logic.{implies}
-use Rattle.paper.specs.Vote.{votedBelow, noneIsBlank, voteOk}
-use Rattle.paper.specs.Message.{rowIn, voteIn, joinedIn}
-use Rattle.paper.specs.Valid.{fromRange, toRange, ownerRange, numberRange, ballotRange, toHere, fromAnother, fromLead, freshOp, joinedRange, joinedAbove, depsCarried, valid}
-use Rattle.paper.specs.Deps.{noDeps, sameDeps}
-use Rattle.paper.specs.declared.Vote.{Vote}
+-- What the code tries, outcome by outcome. Assumes nothing.
+use Prim.Native.Nat.{ℕ, zero, suc, _+_, _-_, _≤_, _<_}
+use mathlib.Core.Path.{_≡_, refl, sym, ap, _∙_}
+use mathlib.Core.Bool.{Bool, true, false, _&&_, not, cond}
+use mathlib.Core.List.{List}
+use native.Mathlib.Omega.{arith}
+use borrow.Author.Tests.{not-true, not-false}
+use Rattle.paper.specs.Deps.{noDeps, sameDeps, entryOk, depsOk}
+use Rattle.paper.specs.Valid.{depsCarried}
 use Rattle.paper.specs.declared.Row.{Row}
 use Rattle.paper.specs.declared.Message.{Message}
-use Rattle.paper.proofs.Laws.{and-true}
-use Rattle.paper.proofs.Valid.{Clauses, clauses-of, valid-of}
-use Rattle.valid.specs.Groups.{headOk, wayOk, toldAll, bodyOk}
+use Rattle.paper.specs.declared.Field.the-variants as field
+use Rattle.paper.specs.declared.Blame.{Blame}
+use Rattle.paper.specs.declared.Blame.the-variants as blame
+use Rattle.paper.specs.declared.Verdict.{Verdict}
+use Rattle.paper.specs.declared.Verdict.the-variants as verdict
+use Rattle.paper.proofs.Laws.{allBelow-at}
+use Rattle.valid.specs.Groups.{unless, andThen, isBlamed, entriesVerdict}
 
-module _ (w : Row) (m : Message) where
-  pub not-carried : {r : Bool} → w .parts .deps ≡ false → r ≡ sameDeps (m .deps) noDeps → r ≡ depsCarried w m
-  not-carried h d = d ∙ rw h
+pub not-carried : (w : Row) (m : Message) {r : Bool} → w .parts .deps ≡ false → r ≡ sameDeps (m .deps) noDeps → r ≡ depsCarried w m
+not-carried w m h d = d ∙ rw h
 
-  pub untold : (v : Vote) → w .parts .told ≡ false → true ≡ toldAll w m v
-  untold v h = rw h
+-- r is the test b: it fails, or it holds and the rest is tried
+module _ {r b : Bool} (e : r ≡ b) (x : Blame) (rest : Verdict) where
+  pub failed : not r ≡ true → verdict.Blamed x ≡ unless b x rest
+  failed h = let f : b ≡ false = sym e ∙ not-true r h in rw f
 
-  pub told-all : (v : Vote) {r : Bool} → w .parts .told ≡ true → r ≡ (votedBelow (m .ballot) v && noneIsBlank v) → r ≡ toldAll w m v
-  told-all v h d = d ∙ rw h
+  pub held : not r ≡ false → {y : Verdict} → y ≡ rest → y ≡ unless b x rest
+  held h p = let f : b ≡ true = sym e ∙ not-false r h in p ∙ rw f
 
-module _ (n s c : ℕ) (w : Row) (m : Message) (v : Vote) (j : ℕ) where
-  clauses-in : (headOk n s w m && wayOk c w m && bodyOk n s w m v j) ≡ true → Clauses n s c w m v j
-  unfolding headOk wayOk bodyOk
-  clauses-in h =
-      let (hw, b) = and-true (headOk n s w m && wayOk c w m) (bodyOk n s w m v j) h in
-      let (h6, way) = and-true (headOk n s w m) (wayOk c w m) hw in
-      let (h5, recovery) = and-true (fromRange n m && toRange n m && ownerRange n m && numberRange s m && ballotRange n m) _ h6 in
-      let (h4, ballot) = and-true (fromRange n m && toRange n m && ownerRange n m && numberRange s m) _ h5 in
-      let (h3, number) = and-true (fromRange n m && toRange n m && ownerRange n m) _ h4 in
-      let (h2, owner) = and-true (fromRange n m && toRange n m) _ h3 in
-      let (from, to) = and-true (fromRange n m) _ h2 in
-      let (w3, reply) = and-true (toHere c m && fromAnother c m && fromLead w m) _ way in
-      let (w2, lead) = and-true (toHere c m && fromAnother c m) _ w3 in
-      let (here, another) = and-true (toHere c m) _ w2 in
-      let (b5, deps) = and-true (voteOk n s 3 v && toldAll w m v && freshOp w m v && joinedRange n j && joinedAbove w m j) _ b in
-      let (b4, above) = and-true (voteOk n s 3 v && toldAll w m v && freshOp w m v && joinedRange n j) _ b5 in
-      let (b3, joined) = and-true (voteOk n s 3 v && toldAll w m v && freshOp w m v) _ b4 in
-      let (b2, fresh) = and-true (voteOk n s 3 v && toldAll w m v) _ b3 in
-      let (vote, told) = and-true (voteOk n s 3 v) _ b2 in
-      let (below, blank) = parted (w .parts .told) _ _ told in
-      record {
-        from = from;
-        to = to;
-        owner = owner;
-        number = number;
-        ballot = ballot;
-        recovery = recovery;
-        here = here;
-        another = another;
-        lead = lead;
-        reply = reply;
-        vote = vote;
-        below = below;
-        blank = blank;
-        fresh = fresh;
-        joined = joined;
-        above = above;
-        carried = deps;
-      }
+-- a group whose part the kind does not have, or has
+pub absent : (p : Bool) (x : Verdict) → not p ≡ true → verdict.Valid ≡ cond p x verdict.Valid
+absent p x h = rw (not-true p h)
+
+pub present : (p : Bool) {x y : Verdict} → not p ≡ false → y ≡ x → y ≡ cond p x verdict.Valid
+present p h e = e ∙ rw (not-false p h)
+
+-- a verdict t blames, or the next one counts
+module _ {t x : Verdict} {r : Bool} (e : t ≡ x) (f : r ≡ isBlamed t) (y : Verdict) where
+  pub stops : r ≡ true → t ≡ andThen x y
+  stops h = e ∙ go x (sym (f ∙ ap isBlamed e) ∙ h)
     where
-      parted : (t a b : Bool) → implies t (a && b) ≡ true → (implies t a ≡ true) × (implies t b ≡ true)
-      parted true a b h = and-true a b h
-      parted false a b h = (refl, refl)
+      go : (x : Verdict) → isBlamed x ≡ true → x ≡ andThen x y
+      go verdict.Valid h = absurd (let z : _≡_ {A = ℕ} 0 1 = cc in omega arith)
+      go (verdict.Blamed b) h = refl
 
-  clauses-out : Clauses n s c w m v j → (headOk n s w m && wayOk c w m && bodyOk n s w m v j) ≡ true
-  unfolding headOk wayOk bodyOk
-  clauses-out k =
-      rw (k .from, k .to, k .owner, k .number, k .ballot, k .recovery, k .here, k .another, k .lead, k .reply, k .vote, joint (w .parts .told) (votedBelow (m .ballot) v) (noneIsBlank v) (k .below) (k .blank), k .fresh, k .joined, k .above)
-      (k .carried)
+  pub goes-on : r ≡ false → {z : Verdict} → z ≡ y → z ≡ andThen x y
+  goes-on h p = p ∙ go x (sym (f ∙ ap isBlamed e) ∙ h)
     where
-      joint : (t a b : Bool) → implies t a ≡ true → implies t b ≡ true → implies t (a && b) ≡ true
-      joint true a b e f = rw (e, f)
-      joint false a b e f = refl
+      go : (x : Verdict) → isBlamed x ≡ false → y ≡ andThen x y
+      go verdict.Valid h = refl
+      go (verdict.Blamed b) h = absurd (let z : _≡_ {A = ℕ} 0 1 = cc in omega arith)
 
--- tests that hold together are equal
-alike : (a b : Bool) → (a ≡ true → b ≡ true) → (b ≡ true → a ≡ true) → a ≡ b
-alike true b f g = sym (f refl)
-alike false true f g = g refl
-alike false false f g = refl
+module _ (n s : ℕ) (d : List ℕ) where
+  -- entries that all fit
+  fit : ((i : ℕ) → i < 7 → entryOk n s d i ≡ true) → (k i : ℕ) → i + k ≤ 7 → entriesVerdict n s d k i ≡ verdict.Valid
+  unfolding entriesVerdict
+  fit f zero i l = refl
+  fit f (suc k) i l = rw (f i (omega arith)) (fit f k (i + 1) (omega arith))
 
-module _ (n s c : ℕ) (m : Message) {w : Row} (ew : w ≡ rowIn (m .body)) where
-  groups : (headOk n s w m && wayOk c w m && bodyOk n s w m (voteIn m) (joinedIn (m .body))) ≡ valid n s c m
-  groups =
-      rw ew
-      (alike _ _ (λ h. valid-of n s c m (clauses-in n s c _ m _ _ h)) (λ h. clauses-out n s c (rowIn (m .body)) m (voteIn m) (joinedIn (m .body)) (clauses-of n s c m h)))
+  pub all-fit : depsOk n s d ≡ true → verdict.Valid ≡ entriesVerdict n s d 7 0
+  unfolding depsOk
+  all-fit h = sym (fit (λ i l. allBelow-at 7 (entryOk n s d) h i l) 7 0 (omega arith))
 
-  pub invalid : (headOk n s w m && wayOk c w m) ≡ false → false ≡ valid n s c m
-  invalid h = sym (rw h) ∙ groups
+  -- those from i on are left
+  pub record Left (i : ℕ) : Type 0 where
+    pub rest : entriesVerdict n s d (7 - i) i ≡ entriesVerdict n s d 7 0
+    pub few : i ≤ 7
 
-  pub valid-body : (headOk n s w m && wayOk c w m) ≡ true → {v : Vote} {j : ℕ} → v ≡ voteIn m → j ≡ joinedIn (m .body) → {r : Bool} → r ≡ bodyOk n s w m v j
-      → r ≡ valid n s c m
-  valid-body h ev ej d = d ∙ rw (ev, ej) (sym (rw h) ∙ groups)
+  pub all-left : Left 0
+  all-left = record { rest = refl; few = omega arith }
+
+  one : (i : ℕ) → i < 7 → entriesVerdict n s d (7 - i) i ≡ unless (entryOk n s d i) (blame.Of (field.Entry i)) (entriesVerdict n s d (7 - (i + 1)) (i + 1))
+  unfolding entriesVerdict
+  one i l = let e : 7 - i ≡ suc (7 - (i + 1)) = omega arith in rw e
+
+  module _ (i : ℕ) (l : Left i) where
+    pub bad : i < 7 → {r : Bool} → r ≡ entryOk n s d i → not r ≡ true → verdict.Blamed (blame.Of (field.Entry i)) ≡ entriesVerdict n s d 7 0
+    bad h e f = failed e (blame.Of (field.Entry i)) _ f ∙ sym (one i h) ∙ l .rest
+
+    pub good : i < 7 → {r : Bool} → r ≡ entryOk n s d i → not r ≡ false → Left (i + 1)
+    good h e f = record { rest = held e (blame.Of (field.Entry i)) _ f refl ∙ sym (one i h) ∙ l .rest; few = omega arith }
+
+    pub none-left : 7 ≤ i → verdict.Valid ≡ entriesVerdict n s d 7 0
+    unfolding entriesVerdict
+    none-left h = let e : 7 - i ≡ 0 = omega arith in (rw e) ∙ l .rest

@@ -1,8 +1,12 @@
-// Whether a message is valid, by value: a function for each clause of the paper, under the clause's name; those of the vote
-// that it carries are asked at once, as of a record.
+// What a message is found to be, by value: a function for each clause of the paper, under the clause's name, and one for each
+// group of them, which tries them in their order. A group whose part the kind does not have is passed over.
 use nouns::ballot::ballot_ok;
 use nouns::ballot::lead;
+use nouns::command::edit_ok;
 use nouns::command::is_noop;
+use nouns::command::key_ok;
+use nouns::deps::deps_ok;
+use nouns::deps::entry_ok;
 use nouns::deps::no_deps;
 use nouns::deps::same_deps;
 use nouns::logic::at_most;
@@ -19,13 +23,15 @@ use nouns::message::is_reply;
 use nouns::message::is_word;
 use nouns::message::joined_in;
 use nouns::message::vote_in;
-use nouns::vote::none_is_blank;
-use nouns::vote::vote_ok;
+use paper::Blame;
+use paper::Field;
 use paper::Message;
 use paper::Row;
+use paper::Verdict;
 use paper::Vote;
 ghost use mathlib.Core.Path.{_≡_};
 ghost use Rattle.paper.specs.Message.{rowIn};
+ghost use Rattle.paper.specs.Vote.{votedBelow, noneVoted, noneOp};
 ghost use Rattle.paper.specs.Valid.{
   leadOf,
   fromRange,
@@ -38,13 +44,15 @@ ghost use Rattle.paper.specs.Valid.{
   fromAnother,
   fromLead,
   toLead,
+  opRange,
   freshOp,
   joinedRange,
-  joinedAbove,
   depsCarried,
-  valid,
+  verdictOn,
 };
-ghost use Rattle.valid.specs.Groups.{headOk, wayOk, toldAll, bodyOk};
+ghost use Rattle.paper.specs.declared.Blame.the-variants as blame;
+ghost use Rattle.paper.specs.declared.Verdict.the-variants as verdict;
+ghost use Rattle.valid.specs.Groups.{isBlamed, headVerdict, wayVerdict, toldVerdict, commandVerdict, highest, entriesVerdict, depsVerdict, joinedVerdict, bodyVerdict};
 
 fn lead_of(m: Message) -> usize
     ensures { λ r. ⌜ r ≡ leadOf m ⌝ }
@@ -115,14 +123,28 @@ fn to_lead(w: Row, m: Message) -> bool
     implies(is_reply(role), equal(wide8(m.to), lead_of(m)))
 }
 
-fn told_all(w: Row, m: Message, v: Vote) -> bool
-    ensures { λ r. ⌜ r ≡ toldAll w m v ⌝ }
+fn voted_below(m: Message, v: Vote) -> bool
+    ensures { λ r. ⌜ r ≡ votedBelow (m .ballot) v ⌝ }
 {
-    let parts = w.parts;
-    if !parts.told {
-        return true;
-    }
-    both(below(wide32(v.voted), wide32(m.ballot)), none_is_blank(v))
+    below(wide32(v.voted), wide32(m.ballot))
+}
+
+fn none_voted(v: Vote) -> bool
+    ensures { λ r. ⌜ r ≡ noneVoted v ⌝ }
+{
+    implies(equal(wide8(v.status), 0), equal(wide32(v.voted), 0))
+}
+
+fn none_op(v: Vote) -> bool
+    ensures { λ r. ⌜ r ≡ noneOp v ⌝ }
+{
+    implies(equal(wide8(v.status), 0), is_noop(v.command))
+}
+
+fn op_range(o: usize) -> bool
+    ensures { λ r. ⌜ r ≡ opRange o ⌝ }
+{
+    at_most(o, 2)
 }
 
 fn fresh_op(w: Row, m: Message, v: Vote) -> bool
@@ -139,13 +161,6 @@ fn joined_range(n: usize, j: u32) -> bool
     ballot_ok(n, j)
 }
 
-fn joined_above(w: Row, m: Message, j: u32) -> bool
-    ensures { λ r. ⌜ r ≡ joinedAbove w m j ⌝ }
-{
-    let parts = w.parts;
-    implies(parts.joined, below(wide32(m.ballot), wide32(j)))
-}
-
 fn deps_carried(w: Row, m: Message) -> bool
     ensures { λ r. ⌜ r ≡ depsCarried w m ⌝ }
 {
@@ -157,37 +172,175 @@ fn deps_carried(w: Row, m: Message) -> bool
     same_deps(deps, no_deps())
 }
 
-fn head_ok(n: usize, s: usize, w: Row, m: Message) -> bool
-    ensures { λ r. ⌜ r ≡ headOk n s w m ⌝ }
+fn of(field: Field) -> Verdict
+    ensures { λ r. ⌜ r ≡ verdict.Blamed (blame.Of field) ⌝ }
 {
-    let ends = both(from_range(n, m), to_range(n, m));
-    let instance = both(both(ends, owner_range(n, m)), number_range(s, m));
-    both(both(instance, ballot_range(n, m)), recovery_ballot(w, m))
+    Verdict::Blamed(Blame::Of(field))
 }
 
-fn way_ok(c: usize, w: Row, m: Message) -> bool
-    ensures { λ r. ⌜ r ≡ wayOk c w m ⌝ }
+fn head_verdict(n: usize, s: usize, w: Row, m: Message) -> Verdict
+    ensures { λ r. ⌜ r ≡ headVerdict n s w m ⌝ }
 {
-    let here = both(to_here(c, m), from_another(c, m));
-    both(both(here, from_lead(w, m)), to_lead(w, m))
+    if !deps_carried(w, m) {
+        return Verdict::Blamed(Blame::Length);
+    }
+    if !from_range(n, m) {
+        return of(Field::From);
+    }
+    if !to_range(n, m) {
+        return of(Field::To);
+    }
+    if !owner_range(n, m) {
+        return of(Field::Owner);
+    }
+    if !number_range(s, m) {
+        return of(Field::Number);
+    }
+    if !both(ballot_range(n, m), recovery_ballot(w, m)) {
+        return of(Field::Ballot);
+    }
+    Verdict::Valid
 }
 
-fn body_ok(n: usize, s: usize, w: Row, m: Message, v: Vote, j: u32) -> bool
-    ensures { λ r. ⌜ r ≡ bodyOk n s w m v j ⌝ }
+fn way_verdict(c: usize, w: Row, m: Message) -> Verdict
+    ensures { λ r. ⌜ r ≡ wayVerdict c w m ⌝ }
 {
-    let vote = both(vote_ok(n, s, 3, v), told_all(w, m, v));
-    let joined = both(both(vote, fresh_op(w, m, v)), joined_range(n, j));
-    both(both(joined, joined_above(w, m, j)), deps_carried(w, m))
+    if !both(to_here(c, m), from_another(c, m)) {
+        return Verdict::Blamed(Blame::Way);
+    }
+    if !both(from_lead(w, m), to_lead(w, m)) {
+        return Verdict::Blamed(Blame::Lead);
+    }
+    Verdict::Valid
 }
 
-// The message m is valid as received by copy c; w is the row of its kind, which a reader or writer has already.
-pub fn valid_message(n: usize, s: usize, c: usize, w: Row, m: Message) -> bool
+fn told_verdict(n: usize, w: Row, m: Message, v: Vote) -> Verdict
+    ensures { λ r. ⌜ r ≡ toldVerdict n w m v ⌝ }
+{
+    let parts = w.parts;
+    if !parts.told {
+        return Verdict::Valid;
+    }
+    if !both(ballot_ok(n, v.voted), voted_below(m, v)) {
+        return of(Field::Voted);
+    }
+    if !both(at_most(wide8(v.status), 3), none_voted(v)) {
+        return of(Field::Status);
+    }
+    Verdict::Valid
+}
+
+fn command_verdict(w: Row, m: Message, v: Vote) -> Verdict
+    ensures { λ r. ⌜ r ≡ commandVerdict w m v ⌝ }
+{
+    let parts = w.parts;
+    if !parts.command {
+        return Verdict::Valid;
+    }
+    if !both(fresh_op(w, m, v), implies(parts.told, none_op(v))) {
+        return of(Field::Op);
+    }
+    if !key_ok(v.command) {
+        return of(Field::Key);
+    }
+    if !edit_ok(v.command) {
+        return of(Field::Edit);
+    }
+    Verdict::Valid
+}
+
+fn highest(s: usize, w: Row, v: Vote) -> usize
+    ensures { λ r. ⌜ r ≡ highest s w v ⌝ }
+{
+    let parts = w.parts;
+    if both(parts.told, equal(wide8(v.status), 0)) { 0 } else { s }
+}
+
+// The first entry that is too large; most messages have none, which is asked at once.
+fn entries_verdict(n: usize, s: usize, d: [u16; 7]) -> Verdict
+    ensures { λ r. ⌜ r ≡ entriesVerdict n s d 7 0 ⌝ }
+{
+    if deps_ok(n, s, d) {
+        return Verdict::Valid;
+    }
+    let mut i = 0;
+    while i < 7 {
+        if !entry_ok(n, s, i, d[i]) {
+            return of(Field::Entry(i));
+        }
+        i += 1;
+    }
+    Verdict::Valid
+}
+
+fn deps_verdict(n: usize, s: usize, w: Row, v: Vote) -> Verdict
+    ensures { λ r. ⌜ r ≡ depsVerdict n s w v ⌝ }
+{
+    let parts = w.parts;
+    if !parts.deps {
+        return Verdict::Valid;
+    }
+    let deps = v.deps;
+    entries_verdict(n, highest(s, w, v), deps)
+}
+
+fn joined_verdict(n: usize, w: Row, m: Message, j: u32) -> Verdict
+    ensures { λ r. ⌜ r ≡ joinedVerdict n w m j ⌝ }
+{
+    let parts = w.parts;
+    if !parts.joined {
+        return Verdict::Valid;
+    }
+    if !both(joined_range(n, j), below(wide32(m.ballot), wide32(j))) {
+        return of(Field::Joined);
+    }
+    Verdict::Valid
+}
+
+fn is_blamed(x: Verdict) -> bool
+    ensures { λ r. ⌜ r ≡ isBlamed x ⌝ }
+{
+    match x {
+        Verdict::Valid => false,
+        Verdict::Blamed(_) => true,
+    }
+}
+
+fn body_verdict(n: usize, s: usize, w: Row, o: usize, m: Message, v: Vote, j: u32) -> Verdict
+    ensures { λ r. ⌜ r ≡ bodyVerdict n s w o m v j ⌝ }
+{
+    let told = told_verdict(n, w, m, v);
+    if is_blamed(told) {
+        return told;
+    }
+    if !op_range(o) {
+        return of(Field::Op);
+    }
+    let command = command_verdict(w, m, v);
+    if is_blamed(command) {
+        return command;
+    }
+    let deps = deps_verdict(n, s, w, v);
+    if is_blamed(deps) {
+        return deps;
+    }
+    joined_verdict(n, w, m, j)
+}
+
+// What the message m, as received by copy c, is found to be; w is the row of its kind, which a reader or writer has already, and o
+// the op's number as it stands in the bytes.
+pub fn verdict_on(n: usize, s: usize, c: usize, w: Row, o: usize, m: Message) -> Verdict
     requires { ⌜ w ≡ rowIn (m .body) ⌝ }
-    ensures { λ r. ⌜ r ≡ valid n s c m ⌝ }
+    ensures { λ r. ⌜ r ≡ verdictOn n s c o m ⌝ }
 {
-    if !both(head_ok(n, s, w, m), way_ok(c, w, m)) {
-        return false;
+    let head = head_verdict(n, s, w, m);
+    if is_blamed(head) {
+        return head;
+    }
+    let way = way_verdict(c, w, m);
+    if is_blamed(way) {
+        return way;
     }
     let body = m.body;
-    body_ok(n, s, w, m, vote_in(m), joined_in(body))
+    body_verdict(n, s, w, o, m, vote_in(m), joined_in(body))
 }
