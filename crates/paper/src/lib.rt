@@ -109,7 +109,7 @@ pub enum Field {
     Op,
     Key,
     Edit,
-    Entry(usize),
+    Entry(u8),
     Joined,
 }
 

@@ -75,11 +75,11 @@ module _ (n s : ℕ) (d : List ℕ) where
   one i l = let e : 7 - i ≡ suc (7 - (i + 1)) = omega arith in rw e
 
   module _ (i : ℕ) (l : Left i) where
-    pub bad : i < 7 → {r : Bool} → r ≡ entryOk n s d i → not r ≡ true → verdict.Blamed (blame.Of (field.Entry i)) ≡ entriesVerdict n s d 7 0
-    bad h e f = failed e (blame.Of (field.Entry i)) _ f ∙ sym (one i h) ∙ l .rest
+    pub bad : i < 7 → {q : ℕ} → q ≡ i → {r : Bool} → r ≡ entryOk n s d q → not r ≡ true → verdict.Blamed (blame.Of (field.Entry i)) ≡ entriesVerdict n s d 7 0
+    bad h e r f = failed (r ∙ ap (entryOk n s d) e) (blame.Of (field.Entry i)) _ f ∙ sym (one i h) ∙ l .rest
 
-    pub good : i < 7 → {r : Bool} → r ≡ entryOk n s d i → not r ≡ false → Left (i + 1)
-    good h e f = record { rest = held e (blame.Of (field.Entry i)) _ f refl ∙ sym (one i h) ∙ l .rest; few = omega arith }
+    pub good : i < 7 → {q : ℕ} → q ≡ i → {r : Bool} → r ≡ entryOk n s d q → not r ≡ false → Left (i + 1)
+    good h e r f = record { rest = held (r ∙ ap (entryOk n s d) e) (blame.Of (field.Entry i)) _ f refl ∙ sym (one i h) ∙ l .rest; few = omega arith }
 
     pub none-left : 7 ≤ i → verdict.Valid ≡ entriesVerdict n s d 7 0
     unfolding entriesVerdict

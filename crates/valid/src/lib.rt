@@ -263,9 +263,10 @@ fn entries_verdict(n: usize, s: usize, d: [u16; 7]) -> Verdict
     if deps_ok(n, s, d) {
         return Verdict::Valid;
     }
-    let mut i = 0;
+    let mut i: u8 = 0;
     while i < 7 {
-        if !entry_ok(n, s, i, d[i]) {
+        let q = wide8(i);
+        if !entry_ok(n, s, q, d[q]) {
             return of(Field::Entry(i));
         }
         i += 1;

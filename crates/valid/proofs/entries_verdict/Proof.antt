@@ -21,6 +21,9 @@ returns c = all-fit _ _ _ (sym (c .before .deps-ok .ensures) ∙ c .if1 .taken)
 loop-holds : tie.Need-loop-holds Inv-loop μ-loop
 loop-holds c = all-left _ _ _
 
+wide8-requires : tie.Need-wide8-requires Inv-loop μ-loop
+wide8-requires c κs = search needs
+
 mul-entry-ok : tie.Need-mul-entry-ok Inv-loop μ-loop
 mul-entry-ok c = search needs
 
@@ -34,7 +37,9 @@ of-requires : tie.Need-of-requires Inv-loop μ-loop
 of-requires c κs = search needs
 
 returns-2 : tie.Need-returns-2 Inv-loop μ-loop
-returns-2 c = c .of .ensures ∙ bad _ _ _ _ (c .before .before .before .before .loop .inv) (c .before .before .before .loop-test .taken) (c .before .before .entry-ok .ensures) (c .before .if2 .taken)
+returns-2 c =
+    c .of .ensures
+    ∙ bad _ _ _ _ (c .before .before .before .before .before .loop .inv) (c .before .before .before .before .loop-test .taken) (c .before .before .before .wide8 .ensures) (c .before .before .entry-ok .ensures) (c .before .if2 .taken)
 
 add-i : tie.Need-add-i Inv-loop μ-loop
 add-i c = search needs
@@ -43,7 +48,8 @@ loop-less : tie.Need-loop-less Inv-loop μ-loop
 loop-less c = omega arith
 
 loop-again : tie.Need-loop-again Inv-loop μ-loop
-loop-again c = good _ _ _ _ (c .before .before .before .loop .inv) (c .before .before .loop-test .taken) (c .before .entry-ok .ensures) (c .if2 .left)
+loop-again c =
+    good _ _ _ _ (c .before .before .before .before .loop .inv) (c .before .before .before .loop-test .taken) (c .before .before .wide8 .ensures) (c .before .entry-ok .ensures) (c .if2 .left)
 
 returns-3 : tie.Need-returns-3 Inv-loop μ-loop
 returns-3 c = none-left _ _ _ _ (c .before .loop .inv) (omega arith)
@@ -57,6 +63,7 @@ entries-verdict-spec =
     deps-ok-requires
     returns
     loop-holds
+    wide8-requires
     mul-entry-ok
     array-read-entry-ok
     entry-ok-requires
