@@ -1,4 +1,5 @@
 // The table of bodies, a row for each kind, and beside it all that goes by a body's cases.
+use crate::command::op_number;
 use crate::logic::equal;
 use crate::logic::wide8;
 use crate::vote::noop;
@@ -12,6 +13,7 @@ use paper::Role;
 use paper::Row;
 use paper::Vote;
 ghost use mathlib.Core.Path.{_≡_};
+ghost use Rattle.paper.specs.Valid.{opIn};
 ghost use Rattle.paper.specs.Message.{
   nothing,
   dependencies,
@@ -267,6 +269,15 @@ pub fn joined_in(b: Body) -> u32
 {
     let x = carried_in(b);
     x.joined
+}
+
+pub fn op_in(m: Message) -> usize
+    ensures { λ r. ⌜ r ≡ opIn m ⌝ }
+{
+    let body = m.body;
+    let command = command_in(body);
+    let op = command.op;
+    op_number(op)
 }
 
 // The vote that is told.

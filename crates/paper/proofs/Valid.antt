@@ -186,22 +186,26 @@ module _ (n s c : ℕ) (m : Message) where
   unfolding valid
   clauses-of h = from-none (opIn m) h .1
 
+  -- an op by value is in range
+  pub op-fits : opRange (opIn m) ≡ true
+  op-fits = op-in (commandIn (m .body) .op)
+
   pub valid-of : Clauses n s c (rowIn (m .body)) m (voteIn m) (joinedIn (m .body)) → valid n s c m ≡ true
   unfolding valid
-  valid-of k = to-none (opIn m) (op-in (commandIn (m .body) .op)) k
+  valid-of k = to-none (opIn m) op-fits k
 
   -- none fails of a valid message with an op in its bytes, and of no other
   pub none-fails : (o : ℕ) → isNone (firstFailing n s c o m) ≡ (opRange o && valid n s c m)
   none-fails o =
       alike _ _ (λ h. let (e, k) = from-none o h in rw e (valid-of k)) (λ h. let (e, v) = and-true (opRange o) (valid n s c m) h in to-none o e (clauses-of v))
 
--- a verdict is valid where none fails
-pub isValid : Verdict → Bool
+-- the verdict is valid where none fails
+abbrev pub isValid : Verdict → Bool
 isValid verdict.Valid = true
 isValid (verdict.Blamed x) = false
 
 pub valid-verdict : (n s c o : ℕ) (m : Message) → isValid (verdictOn n s c o m) ≡ (opRange o && valid n s c m)
-unfolding verdictOn isValid
+unfolding verdictOn
 valid-verdict n s c o m = go (firstFailing n s c o m) ∙ none-fails n s c m o
   where
     go : (x : Failing) → isValid (verdictOf x) ≡ isNone x

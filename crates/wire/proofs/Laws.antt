@@ -1,18 +1,19 @@
 -- The places of the parts, lengths of messages, and the outcomes of the two calls, one law each. Assumes nothing.
 use mathlib.Core.Path.{_≡_, refl, sym, ap, _∙_}
-use mathlib.Core.Bool.{Bool, true, false, _&&_, _||_, cond, and-eq-true-iff}
+use mathlib.Core.Bool.{Bool, true, false, _&&_, _||_, not, cond, and-eq-true-iff}
 use mathlib.Core.List.{List, [], _∷_, _++_}
 use Prim.Native.Nat.{ℕ, _+_, _≤_, _<_}
 use native.Mathlib.Omega.{arith}
-use lib.Dec.{leb}
+use lib.Dec.{leb, ltb, eqb}
 use lib.ListN.{length, length-append}
-use borrow.Author.Tests.{leb-true, eqb-true, lt-ltb, le-ltb}
+use borrow.Author.Tests.{leb-true, eqb-true, eq-eqb, ne-eqb, lt-ltb, le-ltb}
 use Rattle.numbers.specs.Num.{splice}
 use Rattle.numbers.specs.Fields.{sizeOf}
 use Rattle.codec.specs.Parts.{commandWidths, depsWidths, commandBytes, depsBytes}
 use Rattle.paper.specs.Setup.{setupOk}
 use Rattle.paper.specs.Message.{rowOf, rowIn, partsOf, partsIn, kindOf, carriedIn}
-use Rattle.paper.specs.Valid.{valid}
+use Rattle.paper.specs.Valid.{opIn, valid, verdictOn}
+use Rattle.paper.specs.declared.Refusal.{Refusal}
 use Rattle.paper.specs.declared.Refusal.the-variants.{Setup, Room}
 use Rattle.paper.specs.declared.Refusal.the-variants as why
 use Rattle.paper.specs.declared.Carried.{Carried}
@@ -21,9 +22,14 @@ use Rattle.paper.specs.declared.Row.{Row}
 use Rattle.paper.specs.declared.Message.{Message}
 use Rattle.wire.specs.declared.Reading.the-variants as reading
 use Rattle.wire.specs.declared.Writing.the-variants as writing
+use Rattle.paper.specs.declared.Blame.{Blame}
+use Rattle.paper.specs.declared.Verdict.{Verdict}
+use Rattle.paper.specs.declared.Verdict.the-variants as verdict
+use Rattle.paper.proofs.Laws.{and-true}
+use Rattle.paper.proofs.Valid.{isValid, valid-verdict, op-fits}
 use Rattle.paper.proofs.Bodies.{allOf, everyRow, every-row, kind-is}
-use Rattle.wire.specs.Wire.{toldWidths, joinedWidths, headSize, past, commandStart, depsStart, joinedStart, restEnd, kindAt, lengthOf, part, toldBytes, joinedBytes, restBytes, headBytes, carriedAt, messageAt, messageBytes, framed, OfKind, opFits, validBytes}
-use Rattle.wire.specs.Calls.{unread, readMessage, unwritten, Wrote, wrote}
+use Rattle.wire.specs.Wire.{toldWidths, joinedWidths, headSize, past, commandStart, depsStart, joinedStart, restEnd, kindAt, lengthOf, part, toldBytes, joinedBytes, restBytes, headBytes, carriedAt, messageAt, messageBytes, framed, OfKind, opAt, validBytes, verdictAt}
+use Rattle.wire.specs.Calls.{unread, refusalOf, unlessBlamed, readMessage, unwritten, Wrote, writeUnlessBlamed, wrote}
 
 -- a part moves what stands after it by its bytes or not at all
 module _ (b : Bool) (ws : List ℕ) (at : ℕ) where
@@ -191,24 +197,59 @@ pub length-messageBytes : (m : Message) → length (messageBytes m) ≡ lengthOf
 unfolding messageBytes lengthOf
 length-messageBytes m = rest-ends (partsIn (m .body)) (carriedIn (m .body)) (m .deps) (headBytes m) 10 (length-headBytes m)
 
--- the reader's outcomes
+-- the reader's outcomes, in the order in which they are tried
 module _ (n s c : ℕ) (b : List ℕ) where
   pub received-1 : setupOk n s c ≡ false → unread Setup ≡ readMessage n s c b
   unfolding readMessage
   received-1 p = rw p
 
-  pub received-3-frame : setupOk n s c ≡ true → framed b ≡ false → unread why.Message ≡ readMessage n s c b
-  unfolding readMessage validBytes
-  received-3-frame p q = rw (p, q)
+  pub received-31 : setupOk n s c ≡ true → rowOf (kindAt b) .known ≡ false → unread why.UnknownKind ≡ readMessage n s c b
+  unfolding readMessage verdictAt
+  received-31 p q = rw (p, q)
 
-  pub received-3 : setupOk n s c ≡ true → framed b ≡ true → (opFits b && valid n s c (messageAt b)) ≡ false → unread why.Message ≡ readMessage n s c b
-  unfolding readMessage validBytes
-  received-3 p q r = rw (p, q, r)
+  pub received-32 : setupOk n s c ≡ true → rowOf (kindAt b) .known ≡ true → eqb (length b) (lengthOf (kindAt b)) ≡ false
+      → unread why.WrongLength ≡ readMessage n s c b
+  unfolding readMessage verdictAt
+  received-32 p q r = rw (p, q, r)
 
-  pub received-ok : setupOk n s c ≡ true → framed b ≡ true → (opFits b && valid n s c (messageAt b)) ≡ true
-      → record { answer = reading.Valid; message = messageAt b } ≡ readMessage n s c b
-  unfolding readMessage validBytes
-  received-ok p q r = rw (p, q, r)
+  pub received-rest : setupOk n s c ≡ true → framed b ≡ true
+      → unlessBlamed (partsOf (kindAt b)) (verdictOn n s c (opAt (partsOf (kindAt b)) b) (messageAt b)) (messageAt b) ≡ readMessage n s c b
+  unfolding readMessage verdictAt framed
+  received-rest p h = let (k, l) = and-true (rowOf (kindAt b) .known) _ h in rw (p, k, l)
+
+  -- no reason is given for what is valid, and one for everything else
+  pub valid-bytes : isValid (verdictAt n s c b) ≡ validBytes n s c b
+  unfolding verdictAt validBytes framed
+  valid-bytes = go (rowOf (kindAt b) .known) refl (eqb (length b) (lengthOf (kindAt b))) refl
+    where
+      go : (k : Bool) → rowOf (kindAt b) .known ≡ k → (l : Bool) → eqb (length b) (lengthOf (kindAt b)) ≡ l → isValid (verdictAt n s c b) ≡ validBytes n s c b
+      go false p l q = rw p
+      go true p false q = rw (p, q)
+      go true p true q = rw (p, q) (valid-verdict n s c (opAt (partsOf (kindAt b)) b) (messageAt b))
+
+-- the refusal of a verdict that blames
+pub whyOf : Parts → Verdict → Refusal
+whyOf p verdict.Valid = Setup
+whyOf p (verdict.Blamed x) = refusalOf p x
+
+abbrev pub whyRead : ℕ → ℕ → ℕ → List ℕ → Refusal
+whyRead n s c b = whyOf (partsOf (kindAt b)) (verdictAt n s c b)
+
+abbrev pub whyWritten : ℕ → ℕ → Message → Refusal
+whyWritten n s m = whyOf (partsIn (m .body)) (verdictOn n s (m .to) (opIn m) m)
+
+-- the reader by what is valid
+pub read-is : (n s c : ℕ) (b : List ℕ) → readMessage n s c b
+    ≡ cond (not (setupOk n s c)) (unread Setup) (cond (not (validBytes n s c b)) (unread (whyRead n s c b)) (record { answer = reading.Valid; message = messageAt b }))
+unfolding readMessage whyOf
+read-is n s c b = ap (cond (not (setupOk n s c)) (unread Setup)) (go (verdictAt n s c b) (validBytes n s c b) (valid-bytes n s c b))
+  where
+    go : (v : Verdict) (t : Bool) → isValid v ≡ t
+        → unlessBlamed (partsOf (kindAt b)) v (messageAt b) ≡ cond (not t) (unread (whyOf (partsOf (kindAt b)) v)) (record { answer = reading.Valid; message = messageAt b })
+    go verdict.Valid true e = refl
+    go verdict.Valid false e = absurd (let z : _≡_ {A = ℕ} 0 1 = cc in omega arith)
+    go (verdict.Blamed x) true e = absurd (let z : _≡_ {A = ℕ} 0 1 = cc in omega arith)
+    go (verdict.Blamed x) false e = refl
 
 -- the writer's outcomes
 module _ (n s c : ℕ) (out : List ℕ) (m : Message) where
@@ -220,14 +261,66 @@ module _ (n s c : ℕ) (out : List ℕ) (m : Message) where
   unfolding wrote
   wrote-2 p q = rw (p, lt-ltb (length out) 256 q)
 
-  pub wrote-3 : setupOk n s c ≡ true → 256 ≤ length out → valid n s (m .to) m ≡ false → unwritten why.Message out ≡ wrote n s c out m
+  pub wrote-rest : setupOk n s c ≡ true → 256 ≤ length out → (v : Verdict) → v ≡ verdictOn n s (m .to) (opIn m) m
+      → writeUnlessBlamed v out m ≡ wrote n s c out m
   unfolding wrote
-  wrote-3 p q r = rw (p, le-ltb (length out) 256 q, r)
+  wrote-rest p q v e = rw (e, p, le-ltb (length out) 256 q)
+
+  pub wrote-blamed : setupOk n s c ≡ true → 256 ≤ length out → {x : Blame} → verdict.Blamed x ≡ verdictOn n s (m .to) (opIn m) m → {w : Row} → w ≡ rowIn (m .body)
+      → {r : Refusal} → r ≡ refusalOf (w .parts) x → unwritten r out ≡ wrote n s c out m
+  wrote-blamed p q {x} e {w} ew er =
+      let f : refusalOf (w .parts) x ≡ refusalOf (partsIn (m .body)) x = ap (λ (w : Row). refusalOf (w .parts) x) ew in
+      ap (λ (z : Refusal). unwritten z out) (er ∙ f) ∙ wrote-rest p q (verdict.Blamed x) e
+
+  -- the writer by what is valid
+  pub wrote-is : wrote n s c out m
+      ≡ cond (not (setupOk n s c)) (unwritten Setup out)
+      (cond (ltb (length out) 256) (unwritten Room out)
+      (cond (not (valid n s (m .to) m)) (unwritten (whyWritten n s m) out)
+      (record { answer = writing.Bytes (lengthOf (kindOf (m .body))); out = splice out 0 (messageBytes m) })))
+  unfolding wrote whyOf
+  wrote-is =
+      let e : isValid (verdictOn n s (m .to) (opIn m) m) ≡ valid n s (m .to) m = valid-verdict n s (m .to) (opIn m) m ∙ rw (op-fits n s (m .to) m) in
+      ap (λ (x : Wrote). cond (not (setupOk n s c)) (unwritten Setup out) (cond (ltb (length out) 256) (unwritten Room out) x))
+      (go (verdictOn n s (m .to) (opIn m) m) (valid n s (m .to) m) e)
+    where
+      go : (v : Verdict) (t : Bool) → isValid v ≡ t
+          → writeUnlessBlamed v out m
+          ≡ cond (not t) (unwritten (whyOf (partsIn (m .body)) v) out) (record { answer = writing.Bytes (lengthOf (kindOf (m .body))); out = splice out 0 (messageBytes m) })
+      go verdict.Valid true e = refl
+      go verdict.Valid false e = absurd (let z : _≡_ {A = ℕ} 0 1 = cc in omega arith)
+      go (verdict.Blamed x) true e = absurd (let z : _≡_ {A = ℕ} 0 1 = cc in omega arith)
+      go (verdict.Blamed x) false e = refl
 
   pub wrote-ok : setupOk n s c ≡ true → 256 ≤ length out → valid n s (m .to) m ≡ true
       → _≡_ {A = Wrote} (record { answer = writing.Bytes (lengthOf (kindOf (m .body))); out = splice out 0 (messageBytes m) }) (wrote n s c out m)
-  unfolding wrote
-  wrote-ok p q r = rw (p, le-ltb (length out) 256 q, r)
+  wrote-ok p q r = sym (wrote-is ∙ rw (p, le-ltb (length out) 256 q, r))
+
+-- what the reader goes by: the kind, its row, and where its rest ends
+module _ (n s c : ℕ) (b : List ℕ) (setup : setupOk n s c ≡ true) {k : ℕ} {r : Row} (kind : k ≡ kindAt b) (row : r ≡ rowOf k) where
+  pub not-known : r .known ≡ false → unread why.UnknownKind ≡ readMessage n s c b
+  not-known h = received-31 n s c b setup (sym (ap (λ (w : Row). w .known) (row ∙ ap rowOf kind)) ∙ h)
+
+  pub not-exact : r .known ≡ true → {e : ℕ} → e ≡ restEnd (r .parts) headSize → (length b ≡ e → ⊥) → unread why.WrongLength ≡ readMessage n s c b
+  unfolding lengthOf
+  not-exact h e d =
+      let q : r ≡ rowOf (kindAt b) = row ∙ ap rowOf kind in
+      let l : (length b ≡ lengthOf (kindAt b) → ⊥) = λ g. d (g ∙ sym (e ∙ ap (λ (w : Row). restEnd (w .parts) headSize) q)) in
+      received-32 n s c b setup (sym (ap (λ (w : Row). w .known) q) ∙ h) (ne-eqb _ _ l)
+
+  pub judged-read : framed b ≡ true → {o : ℕ} → o ≡ opAt (r .parts) b → {m : Message} → m ≡ messageAt b → {v : Verdict} → v ≡ verdictOn n s c o m
+      → unlessBlamed (r .parts) v m ≡ readMessage n s c b
+  judged-read h {o} eo {m} em {v} ev =
+      let q : r .parts ≡ partsOf (kindAt b) = ap (λ (w : Row). w .parts) (row ∙ ap rowOf kind) in
+      let x : o ≡ opAt (partsOf (kindAt b)) b = eo ∙ ap (λ (p : Parts). opAt p b) q in
+      rw (ev, em, x, q) (received-rest n s c b setup h)
+
+pub is-framed : (b : List ℕ) {k : ℕ} {r : Row} → k ≡ kindAt b → r ≡ rowOf k → r .known ≡ true → {e : ℕ} → e ≡ restEnd (r .parts) headSize → length b ≡ e
+    → framed b ≡ true
+unfolding framed lengthOf
+is-framed b kind row h e l =
+    let q = row ∙ ap rowOf kind in
+    rw (sym (ap (λ (w : Row). w .known) q) ∙ h) (eq-eqb _ _ (l ∙ e ∙ ap (λ (w : Row). restEnd (w .parts) headSize) q))
 
 -- no bytes have kind 0
 pub empty : (b : List ℕ) → length b ≡ 0 → 0 ≡ kindAt b

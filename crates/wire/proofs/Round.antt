@@ -29,10 +29,11 @@ use Rattle.paper.specs.declared.Message.{Message}
 use Rattle.paper.specs.declared.Refusal.{Refusal}
 use Rattle.paper.specs.declared.Refusal.the-variants as why
 use Rattle.wire.specs.declared.Reading.the-variants as reading
+use Rattle.wire.specs.declared.Received.{Received}
 use Rattle.wire.specs.declared.Writing.the-variants as writing
 use Rattle.wire.specs.Wire.{headWidths, toldWidths, joinedWidths, headNumbers, past, commandStart, depsStart, joinedStart, restEnd, lengthOf, part, toldBytes, joinedBytes, headBytes, restBytes, messageBytes, kindAt, carriedAt, besideAt, bodyAt, messageAt, framed, opAt, opFits, validBytes}
-use Rattle.wire.specs.Calls.{readMessage, Wrote, wrote, writingCount}
-use Rattle.wire.proofs.Laws.{past-over, told-room, command-room, deps-room, joined-room, ten, long-enough, Framed, framed-is, length-headBytes, told-ends, command-ends, deps-ends, length-messageBytes, received-ok, wrote-ok}
+use Rattle.wire.specs.Calls.{unread, readMessage, unwritten, Wrote, wrote, writingCount}
+use Rattle.wire.proofs.Laws.{past-over, told-room, command-room, deps-room, joined-room, ten, long-enough, Framed, framed-is, length-headBytes, told-ends, command-ends, deps-ends, length-messageBytes, whyRead, whyWritten, read-is, wrote-is, wrote-ok}
 
 -- each number fits its field
 headNumbers-fit : (m : Message) → MessageFits m → FieldsFit headWidths (headNumbers m)
@@ -258,13 +259,17 @@ valid-carried n s c m h = clauses-of n s c m h .carried
 valid-here : (n s c : ℕ) (m : Message) → valid n s c m ≡ true → m .to ≡ c
 valid-here n s c m h = eqb-true (m .to) c (clauses-of n s c m h .here)
 
+valid-written : (n s c : ℕ) (b : List ℕ) → framed b ≡ true → opFits b ≡ true → valid n s c (messageAt b) ≡ true → validBytes n s c b ≡ true
+unfolding validBytes
+valid-written n s c b f o v = rw (f, o) v
+
 -- Written messages read back equal: what a message that the writer takes is written as, its receiver reads as that message.
 pub written-reads-back : (n s c : ℕ) (m : Message) → MessageFits m → setupOk n s c ≡ true → valid n s c m ≡ true
     → readMessage n s c (messageBytes m) ≡ record { answer = reading.Valid; message = m }
 written-reads-back n s c m f p v =
     let e : messageAt (messageBytes m) ≡ m = messageAt-messageBytes m f (valid-carried n s c m v) in
-    let w : (opFits (messageBytes m) && valid n s c (messageAt (messageBytes m))) ≡ true = rw (op-written m f, e) v in
-    sym (received-ok n s c (messageBytes m) p (framed-written m f) w) ∙ ap (λ (x : Message). record { answer = reading.Valid; message = x }) e
+    let w : validBytes n s c (messageBytes m) ≡ true = valid-written n s c (messageBytes m) (framed-written m f) (op-written m f) (ap (valid n s c) e ∙ v) in
+    read-is n s c (messageBytes m) ∙ rw (p, w) (ap (λ (x : Message). record { answer = reading.Valid; message = x }) e)
 
 write-then-read : (n s c : ℕ) (out : List ℕ) (m : Message) → MessageFits m → setupOk n s c ≡ true → setupOk n s (m .to) ≡ true → 256 ≤ length out
     → valid n s (m .to) m ≡ true → readMessage n s (m .to) (take (lengthOf (kindOf (m .body))) (wrote n s c out m .out)) ≡ record { answer = reading.Valid; message = m }
@@ -280,17 +285,20 @@ write-then-read n s c out m f p q r v =
 -- message.
 pub written-read : (n s c : ℕ) (out : List ℕ) (m : Message) (k : ℕ) → MessageFits m → wrote n s c out m .answer ≡ writing.Bytes k
     → readMessage n s (m .to) (take k (wrote n s c out m .out)) ≡ record { answer = reading.Valid; message = m }
-unfolding wrote setupOk
+unfolding setupOk
 written-read n s c out m k f e = go (setupOk n s c) refl (ltb (length out) 256) refl (valid n s (m .to) m) refl
   where
-    refused : {A : Type 0} (r : Refusal) → writing.Refused r ≡ writing.Bytes k → A
-    refused r h = let z : _≡_ {A = ℕ} 0 1 = cc in absurd (omega arith)
+    refused : {A : Type 0} (r : Refusal) → wrote n s c out m ≡ unwritten r out → A
+    refused r h =
+        let x : writing.Refused r ≡ writing.Bytes k = ap (λ (w : Wrote). w .answer) (sym h) ∙ e in
+        let z : _≡_ {A = ℕ} 0 1 = cc in
+        absurd (omega arith)
 
     go : (a : Bool) → setupOk n s c ≡ a → (b : Bool) → ltb (length out) 256 ≡ b → (v : Bool) → valid n s (m .to) m ≡ v
         → readMessage n s (m .to) (take k (wrote n s c out m .out)) ≡ record { answer = reading.Valid; message = m }
-    go false p b q v r = refused why.Setup (rw p at e)
-    go true p true q v r = refused why.Room (rw (p, q) at e)
-    go true p false q false r = refused why.Message (rw (p, q, r) at e)
+    go false p b q v r = refused why.Setup (wrote-is n s c out m ∙ rw p)
+    go true p true q v r = refused why.Room (wrote-is n s c out m ∙ rw (p, q))
+    go true p false q false r = refused (whyWritten n s m) (wrote-is n s c out m ∙ rw (p, q, r))
     go true p false q true r =
         let long : 256 ≤ length out = ltb-false (length out) 256 q in
         let a : writing.Bytes (lengthOf (kindOf (m .body))) ≡ writing.Bytes k = ap (λ (w : Wrote). w .answer) (wrote-ok n s c out m p long r) ∙ e in
@@ -323,14 +331,18 @@ read-then-write n s c d b out byte p r h =
 -- read, and writes them.
 pub read-written : (n s c d : ℕ) (b out : List ℕ) → ((i : ℕ) → getD b i 0 < 256) → setupOk n s d ≡ true → 256 ≤ length out → readMessage n s c b .answer ≡ reading.Valid
     → wrote n s d out (readMessage n s c b .message) ≡ record { answer = writing.Bytes (length b); out = splice out 0 b }
-unfolding readMessage
 read-written n s c d b out byte p r e = go (setupOk n s c) refl (validBytes n s c b) refl
   where
-    refused : {A : Type 0} (r : Refusal) → reading.Refused r ≡ reading.Valid → A
-    refused r h = let z : _≡_ {A = ℕ} 0 1 = cc in absurd (omega arith)
+    refused : {A : Type 0} (r : Refusal) → readMessage n s c b ≡ unread r → A
+    refused r h =
+        let x : reading.Refused r ≡ reading.Valid = ap (λ (w : Received). w .answer) (sym h) ∙ e in
+        let z : _≡_ {A = ℕ} 0 1 = cc in
+        absurd (omega arith)
 
     go : (a : Bool) → setupOk n s c ≡ a → (v : Bool) → validBytes n s c b ≡ v
         → wrote n s d out (readMessage n s c b .message) ≡ record { answer = writing.Bytes (length b); out = splice out 0 b }
-    go false q v h = refused why.Setup (rw q at e)
-    go true q false h = refused why.Message (rw (q, h) at e)
-    go true q true h = rw (q, h) (read-then-write n s c d b out byte p r h)
+    go false q v h = refused why.Setup (read-is n s c b ∙ rw q)
+    go true q false h = refused (whyRead n s c b) (read-is n s c b ∙ rw (q, h))
+    go true q true h =
+        let x : readMessage n s c b ≡ record { answer = reading.Valid; message = messageAt b } = read-is n s c b ∙ rw (q, h) in
+        rw x (read-then-write n s c d b out byte p r h)

@@ -1,21 +1,28 @@
 -- "Messages": the bytes of each kind: the head, then the parts that its row has, in their order. Length, reader and writer go by
 -- the places that follow from the parts' widths. Assumes nothing.
-use Prim.Native.Nat.{ℕ, _+_}
+use Prim.Native.Nat.{ℕ, zero, suc, _+_, _*_}
 use mathlib.Core.Path.{_≡_}
-use mathlib.Core.Bool.{Bool, true, _&&_, cond}
+use mathlib.Core.Bool.{Bool, true, _&&_, not, cond}
 use mathlib.Core.List.{List, [], _∷_, _++_}
 use lib.Dec.{leb, eqb}
-use lib.ListN.{length}
+use lib.ListN.{length, take}
 use Rattle.numbers.specs.Num.{numAt}
 use Rattle.numbers.specs.Fields.{sizeOf, fieldsBytes}
 use Rattle.codec.specs.Parts.{commandWidths, depsWidths, commandAt, depsAt, commandBytes, depsBytes}
 use Rattle.paper.specs.Deps.{noDeps}
 use Rattle.paper.specs.Message.{rowOf, partsOf, partsIn, kindOf, carriedIn, bodyOf, kept}
-use Rattle.paper.specs.Valid.{valid}
+use Rattle.paper.specs.Valid.{opRange, valid, verdictOn, hasField, fieldOf, fieldCount}
 use Rattle.paper.specs.declared.Body.{Body}
 use Rattle.paper.specs.declared.Carried.{Carried}
 use Rattle.paper.specs.declared.Parts.{Parts}
 use Rattle.paper.specs.declared.Message.{Message}
+use Rattle.paper.specs.declared.Field.{Field}
+use Rattle.paper.specs.declared.Field.the-variants as field
+use Rattle.paper.specs.declared.Blame.the-variants as blame
+use Rattle.paper.specs.declared.Verdict.{Verdict}
+use Rattle.paper.specs.declared.Verdict.the-variants as verdict
+use Rattle.wire.specs.declared.Begins.{Begins}
+use Rattle.wire.specs.declared.Begins.the-variants as begins
 
 -- kind, from, to, owner, number, ballot
 abbrev pub headWidths : List ℕ
@@ -127,8 +134,59 @@ opAt p b = cond (p .command) (numAt 1 b (commandStart p headSize)) 0
 
 -- 0, 1 or 2: a message read from other bytes could not be told from a valid one
 abbrev pub opFits : List ℕ → Bool
-opFits b = leb (opAt (partsOf (kindAt b)) b) 2
+opFits b = opRange (opAt (partsOf (kindAt b)) b)
 
 -- valid as received by copy c
 unfoldable pub validBytes : ℕ → ℕ → ℕ → List ℕ → Bool
 validBytes n s c b = framed b && opFits b && valid n s c (messageAt b)
+
+-- 1/12: what copy c finds these bytes to be: the kind first, then the length, then the clauses
+unfoldable pub verdictAt : ℕ → ℕ → ℕ → List ℕ → Verdict
+verdictAt n s c b =
+    cond (not (rowOf (kindAt b) .known)) (verdict.Blamed blame.Kind)
+    (cond (not (eqb (length b) (lengthOf (kindAt b)))) (verdict.Blamed blame.Length)
+    (verdictOn n s c (opAt (partsOf (kindAt b)) b) (messageAt b)))
+
+-- the first byte of a field, in a message with these parts
+abbrev pub offsetOf : Parts → Field → ℕ
+offsetOf p field.From = sizeOf (take 1 headWidths)
+offsetOf p field.To = sizeOf (take 2 headWidths)
+offsetOf p field.Owner = sizeOf (take 3 headWidths)
+offsetOf p field.Number = sizeOf (take 4 headWidths)
+offsetOf p field.Ballot = sizeOf (take 5 headWidths)
+offsetOf p field.Voted = headSize
+offsetOf p field.Status = headSize + sizeOf (take 1 toldWidths)
+offsetOf p field.Op = commandStart p headSize
+offsetOf p field.Key = commandStart p headSize + sizeOf (take 1 commandWidths)
+offsetOf p field.Edit = commandStart p headSize + sizeOf (take 2 commandWidths)
+offsetOf p (field.Entry i) = depsStart p headSize + 2 * i
+offsetOf p field.Joined = joinedStart p headSize
+
+-- how many bytes it takes
+abbrev pub widthOf : Field → ℕ
+widthOf field.From = 1
+widthOf field.To = 1
+widthOf field.Owner = 1
+widthOf field.Number = 2
+widthOf field.Ballot = 4
+widthOf field.Voted = 4
+widthOf field.Status = 1
+widthOf field.Op = 1
+widthOf field.Key = 4
+widthOf field.Edit = 8
+widthOf (field.Entry i) = 2
+widthOf field.Joined = 4
+
+-- the number that stands in a field, 0 where these bytes have no such field
+unfoldable pub valueIn : List ℕ → Field → ℕ
+valueIn b f =
+    cond (hasField (partsOf (kindAt b)) f && leb (offsetOf (partsOf (kindAt b)) f + widthOf f) (length b))
+    (numAt (widthOf f) b (offsetOf (partsOf (kindAt b)) f)) 0
+
+-- which field begins at an offset: the first of k, from the i-th on, that does
+unfoldable pub fieldFrom : Parts → ℕ → ℕ → ℕ → Begins
+fieldFrom p a zero i = begins.Nothing
+fieldFrom p a (suc k) i = cond (hasField p (fieldOf i) && eqb (offsetOf p (fieldOf i)) a) (begins.Field (fieldOf i)) (fieldFrom p a k (i + 1))
+
+abbrev pub fieldAt : ℕ → ℕ → Begins
+fieldAt k a = fieldFrom (partsOf k) a fieldCount 0

@@ -1,24 +1,24 @@
 // Messages in bytes: the reader of any bytes and the writer into lent room.
 use nouns::deps::no_deps;
-use nouns::logic::at_most;
-use nouns::logic::both;
-use nouns::logic::equal;
 use nouns::logic::wide8;
 use nouns::message::body_of;
 use nouns::message::carried_in;
 use nouns::message::kind_of;
+use nouns::message::op_in;
 use nouns::message::row_in;
 use nouns::message::row_of;
 use nouns::setup::setup_ok;
 use nouns::vote::noop;
+use paper::Blame;
 use paper::Body;
 use paper::Carried;
 use paper::Command;
+use paper::Field;
 use paper::Message;
 use paper::Parts;
 use paper::Refusal;
-use paper::Row;
-use valid::valid_message;
+use paper::Verdict;
+use valid::verdict_on;
 ghost use mathlib.Core.Path.{_≡_};
 ghost use Prim.Native.Nat.{_+_, _≤_, _<_};
 ghost use mathlib.Core.Bool.{cond};
@@ -26,9 +26,9 @@ ghost use lib.ListN.{length};
 ghost use Rattle.numbers.specs.Num.{numAt, splice};
 ghost use Rattle.codec.specs.Parts.{commandAt, commandBytes, depsBytes};
 ghost use Rattle.paper.specs.Command.{noop};
-ghost use Rattle.paper.specs.Message.{rowOf, bodyOf, noMessage};
-ghost use Rattle.wire.specs.Wire.{headSize, commandStart, depsStart, joinedStart, restEnd, lengthOf, kindAt, carriedAt, besideAt, messageAt, framed, OfKind, opAt, toldBytes, joinedBytes, part, headBytes, restBytes, messageBytes};
-ghost use Rattle.wire.specs.Calls.{unread, readMessage, wrote};
+ghost use Rattle.paper.specs.Message.{bodyOf, noMessage};
+ghost use Rattle.wire.specs.Wire.{headSize, commandStart, depsStart, joinedStart, restEnd, lengthOf, kindAt, carriedAt, besideAt, messageAt, OfKind, opAt, offsetOf, toldBytes, joinedBytes, part, headBytes, restBytes, messageBytes};
+ghost use Rattle.wire.specs.Calls.{unread, refusalOf, unlessBlamed, readMessage, wrote};
 
 // How many bytes the head takes, and each part of the rest.
 const HEAD: usize = 10;
@@ -40,6 +40,12 @@ const COMMAND: usize = 13;
 const DEPS: usize = 14;
 
 const JOINED: usize = 4;
+
+// Which field begins at an offset.
+pub enum Begins {
+    Field(Field),
+    Nothing,
+}
 
 pub enum Reading {
     Valid,
@@ -98,20 +104,13 @@ pub fn length_of(k: usize) -> usize
 }
 
 // The kind byte, 0 of no bytes.
-fn kind_at(b: &[u8]) -> usize
+pub fn kind_at(b: &[u8]) -> usize
     ensures { λ r. ⌜ r ≡ kindAt (now (b .entry)) ⌝ }
 {
     if b.len() == 0 {
         return 0;
     }
     wide8(numbers::get_u8(b, 0))
-}
-
-fn framed(row: Row, b: &[u8]) -> bool
-    requires { ⌜ row ≡ rowOf (kindAt (now b)) ⌝ }
-    ensures { λ r. ⌜ r ≡ framed (now (b .entry)) ⌝ }
-{
-    both(row.known, equal(b.len(), rest_end(row.parts, HEAD)))
 }
 
 // The op byte, or 0 where there is none.
@@ -250,6 +249,49 @@ fn unread(why: Refusal) -> Received
     }
 }
 
+fn offset_of(p: Parts, f: Field) -> usize
+    ensures { λ r. ⌜ r ≡ offsetOf p f ⌝ }
+{
+    match f {
+        Field::From => 1,
+        Field::To => 2,
+        Field::Owner => 3,
+        Field::Number => 4,
+        Field::Ballot => 6,
+        Field::Voted => HEAD,
+        Field::Status => HEAD + 4,
+        Field::Op => command_start(p, HEAD),
+        Field::Key => command_start(p, HEAD) + 1,
+        Field::Edit => command_start(p, HEAD) + 5,
+        Field::Entry(i) => deps_start(p, HEAD) + 2 * wide8(i),
+        Field::Joined => joined_start(p, HEAD),
+    }
+}
+
+fn refusal_of(p: Parts, x: Blame) -> Refusal
+    ensures { λ r. ⌜ r ≡ refusalOf p x ⌝ }
+{
+    match x {
+        Blame::Kind => Refusal::UnknownKind,
+        Blame::Length => Refusal::WrongLength,
+        Blame::Way => Refusal::WrongWay,
+        Blame::Lead => Refusal::WrongLead,
+        Blame::Of(f) => Refusal::WrongField(offset_of(p, f)),
+    }
+}
+
+fn unless_blamed(p: Parts, x: Verdict, m: Message) -> Received
+    ensures { λ r. ⌜ r ≡ unlessBlamed p x m ⌝ }
+{
+    match x {
+        Verdict::Valid => Received {
+            answer: Reading::Valid,
+            message: m,
+        },
+        Verdict::Blamed(why) => unread(refusal_of(p, why)),
+    }
+}
+
 // Reads a message of any bytes, as received by copy c under the setup n, s.
 pub fn read_message(n: usize, s: usize, c: usize, b: &[u8]) -> Received
     ensures { λ r. ⌜ r ≡ readMessage n s c (now (b .entry)) ⌝ }
@@ -259,18 +301,15 @@ pub fn read_message(n: usize, s: usize, c: usize, b: &[u8]) -> Received
     }
     let k = kind_at(b);
     let row = row_of(k);
-    if !framed(row, b) {
-        return unread(Refusal::Message);
+    if !row.known {
+        return unread(Refusal::UnknownKind);
+    }
+    if b.len() != rest_end(row.parts, HEAD) {
+        return unread(Refusal::WrongLength);
     }
     let op = op_at(row.parts, b);
     let m = message_at(k, row.parts, b);
-    if !both(at_most(op, 2), valid_message(n, s, c, row, m)) {
-        return unread(Refusal::Message);
-    }
-    Received {
-        answer: Reading::Valid,
-        message: m,
-    }
+    unless_blamed(row.parts, verdict_on(n, s, c, row, op, m), m)
 }
 
 fn write_head(out: &mut [u8], at: usize, m: Message)
@@ -362,9 +401,11 @@ pub fn write_message(n: usize, s: usize, c: usize, out: &mut [u8], m: Message) -
     }
     let body = m.body;
     let row = row_in(body);
-    if !valid_message(n, s, wide8(m.to), row, m) {
-        return Writing::Refused(Refusal::Message);
+    match verdict_on(n, s, wide8(m.to), row, op_in(m), m) {
+        Verdict::Valid => {
+            message_bytes(out, 0, m);
+            Writing::Bytes(rest_end(row.parts, HEAD))
+        }
+        Verdict::Blamed(why) => Writing::Refused(refusal_of(row.parts, why)),
     }
-    message_bytes(out, 0, m);
-    Writing::Bytes(rest_end(row.parts, HEAD))
 }

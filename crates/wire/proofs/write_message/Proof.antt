@@ -1,12 +1,14 @@
-use mathlib.Core.Path.{sym, ap, _∙_}
+use mathlib.Core.Path.{_≡_, sym, ap, ap₂, _∙_}
 use Prim.Native.Nat.{ℕ}
 use borrow.Author.Tests.{not-true, not-false}
-use Rattle.paper.specs.Valid.{valid}
+use Rattle.paper.specs.Valid.{verdictOn}
+use Rattle.paper.specs.declared.Row.{Row}
+use Rattle.paper.specs.declared.Verdict.{Verdict}
+use Rattle.paper.specs.declared.Verdict.the-variants as verdict
 use Rattle.wire.specs.declared.Writing.the-variants as writing
 use Rattle.wire.specs.Calls.{Wrote}
 use Rattle.wire.specs.Wire.{headSize, restEnd, lengthOf}
-use Rattle.paper.specs.declared.Row.{Row}
-use Rattle.wire.proofs.Laws.{wrote-1, wrote-2, wrote-3, wrote-ok}
+use Rattle.wire.proofs.Laws.{wrote-1, wrote-2, wrote-rest, wrote-blamed}
 use borrow.Author.Needs.{needs}
 use Rattle.wire.proofs.write_message.Statement.{statement}
 use Rattle.wire.proofs.write_message.Tie as tie
@@ -30,15 +32,14 @@ row-in-requires c κs = search needs
 wide8-requires : tie.Need-wide8-requires
 wide8-requires c κs = search needs
 
-valid-message-requires : tie.Need-valid-message-requires
-valid-message-requires c κs = c .before .row-in .ensures
+op-in-requires : tie.Need-op-in-requires
+op-in-requires c κs = search needs
 
-returns-3 : tie.Need-returns-3
-returns-3 c =
-    let a = c .before .before .before .before .before .before .before .before .args in
-    let v = c .before .valid-message .ensures ∙ ap (λ (x : ℕ). valid (a .n) (a .s) x (a .m)) (c .before .before .wide8 .ensures) in
-    let e = wrote-3 _ _ _ _ _ (sym (c .before .before .before .before .before .before .setup-ok .ensures) ∙ not-false _ (c .before .before .before .before .before .if1 .left)) (c .before .before .before .before .if2 .left) (sym v ∙ not-true _ (c .if3 .taken)) in
-    (ap (λ (w : Wrote). w .answer) e, ap (λ (w : Wrote). w .out) e)
+verdict-on-requires : tie.Need-verdict-on-requires
+verdict-on-requires c κs = c .before .before .row-in .ensures
+
+enum-told : tie.Need-enum-told
+enum-told c = search needs
 
 message-bytes-requires : tie.Need-message-bytes-requires
 message-bytes-requires c κs = search needs
@@ -46,18 +47,30 @@ message-bytes-requires c κs = search needs
 rest-end-requires : tie.Need-rest-end-requires
 rest-end-requires c κs = search needs
 
+enum-known-why : tie.Need-enum-known-why
+enum-known-why c = search needs
+
+refusal-of-requires : tie.Need-refusal-of-requires
+refusal-of-requires c κs = search needs
+
 same-length : tie.Need-same-length
 same-length c = search needs
 
-returns-4 : tie.Need-returns-4
+returns-3 : tie.Need-returns-3
 unfolding lengthOf
-returns-4 c =
-    let x = c .before .before .before .before .before in
-    let a = x .before .before .before .before .before .before .before .before .args in
-    let v = x .before .valid-message .ensures ∙ ap (λ (x : ℕ). valid (a .n) (a .s) x (a .m)) (x .before .before .wide8 .ensures) in
-    let e = wrote-ok _ _ _ _ _ (sym (x .before .before .before .before .before .before .setup-ok .ensures) ∙ not-false _ (x .before .before .before .before .before .if1 .left)) (x .before .before .before .before .if2 .left) (sym v ∙ not-false _ (x .if3 .left)) in
-    let k = c .rest-end .ensures ∙ ap (λ (w : Row). restEnd (w .parts) headSize) (x .before .before .before .row-in .ensures) in
+returns-3 c =
+    let a = c .before .before .before .before .before .before .before .before .before .before .before .before .before .before .before .args in
+    let v = sym (c .before .before .before .before .before .enum-told .given .1) ∙ c .before .before .before .before .before .before .before .verdict-on .ensures ∙ ap₂ (λ (x o : ℕ). verdictOn (a .n) (a .s) x o (a .m)) (c .before .before .before .before .before .before .before .before .before .wide8 .ensures) (c .before .before .before .before .before .before .before .before .op-in .ensures) in
+    let e = wrote-rest _ _ _ _ _ (sym (c .before .before .before .before .before .before .before .before .before .before .before .before .before .setup-ok .ensures) ∙ not-false _ (c .before .before .before .before .before .before .before .before .before .before .before .before .if1 .left)) (c .before .before .before .before .before .before .before .before .before .before .before .if2 .left) verdict.Valid v in
+    let k = c .rest-end .ensures ∙ ap (λ (w : Row). restEnd (w .parts) headSize) (c .before .before .before .before .before .before .before .before .before .before .row-in .ensures) in
     (ap writing.Bytes k ∙ ap (λ (w : Wrote). w .answer) e, c .before .before .before .message-bytes .ensures ∙ ap (λ (w : Wrote). w .out) e)
+
+returns-4 : tie.Need-returns-4
+returns-4 c =
+    let a = c .before .before .before .before .before .before .before .before .before .before .before .before .args in
+    let v = sym (c .before .before .why .given .1) ∙ c .before .before .before .before .verdict-on .ensures ∙ ap₂ (λ (x o : ℕ). verdictOn (a .n) (a .s) x o (a .m)) (c .before .before .before .before .before .before .wide8 .ensures) (c .before .before .before .before .before .op-in .ensures) in
+    let e = wrote-blamed _ _ _ _ _ (sym (c .before .before .before .before .before .before .before .before .before .before .setup-ok .ensures) ∙ not-false _ (c .before .before .before .before .before .before .before .before .before .if1 .left)) (c .before .before .before .before .before .before .before .before .if2 .left) v (c .before .before .before .before .before .before .before .row-in .ensures) (c .refusal-of .ensures) in
+    (ap (λ (w : Wrote). w .answer) e, ap (λ (w : Wrote). w .out) e)
 
 pub write-message-spec : {M : Type 1} → statement M
 write-message-spec =
@@ -68,9 +81,13 @@ write-message-spec =
     returns-2
     row-in-requires
     wide8-requires
-    valid-message-requires
-    returns-3
+    op-in-requires
+    verdict-on-requires
+    enum-told
     message-bytes-requires
     rest-end-requires
+    enum-known-why
+    refusal-of-requires
     same-length
+    returns-3
     returns-4)
