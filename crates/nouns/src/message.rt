@@ -1,5 +1,7 @@
 // The table of bodies, a row for each kind, and beside it all that goes by a body's cases.
 use crate::command::op_number;
+use crate::logic::below;
+use crate::logic::both;
 use crate::logic::equal;
 use crate::logic::wide8;
 use crate::vote::noop;
@@ -7,13 +9,14 @@ use paper::Ballots;
 use paper::Body;
 use paper::Carried;
 use paper::Command;
+use paper::Field;
 use paper::Message;
 use paper::Parts;
 use paper::Role;
 use paper::Row;
 use paper::Vote;
 ghost use mathlib.Core.Path.{_≡_};
-ghost use Rattle.paper.specs.Valid.{opIn};
+ghost use Rattle.paper.specs.Valid.{opIn, hasField};
 ghost use Rattle.paper.specs.Message.{
   nothing,
   dependencies,
@@ -293,6 +296,26 @@ pub fn vote_in(m: Message) -> Vote
         status: x.status,
         command,
         deps,
+    }
+}
+
+// Whether a message with these parts has such a field.
+pub fn has_field(p: Parts, f: Field) -> bool
+    ensures { λ r. ⌜ r ≡ hasField p f ⌝ }
+{
+    match f {
+        Field::From => true,
+        Field::To => true,
+        Field::Owner => true,
+        Field::Number => true,
+        Field::Ballot => true,
+        Field::Voted => p.told,
+        Field::Status => p.told,
+        Field::Op => p.command,
+        Field::Key => p.command,
+        Field::Edit => p.command,
+        Field::Entry(i) => both(p.deps, below(wide8(i), 7)),
+        Field::Joined => p.joined,
     }
 }
 

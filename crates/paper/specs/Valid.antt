@@ -6,7 +6,6 @@ use Prim.Native.Nat.{ℕ, zero, suc, _+_}
 use mathlib.Core.Bool.{Bool, true, false, _&&_, _||_, not, cond}
 use mathlib.Core.List.{List, [], _∷_, _++_}
 use lib.Dec.{leb, ltb, eqb}
-use lib.ListN.{getD}
 use Rattle.paper.specs.Logic.{implies}
 use Rattle.paper.specs.Instance.{ownerOk, numberOk}
 use Rattle.paper.specs.Setup.{copyOk}
@@ -221,15 +220,6 @@ verdictOf (first x) = verdict.Blamed (blameOf x)
 -- what a message, received by copy c with this op in its bytes, is found to be
 unfoldable pub verdictOn : ℕ → ℕ → ℕ → ℕ → Message → Verdict
 verdictOn n s c o m = verdictOf (firstFailing n s c o m)
-
--- the fields by number, in the order of the bytes
-abbrev pub fieldCount : ℕ
-fieldCount = 18
-
-unfoldable pub fieldOf : ℕ → Field
-fieldOf i =
-    getD (field.From ∷ field.To ∷ field.Owner ∷ field.Number ∷ field.Ballot ∷ field.Voted ∷ field.Status ∷ field.Op ∷ field.Key ∷ field.Edit
-    ∷ field.Entry 0 ∷ field.Entry 1 ∷ field.Entry 2 ∷ field.Entry 3 ∷ field.Entry 4 ∷ field.Entry 5 ∷ field.Entry 6 ∷ []) i field.Joined
 
 -- whether a message with these parts has such a field
 abbrev pub hasField : Parts → Field → Bool

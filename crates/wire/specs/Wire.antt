@@ -1,6 +1,6 @@
 -- "Messages": the bytes of each kind: the head, then the parts that its row has, in their order. Length, reader and writer go by
 -- the places that follow from the parts' widths. Assumes nothing.
-use Prim.Native.Nat.{ℕ, zero, suc, _+_, _*_}
+use Prim.Native.Nat.{ℕ, _+_, _*_}
 use mathlib.Core.Path.{_≡_}
 use mathlib.Core.Bool.{Bool, true, _&&_, not, cond}
 use mathlib.Core.List.{List, [], _∷_, _++_}
@@ -11,7 +11,7 @@ use Rattle.numbers.specs.Fields.{sizeOf, fieldsBytes}
 use Rattle.codec.specs.Parts.{commandWidths, depsWidths, commandAt, depsAt, commandBytes, depsBytes}
 use Rattle.paper.specs.Deps.{noDeps}
 use Rattle.paper.specs.Message.{rowOf, partsOf, partsIn, kindOf, carriedIn, bodyOf, kept}
-use Rattle.paper.specs.Valid.{opRange, valid, verdictOn, hasField, fieldOf, fieldCount}
+use Rattle.paper.specs.Valid.{opRange, valid, verdictOn}
 use Rattle.paper.specs.declared.Body.{Body}
 use Rattle.paper.specs.declared.Carried.{Carried}
 use Rattle.paper.specs.declared.Parts.{Parts}
@@ -21,8 +21,6 @@ use Rattle.paper.specs.declared.Field.the-variants as field
 use Rattle.paper.specs.declared.Blame.the-variants as blame
 use Rattle.paper.specs.declared.Verdict.{Verdict}
 use Rattle.paper.specs.declared.Verdict.the-variants as verdict
-use Rattle.wire.specs.declared.Begins.{Begins}
-use Rattle.wire.specs.declared.Begins.the-variants as begins
 
 -- kind, from, to, owner, number, ballot
 abbrev pub headWidths : List ℕ
@@ -176,17 +174,3 @@ widthOf field.Key = 4
 widthOf field.Edit = 8
 widthOf (field.Entry i) = 2
 widthOf field.Joined = 4
-
--- the number that stands in a field, 0 where these bytes have no such field
-unfoldable pub valueIn : List ℕ → Field → ℕ
-valueIn b f =
-    cond (hasField (partsOf (kindAt b)) f && leb (offsetOf (partsOf (kindAt b)) f + widthOf f) (length b))
-    (numAt (widthOf f) b (offsetOf (partsOf (kindAt b)) f)) 0
-
--- which field begins at an offset: the first of k, from the i-th on, that does
-unfoldable pub fieldFrom : Parts → ℕ → ℕ → ℕ → Begins
-fieldFrom p a zero i = begins.Nothing
-fieldFrom p a (suc k) i = cond (hasField p (fieldOf i) && eqb (offsetOf p (fieldOf i)) a) (begins.Field (fieldOf i)) (fieldFrom p a k (i + 1))
-
-abbrev pub fieldAt : ℕ → ℕ → Begins
-fieldAt k a = fieldFrom (partsOf k) a fieldCount 0

@@ -27,7 +27,7 @@ ghost use Rattle.numbers.specs.Num.{numAt, splice};
 ghost use Rattle.codec.specs.Parts.{commandAt, commandBytes, depsBytes};
 ghost use Rattle.paper.specs.Command.{noop};
 ghost use Rattle.paper.specs.Message.{bodyOf, noMessage};
-ghost use Rattle.wire.specs.Wire.{headSize, commandStart, depsStart, joinedStart, restEnd, lengthOf, kindAt, carriedAt, besideAt, messageAt, OfKind, opAt, offsetOf, toldBytes, joinedBytes, part, headBytes, restBytes, messageBytes};
+ghost use Rattle.wire.specs.Wire.{headSize, commandStart, depsStart, joinedStart, restEnd, lengthOf, kindAt, carriedAt, besideAt, messageAt, OfKind, opAt, offsetOf, widthOf, toldBytes, joinedBytes, part, headBytes, restBytes, messageBytes};
 ghost use Rattle.wire.specs.Calls.{unread, refusalOf, unlessBlamed, readMessage, wrote};
 
 // How many bytes the head takes, and each part of the rest.
@@ -40,12 +40,6 @@ const COMMAND: usize = 13;
 const DEPS: usize = 14;
 
 const JOINED: usize = 4;
-
-// Which field begins at an offset.
-pub enum Begins {
-    Field(Field),
-    Nothing,
-}
 
 pub enum Reading {
     Valid,
@@ -249,7 +243,8 @@ fn unread(why: Refusal) -> Received
     }
 }
 
-fn offset_of(p: Parts, f: Field) -> usize
+// The first byte of a field, in a message with these parts.
+pub fn offset_of(p: Parts, f: Field) -> usize
     ensures { λ r. ⌜ r ≡ offsetOf p f ⌝ }
 {
     match f {
@@ -265,6 +260,26 @@ fn offset_of(p: Parts, f: Field) -> usize
         Field::Edit => command_start(p, HEAD) + 5,
         Field::Entry(i) => deps_start(p, HEAD) + 2 * wide8(i),
         Field::Joined => joined_start(p, HEAD),
+    }
+}
+
+// How many bytes it takes.
+pub fn width_of(f: Field) -> usize
+    ensures { λ r. ⌜ r ≡ widthOf f ⌝ }
+{
+    match f {
+        Field::From => 1,
+        Field::To => 1,
+        Field::Owner => 1,
+        Field::Number => 2,
+        Field::Ballot => 4,
+        Field::Voted => 4,
+        Field::Status => 1,
+        Field::Op => 1,
+        Field::Key => 4,
+        Field::Edit => 8,
+        Field::Entry(_) => 2,
+        Field::Joined => 4,
     }
 }
 
