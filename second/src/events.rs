@@ -6,7 +6,7 @@ use crate::message::{
     encode, read, Message, ACCEPT, ACCEPT_OK, COMMIT, NACK, PREPARE, PREPARE_OK, PRE_ACCEPT,
     PRE_ACCEPT_OK, ROOM,
 };
-use crate::refusal;
+use crate::refusal::{self, Refusal};
 use crate::rules::{join, seen, Command, Deps, READ, WRITE};
 use crate::setup::{Setup, MAX_COPIES};
 use crate::table::{
@@ -35,7 +35,7 @@ pub fn request(
     op: u8,
     key: u32,
     edit: u64,
-) -> Result<Event, u8> {
+) -> Result<Event, Refusal> {
     let setup = entry(t, n, s, copy, out)?;
     if !matches!(op, READ | WRITE) {
         return Err(refusal::OP);
@@ -55,7 +55,7 @@ pub fn message(
     copy: usize,
     out: &mut [u8],
     bytes: &[u8],
-) -> Result<Event, u8> {
+) -> Result<Event, Refusal> {
     let setup = entry(t, n, s, copy, out)?;
     let m = read(&setup, bytes)?;
     let mut step = Step::open(setup, t, out, m.owner as usize, m.number as usize);
@@ -81,7 +81,7 @@ pub fn recover(
     out: &mut [u8],
     o: usize,
     j: usize,
-) -> Result<Event, u8> {
+) -> Result<Event, Refusal> {
     let setup = entry(t, n, s, copy, out)?;
     if !setup.has_instance(o, j) {
         return Err(refusal::INSTANCE);
@@ -106,7 +106,7 @@ pub fn nudge(
     out: &mut [u8],
     o: usize,
     j: usize,
-) -> Result<Event, u8> {
+) -> Result<Event, Refusal> {
     let setup = entry(t, n, s, copy, out)?;
     if !setup.has_instance(o, j) {
         return Err(refusal::INSTANCE);
@@ -120,7 +120,7 @@ pub fn nudge(
 }
 
 /// Refusals 1, 11 and 2, which every event asks first.
-fn entry(t: &[u8], n: usize, s: usize, copy: usize, out: &[u8]) -> Result<Setup, u8> {
+fn entry(t: &[u8], n: usize, s: usize, copy: usize, out: &[u8]) -> Result<Setup, Refusal> {
     let setup = judged(t, n, s, copy)?;
     if out.len() < ROOM {
         return Err(refusal::ROOM);
@@ -228,7 +228,7 @@ impl<'a> Step<'a> {
         }
     }
 
-    fn commit(&mut self, m: &Message) -> Result<(), u8> {
+    fn commit(&mut self, m: &Message) -> Result<(), Refusal> {
         let own = &mut self.record.own;
         if own.status == COMMITTED {
             let equal = own.command == m.command() && own.deps == m.deps;

@@ -7,8 +7,10 @@
 // An index is a copy's or an instance's number here, and reads best as one.
 #![allow(clippy::needless_range_loop)]
 
+pub mod broken;
 mod bytes;
 pub mod events;
+pub mod fields;
 pub mod message;
 pub mod order;
 pub mod refusal;
@@ -19,4 +21,5 @@ pub mod table;
 pub use events::{message, nudge, recover, request, Event};
 pub use message::{read_message, write_message, Message};
 pub use order::{hand_out, settled, Settled};
+pub use refusal::Refusal;
 pub use table::{blank_table, judge_table, record_part, table_len};

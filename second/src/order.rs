@@ -4,7 +4,7 @@
 //! reaches is one high-water mark for each owner.
 
 use crate::bytes::part;
-use crate::refusal;
+use crate::refusal::{self, Refusal};
 use crate::rules::{read_deps, Command};
 use crate::setup::{Setup, MAX_COPIES, MAX_INSTANCES};
 use crate::table::{
@@ -90,7 +90,7 @@ pub fn settled(
     copy: usize,
     o: usize,
     j: usize,
-) -> Result<Settled, u8> {
+) -> Result<Settled, Refusal> {
     let setup = judged(t, n, s, copy)?;
     if !setup.has_instance(o, j) {
         return Err(refusal::INSTANCE);
@@ -115,7 +115,7 @@ pub fn hand_out(
     s: usize,
     copy: usize,
     list: &mut [u16],
-) -> Result<usize, u8> {
+) -> Result<usize, Refusal> {
     let setup = judged(t, n, s, copy)?;
     let mut waiting = Waiting::new(setup, t);
     let mut count = 0;

@@ -54,6 +54,16 @@ pub fn write_deps(deps: &Deps, bytes: &mut [u8; DEPS_LEN]) {
     }
 }
 
+/// No entry is above its bound. All are compared at once.
+#[inline]
+pub fn within(deps: &Deps, highest: &Deps) -> bool {
+    let mut good = true;
+    for q in 0..MAX_COPIES {
+        good &= deps[q] <= highest[q];
+    }
+    good
+}
+
 /// Neither command is a no-op, and both have one key.
 #[inline]
 pub fn interfere(a: &Command, b: &Command) -> bool {

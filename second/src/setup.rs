@@ -1,7 +1,7 @@
 //! Sizes and names: N copies, S numbers per owner, this copy's number.
 
-use crate::refusal;
-use crate::rules::Deps;
+use crate::refusal::{self, Refusal};
+use crate::rules::{within, Deps};
 
 pub const MAX_COPIES: usize = 7;
 pub const MAX_NUMBERS: usize = 64;
@@ -22,7 +22,7 @@ pub fn good_sizes(n: usize, s: usize) -> bool {
 }
 
 impl Setup {
-    pub fn new(n: usize, s: usize, copy: usize) -> Result<Setup, u8> {
+    pub fn new(n: usize, s: usize, copy: usize) -> Result<Setup, Refusal> {
         if !good_sizes(n, s) || copy >= n {
             return Err(refusal::SETUP);
         }
@@ -52,10 +52,6 @@ impl Setup {
 
     #[inline]
     pub fn are_deps(&self, deps: &Deps) -> bool {
-        let mut good = true;
-        for q in 0..MAX_COPIES {
-            good &= deps[q] <= self.highest[q];
-        }
-        good
+        within(deps, &self.highest)
     }
 }

@@ -1,7 +1,7 @@
 //! The table of records in lent bytes: blank, sound, and one record's part.
 
 use crate::bytes::{part, part_mut, u32_at, zero};
-use crate::refusal;
+use crate::refusal::{self, Refusal};
 use crate::rules::{lead, read_deps, write_deps, Command, Deps, NO_OP};
 use crate::setup::{good_sizes, Setup, MAX_COPIES};
 
@@ -140,7 +140,7 @@ pub fn table_len(n: usize, s: usize) -> usize {
 }
 
 /// Refusal 1: setup, copy number and table length.
-pub(crate) fn fitting(t: &[u8], n: usize, s: usize, copy: usize) -> Result<Setup, u8> {
+pub(crate) fn fitting(t: &[u8], n: usize, s: usize, copy: usize) -> Result<Setup, Refusal> {
     let setup = Setup::new(n, s, copy)?;
     if t.len() != table_len(n, s) {
         return Err(refusal::SETUP);
@@ -149,7 +149,7 @@ pub(crate) fn fitting(t: &[u8], n: usize, s: usize, copy: usize) -> Result<Setup
 }
 
 /// Refusals 1 and 11.
-pub(crate) fn judged(t: &[u8], n: usize, s: usize, copy: usize) -> Result<Setup, u8> {
+pub(crate) fn judged(t: &[u8], n: usize, s: usize, copy: usize) -> Result<Setup, Refusal> {
     let setup = fitting(t, n, s, copy)?;
     if sound(&setup, t) {
         Ok(setup)
@@ -158,14 +158,14 @@ pub(crate) fn judged(t: &[u8], n: usize, s: usize, copy: usize) -> Result<Setup,
     }
 }
 
-pub fn blank_table(t: &mut [u8], n: usize, s: usize, copy: usize) -> Result<(), u8> {
+pub fn blank_table(t: &mut [u8], n: usize, s: usize, copy: usize) -> Result<(), Refusal> {
     fitting(t, n, s, copy)?;
     t.fill(0);
     t[..HEAD_LEN].copy_from_slice(&[n as u8, s as u8, copy as u8]);
     Ok(())
 }
 
-pub fn judge_table(t: &[u8], n: usize, s: usize, copy: usize) -> Result<(), u8> {
+pub fn judge_table(t: &[u8], n: usize, s: usize, copy: usize) -> Result<(), Refusal> {
     judged(t, n, s, copy).map(|_| ())
 }
 

@@ -83,7 +83,7 @@ fn w4_two_different_answers() {
 
 #[test]
 fn w5_ballots_of_recovery() {
-    for (joined, wanted) in [(0, Ok(10)), (13, Ok(18)), (4_294_967_288, Err(7))] {
+    for (joined, wanted) in [(0, Ok(10)), (13, Ok(18)), (4_294_967_288, Err(refused(7)))] {
         let mut c = Copy::blank(7, 4, 2);
         c.put(3, 2, &Rec { joined, ..Rec::default() });
         let got = c.recover(3, 2).map(|(_, sent)| {
@@ -249,12 +249,12 @@ fn w10_an_uncommitted_one_is_named() {
 fn below_the_examples() {
     let mut c = Copy::blank(3, 1, 0);
     c.request(2, 7, 100).unwrap();
-    assert_eq!(c.request(2, 7, 100), Err(5));
+    assert_eq!(c.request(2, 7, 100), Err(refused(5)));
     assert_eq!(w8().hand_out(0), []);
     let mut c = Copy::blank(3, 4, 0);
     let before = c.clone();
     let mut out = [0xa5; 255];
-    assert_eq!(request(&mut c.t, 3, 4, 0, &mut out, 2, 7, 100), Err(2));
+    assert_eq!(request(&mut c.t, 3, 4, 0, &mut out, 2, 7, 100), Err(refused(2)));
     assert_eq!((c, out), (before.clone(), [0xa5; 255]));
     let mut c = before;
     assert!(request(&mut c.t, 3, 4, 0, &mut [0; 256], 2, 7, 100).is_ok());

@@ -2,10 +2,16 @@
 
 mod common;
 use common::*;
+use second::fields::{self, Fields};
 use second::*;
 
 const LENGTHS: [usize; 9] = [0, 37, 24, 37, 10, 37, 10, 42, 14];
 const SIZES: [(usize, usize); 6] = [(3, 1), (3, 64), (5, 1), (5, 64), (7, 1), (7, 64)];
+
+/// The field that begins at this byte is to blame.
+fn wrong(offset: usize) -> Refusal {
+    Refusal::wrong_field(offset)
+}
 
 /// The bytes as docs/LAYOUT.md says, written without the library.
 fn bytes_of(m: &Message) -> Vec<u8> {
@@ -50,24 +56,23 @@ fn valid(kind: u8) -> Message {
     m
 }
 
-/// Reader at copy 1 and writer agree with what is wanted.
+/// Reader at copy 1 and writer agree with what is wanted, and in what they answer to the rest.
 fn check(n: usize, s: usize, m: &Message, wanted: bool) {
     let b = bytes_of(m);
     let got = read_message(n, s, 1, &b);
-    assert_eq!(got, if wanted { Ok(*m) } else { Err(3) }, "reader N={n} S={s} {m:?}");
+    assert_eq!(got.is_ok(), wanted, "reader N={n} S={s} {m:?}");
+    assert!(got.is_ok_and(|read| read == *m) || got.is_err_and(|r| (31..=35).contains(&r.number)));
     if m.to != 1 {
         return;
     }
     for copy in 0..n {
         let mut out = [0xa5; 256];
-        let got = write_message(n, s, copy, &mut out, m);
+        let written = write_message(n, s, copy, &mut out, m);
         let mut then = [0xa5; 256];
         if wanted {
-            assert_eq!(got, Ok(b.len()), "writer N={n} S={s} {m:?}");
             then[..b.len()].copy_from_slice(&b);
-        } else {
-            assert_eq!(got, Err(3), "writer N={n} S={s} {m:?}");
         }
+        assert_eq!(written, got.map(|_| b.len()), "writer N={n} S={s} {m:?}");
         assert_eq!(out, then);
     }
 }
@@ -100,7 +105,9 @@ fn lengths_and_kinds() {
                     "kind {kind} length {length}"
                 );
                 if !wanted {
-                    assert_eq!(read_message(n, s, 1, &b), Err(3));
+                    let unknown = length == 0 || !(1..=8).contains(&kind);
+                    let reason = refused(if unknown { 31 } else { 32 });
+                    assert_eq!(read_message(n, s, 1, &b), Err(reason));
                 }
             }
         }
@@ -112,7 +119,7 @@ fn the_kind_in_the_writer() {
     for kind in [0, 9, 10, 128, 255] {
         let m = Message { kind, ..valid(4) };
         let mut out = [0xa5; 256];
-        assert_eq!(write_message(3, 4, 0, &mut out, &m), Err(3));
+        assert_eq!(write_message(3, 4, 0, &mut out, &m), Err(refused(31)));
         assert_eq!(out, [0xa5; 256]);
     }
 }
@@ -140,7 +147,8 @@ fn to_in_the_writer() {
             let from = if to == 0 { 1 } else { 0 };
             let m = Message { from, to, ..valid(5) };
             let got = write_message(n, s, 0, &mut [0; 256], &m);
-            assert_eq!(got, if (to as usize) < n { Ok(37) } else { Err(3) });
+            let wanted = if (to as usize) < n { Ok(37) } else { Err(wrong(2)) };
+            assert_eq!(got, wanted);
         }
     }
 }
@@ -314,7 +322,7 @@ fn fields_not_carried_are_refused_by_the_writer() {
                 if carried {
                     assert_eq!(got, Ok(LENGTHS[kind as usize]));
                 } else {
-                    assert_eq!((got, out), (Err(3), [0xa5; 256]), "{m:?}");
+                    assert_eq!((got, out), (Err(refused(32)), [0xa5; 256]), "{m:?}");
                 }
             }
         }
@@ -344,18 +352,18 @@ fn setup_and_room() {
         (259, 4, 1),
         (3, 260, 1),
     ] {
-        assert_eq!(read_message(n, s, copy, &b), Err(1));
-        assert_eq!(read_message(n, s, copy, &[]), Err(1));
+        assert_eq!(read_message(n, s, copy, &b), Err(refused(1)));
+        assert_eq!(read_message(n, s, copy, &[]), Err(refused(1)));
         let mut out = [0xa5; 256];
-        assert_eq!(write_message(n, s, copy, &mut out, &m), Err(1));
-        assert_eq!(write_message(n, s, copy, &mut out[..9], &m), Err(1));
+        assert_eq!(write_message(n, s, copy, &mut out, &m), Err(refused(1)));
+        assert_eq!(write_message(n, s, copy, &mut out[..9], &m), Err(refused(1)));
         assert_eq!(out, [0xa5; 256]);
     }
     let wrong = Message { kind: 0, ..m };
     for room in [0, 10, 37, 255] {
         let mut out = vec![0xa5; room];
-        assert_eq!(write_message(3, 4, 0, &mut out, &m), Err(2));
-        assert_eq!(write_message(3, 4, 0, &mut out, &wrong), Err(2));
+        assert_eq!(write_message(3, 4, 0, &mut out, &m), Err(refused(2)));
+        assert_eq!(write_message(3, 4, 0, &mut out, &wrong), Err(refused(2)));
         assert!(out.iter().all(|&b| b == 0xa5));
     }
     let mut out = [0xa5; 257];
@@ -385,10 +393,188 @@ fn round_trips() {
                 read += 1;
             }
             Err(r) => {
-                assert_eq!(r, 3);
+                assert!((31..=35).contains(&r.number), "{r}");
                 refused += 1;
             }
         }
     }
     assert!(read > 20_000 && refused > 20_000, "{read} {refused}");
+}
+
+/// A message at copy 1 of N = 3, S = 4, and what is answered to it.
+#[track_caller]
+fn answered(m: Message, reason: Refusal) {
+    assert_eq!(read_message(3, 4, 1, &bytes_of(&m)), Err(reason), "{m:?}");
+}
+
+fn with_entry(m: Message, q: usize, entry: u16) -> Message {
+    let mut changed = m;
+    changed.deps[q] = entry;
+    changed
+}
+
+/// Each clause about the head by itself, for every kind.
+#[test]
+fn reasons_of_the_head() {
+    for kind in 1..=8 {
+        let m = valid(kind);
+        answered(Message { from: 3, ..m }, wrong(1));
+        answered(Message { to: 3, ..m }, wrong(2));
+        answered(Message { owner: 3, ..m }, wrong(3));
+        answered(Message { number: 0, ..m }, wrong(4));
+        answered(Message { number: 5, ..m }, wrong(4));
+        answered(Message { ballot: 7, ..m }, wrong(6));
+        answered(Message { ballot: 27, ..m }, wrong(6));
+        answered(Message { to: 2, ..m }, refused(33));
+        answered(Message { from: 1, ..m }, refused(33));
+        let other_lead = Message { ballot: 26, joined: 2 * m.joined, ..m };
+        match kind {
+            5 => assert!(read_message(3, 4, 1, &bytes_of(&other_lead)).is_ok()),
+            _ => answered(other_lead, refused(34)),
+        }
+        match kind {
+            5 => {}
+            6 | 7 => answered(Message { ballot: 0, owner: 1, ..m }, wrong(6)),
+            _ => answered(Message { ballot: 0, owner: 2, ..m }, refused(34)),
+        }
+    }
+}
+
+/// Each clause about a command or dependencies by itself, with the offsets of the kind.
+#[test]
+fn reasons_of_commands_and_dependencies() {
+    for (kind, at) in [(1, 10), (3, 10), (5, 10), (7, 15)] {
+        let m = valid(kind);
+        let no_op = Message { op: 0, key: 0, edit: 0, ..m };
+        answered(Message { op: 3, ..m }, wrong(at));
+        answered(Message { key: 1, ..no_op }, wrong(at + 1));
+        answered(Message { edit: 1, ..no_op }, wrong(at + 5));
+        answered(Message { op: 0, ..m }, wrong(at + 1));
+        answered(Message { op: 0, key: 0, ..m }, wrong(at + 5));
+    }
+    let no_op = Message { op: 0, key: 0, edit: 0, ..valid(1) };
+    answered(Message { ballot: 0, owner: 0, ..no_op }, wrong(10));
+    answered(Message { ballot: 0, owner: 0, key: 1, ..no_op }, wrong(10));
+    for (kind, at) in [(1, 23), (2, 10), (3, 23), (5, 23), (7, 28)] {
+        for q in 0..7 {
+            let above = if q < 3 { 5 } else { 1 };
+            answered(with_entry(valid(kind), q, above), wrong(at + 2 * q));
+            let two = with_entry(with_entry(valid(kind), 6, 1), q, above);
+            answered(two, wrong(at + 2 * q));
+        }
+    }
+}
+
+/// The clauses that only kinds 7 and 8 have.
+#[test]
+fn reasons_of_votes() {
+    let m = valid(7);
+    let none = Message { voted: 0, status: 0, op: 0, key: 0, edit: 0, deps: [0; 7], ..m };
+    for voted in [7, 19, 25, 26, u32::MAX] {
+        answered(Message { voted, ..m }, wrong(10));
+        answered(Message { voted, ..none }, wrong(10));
+    }
+    answered(Message { status: 4, ..m }, wrong(14));
+    answered(Message { status: 0, ..m }, wrong(14));
+    answered(Message { status: 0, voted: 0, ..m }, wrong(15));
+    answered(Message { voted: 8, ..none }, wrong(14));
+    answered(Message { op: 1, ..none }, wrong(15));
+    answered(Message { key: 1, ..none }, wrong(16));
+    answered(Message { edit: 1, ..none }, wrong(20));
+    for q in 0..7 {
+        answered(with_entry(none, q, 1), wrong(28 + 2 * q));
+    }
+    for joined in [0, 7, 25, 27, u32::MAX] {
+        answered(Message { joined, ..valid(8) }, wrong(10));
+    }
+}
+
+/// Each reason before the next, all of the later ones holding too.
+#[test]
+fn order_of_reasons() {
+    let mut b = bytes_of(&valid(7));
+    let wrongs: [(usize, &[u8]); 12] = [
+        (40, &[9]),
+        (28, &[9]),
+        (20, &[1]),
+        (16, &[1]),
+        (15, &[9]),
+        (14, &[9]),
+        (10, &[7, 0, 0, 0]),
+        (6, &[26]),
+        (6, &[27]),
+        (4, &[9]),
+        (3, &[9]),
+        (2, &[9]),
+    ];
+    for (at, bytes) in wrongs {
+        b[at..at + bytes.len()].copy_from_slice(bytes);
+        let reason = if bytes == [26] { refused(34) } else { wrong(at) };
+        // A wrong op is no no-op, so that key and edit are no longer asked about; they are met in turn above it.
+        if !matches!(at, 16 | 20) {
+            assert_eq!(read_message(3, 4, 1, &b), Err(reason), "at {at}");
+        }
+    }
+    b[1] = 9;
+    assert_eq!(read_message(3, 4, 1, &b), Err(wrong(1)));
+    b.push(0);
+    assert_eq!(read_message(3, 4, 1, &b), Err(refused(32)));
+    b[0] = 9;
+    assert_eq!(read_message(3, 4, 1, &b), Err(refused(31)));
+    let m = Message { from: 1, ballot: 26, ..valid(7) };
+    answered(m, refused(33));
+    answered(Message { number: 0, ..m }, wrong(4));
+    answered(Message { voted: 7, ..m }, refused(33));
+}
+
+/// Every clause alone and every two together, beside the reasons that the generator gives; the writer answers the same
+/// of what goes to that copy, but for an op that is none.
+#[test]
+fn pairs_of_clauses() {
+    let mut count = 0;
+    for (n, s) in SIZES {
+        for copy in 0..n {
+            broken::each(n, s, copy, &mut |case| {
+                count += 1;
+                let got = read_message(n, s, copy, case.bytes);
+                assert_eq!(got, Err(case.reason), "N={n} S={s} copy {copy} {:?}", case.bytes);
+                let Some(f) = case.fields.filter(|f| f[2] == copy as u64 && f[8] <= 2) else {
+                    return;
+                };
+                let mut out = [0xa5; 256];
+                let got = fields::write(n, s, 0, &mut out, &f);
+                assert_eq!((got, out), (Err(case.reason), [0xa5; 256]), "N={n} S={s} {f:?}");
+            });
+        }
+    }
+    assert!(count > 100_000, "{count}");
+}
+
+fn written(f: &Fields) -> Result<usize, Refusal> {
+    fields::write(3, 4, 0, &mut [0; 256], f)
+}
+
+/// A number that its place cannot hold: after kind and length, before all else, the first in the order of the numbers.
+#[test]
+fn numbers_too_large() {
+    let offsets = [1, 2, 3, 4, 6, 10, 14, 15, 16, 20, 28, 30, 32, 34, 36, 38, 40];
+    let most = [255, 255, 255, 65_535, u32::MAX as u64, u32::MAX as u64, 255, 2, u32::MAX as u64];
+    let most = most.into_iter().chain([u64::MAX]).chain([65_535; 7]);
+    let whole = fields::fields(&valid(7));
+    for (at, (offset, most)) in (1..18).zip(offsets.into_iter().zip(most)) {
+        let Some(above) = most.checked_add(1) else { continue };
+        for value in [above, u64::MAX] {
+            let mut f = whole;
+            f[at] = value;
+            assert_eq!(written(&f), Err(wrong(offset)));
+            f[1] = f[1].max(200);
+            assert_eq!(written(&f), Err(wrong(offset)), "before a sender out of range");
+            f[17] = u64::MAX;
+            assert_eq!(written(&f), Err(wrong(offset)), "the first of two");
+            f[0] = 1;
+            assert_eq!(written(&f), Err(refused(32)), "after a number beside");
+            f[0] = 256 + 7;
+            assert_eq!(written(&f), Err(refused(31)));
+        }
+    }
 }

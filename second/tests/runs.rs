@@ -134,16 +134,16 @@ fn some_call(random: &mut Random, c: &mut Copy) {
         0 => {
             let got = c.nudge(o, j).map(|_| ());
             let idle = r.own.status != 4 && r.phase == 0;
-            assert_eq!(got, if idle { Err(9) } else { Ok(()) });
+            assert_eq!(got, if idle { Err(refused(9)) } else { Ok(()) });
         }
         1 => {
             let got = c.recover(o, j).map(|_| ());
-            assert_eq!(got, if r.own.status == 4 { Err(8) } else { Ok(()) });
+            assert_eq!(got, if r.own.status == 4 { Err(refused(8)) } else { Ok(()) });
         }
         2 => {
             let blank = (1..=s).find(|&j| c.get(copy, j) == Rec::default());
             let got = c.request(2, 1, 1).map(|(e, _)| (e.owner, e.number));
-            assert_eq!(got, blank.map(|j| (copy, j)).ok_or(5));
+            assert_eq!(got, blank.map(|j| (copy, j)).ok_or(refused(5)));
         }
         _ => {}
     }
@@ -160,7 +160,7 @@ fn random_tables() {
                 let before = c.clone();
                 match c.message(&m) {
                     Ok(_) => taken[m.kind as usize] += (c != before) as u32,
-                    Err(r) => assert_eq!((r, m.kind), (10, 5)),
+                    Err(r) => assert_eq!((r, m.kind), (refused(10), 5)),
                 }
             }
             some_call(&mut random, &mut c);
@@ -323,8 +323,8 @@ fn a_commit_that_differs() {
     assert_eq!(c.message(&m).unwrap().1, []);
     assert_eq!(c.get(0, 1), Rec { own: vote(0, 4, 2, 7, 100, &[0, 0, 1]), ..Rec::default() });
     assert_eq!(c.message(&Message { ballot: 8, ..m }).unwrap().1, []);
-    assert_eq!(c.message(&Message { deps: [0; 7], ..m }), Err(10));
-    assert_eq!(c.message(&Message { edit: 101, ..m }), Err(10));
+    assert_eq!(c.message(&Message { deps: [0; 7], ..m }), Err(refused(10)));
+    assert_eq!(c.message(&Message { edit: 101, ..m }), Err(refused(10)));
     // What asks now is told the commit, at the joined ballot.
     let back = c.message(&pre_accept(2, 1, 10, &[])).unwrap().1;
     assert_eq!(back, [Message { kind: 5, from: 1, to: 2, ballot: 0, ..m }]);
@@ -341,7 +341,7 @@ fn a_nack_ends_the_phase() {
     assert_eq!((r.joined, r.phase, r.own.voted, r.own.status), (10, 0, 0, 2));
     assert_eq!(c.message(&Message { joined: 18, ..nack }).unwrap().1, []);
     assert_eq!(c.get(0, 1).joined, 10);
-    assert_eq!(c.nudge(0, 1), Err(9));
+    assert_eq!(c.nudge(0, 1), Err(refused(9)));
 }
 
 /// A record that only joined a ballot is not blank.
@@ -350,7 +350,7 @@ fn request_passes_over_joined_records() {
     let mut c = Copy::blank(3, 2, 0);
     c.put(0, 1, &Rec { joined: 9, ..Rec::default() });
     assert_eq!(c.request(2, 7, 1).unwrap().0.number, 2);
-    assert_eq!(c.request(2, 7, 1), Err(5));
+    assert_eq!(c.request(2, 7, 1), Err(refused(5)));
 }
 
 /// N=7: two that differ are not yet F.

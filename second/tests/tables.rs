@@ -42,9 +42,9 @@ fn lengths() {
     for (n, s) in SIZES {
         for len in [0, 2, 3, table_len(n, s) - 1, table_len(n, s) + 1] {
             let mut t = vec![0xa5; len];
-            assert_eq!(blank_table(&mut t, n, s, 0), Err(1));
+            assert_eq!(blank_table(&mut t, n, s, 0), Err(refused(1)));
             assert!(t.iter().all(|&b| b == 0xa5));
-            assert_eq!(judge_table(&t, n, s, 0), Err(1));
+            assert_eq!(judge_table(&t, n, s, 0), Err(refused(1)));
             assert_eq!(record_part(&t, n, s, 0, 0, 1), (0, 0));
         }
     }
@@ -56,15 +56,15 @@ fn wrong_setups() {
     for (n, s, c) in BAD_SETUPS {
         let mut t = Copy::blank(3, 4, 1).t;
         let (before, mut out, mut list) = (t.clone(), [0xa5; 9], [7; 3]);
-        assert_eq!(judge_table(&t, n, s, c), Err(1));
-        assert_eq!(blank_table(&mut t, n, s, c), Err(1));
+        assert_eq!(judge_table(&t, n, s, c), Err(refused(1)));
+        assert_eq!(blank_table(&mut t, n, s, c), Err(refused(1)));
         assert_eq!(record_part(&t, n, s, c, 0, 1), (0, 0));
-        assert_eq!(request(&mut t, n, s, c, &mut out, 0, 0, 0), Err(1));
-        assert_eq!(message(&mut t, n, s, c, &mut out, &[]), Err(1));
-        assert_eq!(recover(&mut t, n, s, c, &mut out, 9, 9), Err(1));
-        assert_eq!(nudge(&mut t, n, s, c, &mut out, 9, 9), Err(1));
-        assert_eq!(settled(&t, n, s, c, 9, 9), Err(1));
-        assert_eq!(hand_out(&mut t, n, s, c, &mut list), Err(1));
+        assert_eq!(request(&mut t, n, s, c, &mut out, 0, 0, 0), Err(refused(1)));
+        assert_eq!(message(&mut t, n, s, c, &mut out, &[]), Err(refused(1)));
+        assert_eq!(recover(&mut t, n, s, c, &mut out, 9, 9), Err(refused(1)));
+        assert_eq!(nudge(&mut t, n, s, c, &mut out, 9, 9), Err(refused(1)));
+        assert_eq!(settled(&t, n, s, c, 9, 9), Err(refused(1)));
+        assert_eq!(hand_out(&mut t, n, s, c, &mut list), Err(refused(1)));
         assert_eq!((t, out, list), (before, [0xa5; 9], [7; 3]));
     }
 }
@@ -77,43 +77,43 @@ fn order_of_refusals() {
     let before = t.clone();
     let mut out = [0xa5; 255];
     let mut list = [7; 3];
-    assert_eq!(request(&mut t, 3, 4, 1, &mut out, 0, 0, 0), Err(11));
-    assert_eq!(message(&mut t, 3, 4, 1, &mut out, &[]), Err(11));
-    assert_eq!(recover(&mut t, 3, 4, 1, &mut out, 9, 9), Err(11));
-    assert_eq!(nudge(&mut t, 3, 4, 1, &mut out, 9, 9), Err(11));
-    assert_eq!(settled(&t, 3, 4, 1, 9, 9), Err(11));
-    assert_eq!(hand_out(&mut t, 3, 4, 1, &mut list), Err(11));
+    assert_eq!(request(&mut t, 3, 4, 1, &mut out, 0, 0, 0), Err(refused(11)));
+    assert_eq!(message(&mut t, 3, 4, 1, &mut out, &[]), Err(refused(11)));
+    assert_eq!(recover(&mut t, 3, 4, 1, &mut out, 9, 9), Err(refused(11)));
+    assert_eq!(nudge(&mut t, 3, 4, 1, &mut out, 9, 9), Err(refused(11)));
+    assert_eq!(settled(&t, 3, 4, 1, 9, 9), Err(refused(11)));
+    assert_eq!(hand_out(&mut t, 3, 4, 1, &mut list), Err(refused(11)));
     assert_eq!(record_part(&t, 3, 4, 1, 2, 4), (3 + 263 * 11, 263));
     assert_eq!((&t, list), (&before, [7; 3]));
 
     let mut t = Copy::blank(3, 4, 1).t;
     let before = t.clone();
-    assert_eq!(request(&mut t, 3, 4, 1, &mut out, 0, 0, 0), Err(2));
-    assert_eq!(message(&mut t, 3, 4, 1, &mut out, &[]), Err(2));
-    assert_eq!(recover(&mut t, 3, 4, 1, &mut out, 9, 9), Err(2));
-    assert_eq!(nudge(&mut t, 3, 4, 1, &mut out, 9, 9), Err(2));
+    assert_eq!(request(&mut t, 3, 4, 1, &mut out, 0, 0, 0), Err(refused(2)));
+    assert_eq!(message(&mut t, 3, 4, 1, &mut out, &[]), Err(refused(2)));
+    assert_eq!(recover(&mut t, 3, 4, 1, &mut out, 9, 9), Err(refused(2)));
+    assert_eq!(nudge(&mut t, 3, 4, 1, &mut out, 9, 9), Err(refused(2)));
     assert_eq!(out, [0xa5; 255]);
 
     let mut out = [0xa5; 256];
-    assert_eq!(message(&mut t, 3, 4, 1, &mut out, &[]), Err(3));
+    assert_eq!(message(&mut t, 3, 4, 1, &mut out, &[]), Err(refused(31)));
     for op in [0, 3, 255] {
-        assert_eq!(request(&mut t, 3, 4, 1, &mut out, op, 0, 0), Err(4));
+        assert_eq!(request(&mut t, 3, 4, 1, &mut out, op, 0, 0), Err(refused(4)));
     }
     for (o, j) in [(3, 1), (0, 0), (0, 5), (usize::MAX, 1), (0, usize::MAX), (256, 1), (0, 257)] {
-        assert_eq!(recover(&mut t, 3, 4, 1, &mut out, o, j), Err(6));
-        assert_eq!(nudge(&mut t, 3, 4, 1, &mut out, o, j), Err(6));
-        assert_eq!(settled(&t, 3, 4, 1, o, j), Err(6));
+        assert_eq!(recover(&mut t, 3, 4, 1, &mut out, o, j), Err(refused(6)));
+        assert_eq!(nudge(&mut t, 3, 4, 1, &mut out, o, j), Err(refused(6)));
+        assert_eq!(settled(&t, 3, 4, 1, o, j), Err(refused(6)));
         assert_eq!(record_part(&t, 3, 4, 1, o, j), (0, 0));
     }
-    assert_eq!(nudge(&mut t, 3, 4, 1, &mut out, 0, 1), Err(9));
+    assert_eq!(nudge(&mut t, 3, 4, 1, &mut out, 0, 1), Err(refused(9)));
     assert_eq!((&t, out), (&before, [0xa5; 256]));
 
     // A committed record at the last round: 8 before 7. Op 0 with no blank: 4 before 5.
     let mut c = Copy::blank(3, 1, 1);
     c.put(1, 1, &Rec { joined: 4_294_967_288, ..Rec::committed(1, &[]) });
-    assert_eq!(c.recover(1, 1), Err(8));
-    assert_eq!(c.request(0, 0, 0), Err(4));
-    assert_eq!(c.request(1, 0, 0), Err(5));
+    assert_eq!(c.recover(1, 1), Err(refused(8)));
+    assert_eq!(c.request(0, 0, 0), Err(refused(4)));
+    assert_eq!(c.request(1, 0, 0), Err(refused(5)));
 }
 
 #[test]
@@ -142,10 +142,10 @@ fn the_head() {
             let mut t = t.clone();
             let same = t[at] == value;
             t[at] = value;
-            assert_eq!(judge_table(&t, 3, 4, 1), if same { Ok(()) } else { Err(11) });
+            assert_eq!(judge_table(&t, 3, 4, 1), if same { Ok(()) } else { Err(refused(11)) });
         }
     }
-    assert_eq!(judge_table(&t, 3, 4, 2), Err(11));
+    assert_eq!(judge_table(&t, 3, 4, 2), Err(refused(11)));
 }
 
 /// Sound or not, the record standing at owner o, first and last number.
@@ -156,8 +156,10 @@ fn is_sound(n: usize, s: usize, copy: usize, o: usize, r: &Rec) -> bool {
         c.put(o, j, r);
         answers.push(match c.judge() {
             Ok(()) => true,
-            Err(11) => false,
-            Err(r) => panic!("refused {r}"),
+            Err(r) => {
+                assert_eq!(r, refused(11));
+                false
+            }
         });
     }
     assert_eq!(answers[0], answers[1]);
@@ -306,7 +308,7 @@ fn phase_0_has_nothing_collected() {
                 let mut bytes = bytes.clone();
                 bytes[at] = 1;
                 c.put(1, 1, &Rec::from(&bytes));
-                assert_eq!(c.judge(), Err(11));
+                assert_eq!(c.judge(), Err(refused(11)));
             }
         }
     }
@@ -529,7 +531,7 @@ fn every_place_is_judged() {
             for j in 1..=s {
                 let mut c = blank.clone();
                 c.put(o, j, &Rec { mark: 1, ..Rec::default() });
-                assert_eq!(c.judge(), Err(11));
+                assert_eq!(c.judge(), Err(refused(11)));
             }
         }
     }

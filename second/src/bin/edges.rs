@@ -4,6 +4,8 @@
 //! `edges` prints the edge cases, and their count at stderr. `edges FILE`
 //! turns the messages of a recorded run into calls of the reader.
 
+use second::broken::{self, has_command, has_deps, no_op, nothing, ones, valid};
+use second::fields::{self, Fields};
 use second::rules::Command;
 use second::table::{Record, Vote, RECORD_LEN};
 use second::{blank_table, judge_table, read_message, record_part, write_message, Message};
@@ -52,7 +54,7 @@ impl Script {
 
     fn write(&mut self, c: usize, room: usize, m: &Message) {
         let (n, s) = (self.n, self.s);
-        self.call(format!("{c} write {room} {}", fields(m)), || {
+        self.call(format!("{c} write {room} {}", words_of(m)), || {
             let mut out = vec![UNTOUCHED; room];
             let told = match write_message(n, s, c, &mut out, m) {
                 Ok(count) => format!("written {count}"),
@@ -114,14 +116,14 @@ fn read_answer(n: usize, s: usize, c: usize, bytes: &[u8]) -> String {
         Ok(m) => {
             let mut out = [0; 256];
             match write_message(n, s, c, &mut out, &m) {
-                Ok(count) => format!("message {} {}", fields(&m), to_hex(&out[..count])),
-                Err(r) => format!("message {} refused {r}", fields(&m)),
+                Ok(count) => format!("message {} {}", words_of(&m), to_hex(&out[..count])),
+                Err(r) => format!("message {} refused {r}", words_of(&m)),
             }
         }
     }
 }
 
-fn fields(m: &Message) -> String {
+fn words_of(m: &Message) -> String {
     let names = [m.kind as u64, m.from as u64, m.to as u64, m.owner as u64, m.number as u64];
     let rest = [m.ballot as u64, m.voted as u64, m.status as u64, m.joined as u64, m.op as u64];
     let last = [m.key as u64, m.edit];
@@ -149,14 +151,6 @@ fn from_hex(text: &str) -> Vec<u8> {
     pairs.map(|i| u8::from_str_radix(&text[i..i + 2], 16).expect("hex")).collect()
 }
 
-fn has_command(kind: u8) -> bool {
-    matches!(kind, 1 | 3 | 5 | 7)
-}
-
-fn has_deps(kind: u8) -> bool {
-    matches!(kind, 1 | 2 | 3 | 5 | 7)
-}
-
 /// The bytes as docs/LAYOUT.md says, written without the library's writer,
 /// which would refuse most of what is tried here.
 fn bytes_of(m: &Message) -> Vec<u8> {
@@ -179,46 +173,6 @@ fn bytes_of(m: &Message) -> Vec<u8> {
         b.extend(m.deps.iter().flat_map(|d| d.to_le_bytes()));
     }
     b
-}
-
-/// One in each entry that a copy has.
-fn ones(n: usize) -> [u16; 7] {
-    std::array::from_fn(|q| (q < n) as u16)
-}
-
-/// Kinds that come from the ballot's lead, or may.
-fn is_led_by_sender(kind: u8) -> bool {
-    matches!(kind, 1 | 3 | 5 | 6)
-}
-
-/// A valid message to copy c from its neighbour, at a ballot of round r, or at
-/// ballot 0 where r is 0 and the kind allows it.
-fn valid(n: usize, c: usize, kind: u8, r: u32) -> Message {
-    let from = (c + 1) % n;
-    let lead = if is_led_by_sender(kind) { from } else { c };
-    let ballot = if r == 0 { 0 } else { 8 * r + lead as u32 };
-    let owner = if r == 0 { lead } else { (c + 2) % n };
-    let mut m = Message {
-        kind,
-        from: from as u8,
-        to: c as u8,
-        owner: owner as u8,
-        number: 1,
-        ballot,
-        ..Message::default()
-    };
-    if has_command(kind) {
-        (m.op, m.key, m.edit) = (2, 0x0403_0201, 0x0c0b_0a09_0807_0605);
-    }
-    if has_deps(kind) {
-        m.deps = ones(n);
-    }
-    match kind {
-        7 => (m.voted, m.status) = (ballot - 8, 3),
-        8 => m.joined = ballot + 8 - ballot % 8,
-        _ => {}
-    }
-    m
 }
 
 /// Ballots at both sides of each bound.
@@ -302,7 +256,7 @@ fn rest_changed(n: usize, m: Message) -> Vec<Message> {
 
 /// Status 0 with all else zero, and with each other thing set.
 fn told_nothing(m: Message) -> Vec<Message> {
-    let nothing = Message { voted: 0, status: 0, op: 0, key: 0, edit: 0, deps: [0; 7], ..m };
+    let nothing = nothing(&m);
     let mut all = vec![nothing];
     all.extend([
         Message { voted: 8, ..nothing },
@@ -346,8 +300,8 @@ fn messages(script: &mut Script, c: usize) {
         if !matches!(kind, 6 | 7) {
             let first = valid(n, c, kind, 0);
             all.push(first);
-            let noop = Message { op: 0, key: 0, edit: 0, ..first };
-            all.extend([noop, Message { op: 1, ..noop }]);
+            let no_op = no_op(&first);
+            all.extend([no_op, Message { op: 1, ..no_op }]);
         }
         if c == n - 1 && s == 1 && (n < 7 || !has_command(kind)) {
             all.extend(leads_changed(n, m));
@@ -402,6 +356,26 @@ fn writer(script: &mut Script, c: usize) {
             script.write(c, 256, &beside);
         }
     }
+}
+
+/// Every clause of valid broken alone, and every two together: read, and written where a line can say it.
+fn clauses(script: &mut Script, c: usize) {
+    broken::each(script.n, script.s, c, &mut |case| {
+        script.read(c, case.bytes);
+        if let Some(m) = case.fields.as_ref().and_then(said) {
+            script.write(c, 256, &m);
+        }
+    });
+}
+
+/// The message of a line with these numbers. A line has a kind and an op, and beside what the kind carries it can have
+/// dependencies only.
+fn said(f: &Fields) -> Option<Message> {
+    let kind = f[0] as u8;
+    let m = fields::cut(f, kind);
+    let carried = (has_command(kind) || m.command() == Command::default())
+        && (kind == 7 || (m.voted, m.status) == (0, 0));
+    ((1..=8).contains(&kind) && m.op <= 2 && carried).then_some(m)
 }
 
 /// A record, and where it stands.
@@ -829,6 +803,9 @@ fn edges() -> Script {
                     judged(&mut script, c, &few_cases(n, s, c));
                 }
             }
+            if (n, s) == (3, 1) {
+                clauses(&mut script, 1);
+            }
             lengths(&mut script, 1);
             kinds(&mut script, n - 1);
             every_place(&mut script, 0);
@@ -846,7 +823,7 @@ fn recorded(text: &str) -> Script {
     for line in text.lines() {
         let words: Vec<&str> = line.split_whitespace().collect();
         match words[..] {
-            ["run", n, s] => script.run(n.parse().expect("N"), s.parse().expect("S")),
+            ["run", n, s, ..] => script.run(n.parse().expect("N"), s.parse().expect("S")),
             [c, "message", bytes] => script.read(c.parse().expect("copy"), &from_hex(bytes)),
             _ => {}
         }

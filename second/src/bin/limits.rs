@@ -4,7 +4,8 @@
 
 use second::table::RECORD_LEN;
 use second::{
-    blank_table, hand_out, message, nudge, recover, request, settled, table_len, Event, Settled,
+    blank_table, hand_out, message, nudge, recover, request, settled, table_len, Event, Refusal,
+    Settled,
 };
 use std::fmt::Write;
 
@@ -74,7 +75,7 @@ impl Run {
     fn event(
         &mut self,
         call: String,
-        make: impl FnOnce(&mut [u8], usize, usize, usize, &mut [u8]) -> Result<Event, u8>,
+        make: impl FnOnce(&mut [u8], usize, usize, usize, &mut [u8]) -> Result<Event, Refusal>,
     ) {
         let mut room = vec![UNTOUCHED; self.room];
         let t = &mut self.table[..self.length];

@@ -3,7 +3,7 @@
 
 use second::{
     blank_table, hand_out, judge_table, message, nudge, record_part, recover, request, settled,
-    table_len, Event, Settled,
+    table_len, Event, Refusal, Settled,
 };
 use std::path::{Path, PathBuf};
 use std::process::ExitCode;
@@ -70,7 +70,7 @@ impl Run {
 
 /// An event's answer, once its table and room are what it says.
 fn answered(
-    event: Result<Event, u8>,
+    event: Result<Event, Refusal>,
     t: &[u8],
     before: &[u8],
     out: &[u8; ROOM],

@@ -100,6 +100,11 @@ impl Rec {
     }
 }
 
+/// A refusal that names no field.
+pub fn refused(number: u8) -> Refusal {
+    Refusal::of(number)
+}
+
 /// One copy with its table.
 #[derive(Clone, PartialEq, Eq, Debug)]
 pub struct Copy {
@@ -131,7 +136,7 @@ impl Copy {
         Rec::from(&self.t[at..at + 263])
     }
 
-    pub fn judge(&self) -> Result<(), u8> {
+    pub fn judge(&self) -> Result<(), Refusal> {
         judge_table(&self.t, self.n, self.s, self.copy)
     }
 
@@ -140,8 +145,8 @@ impl Copy {
     /// table stays sound, and each message is valid where it goes.
     fn event(
         &mut self,
-        call: impl FnOnce(&mut [u8], &mut [u8]) -> Result<Event, u8>,
-    ) -> Result<(Event, Vec<Message>), u8> {
+        call: impl FnOnce(&mut [u8], &mut [u8]) -> Result<Event, Refusal>,
+    ) -> Result<(Event, Vec<Message>), Refusal> {
         let before = self.t.clone();
         let mut out = [0xa5; 300];
         let answer = call(&mut self.t, &mut out);
@@ -180,29 +185,34 @@ impl Copy {
         all
     }
 
-    pub fn request(&mut self, op: u8, key: u32, edit: u64) -> Result<(Event, Vec<Message>), u8> {
+    pub fn request(
+        &mut self,
+        op: u8,
+        key: u32,
+        edit: u64,
+    ) -> Result<(Event, Vec<Message>), Refusal> {
         let (n, s, c) = (self.n, self.s, self.copy);
         self.event(|t, out| request(t, n, s, c, out, op, key, edit))
     }
 
-    pub fn message(&mut self, m: &Message) -> Result<(Event, Vec<Message>), u8> {
+    pub fn message(&mut self, m: &Message) -> Result<(Event, Vec<Message>), Refusal> {
         let mut bytes = [0; 256];
         let len = write_message(self.n, self.s, self.copy, &mut bytes, m).expect("a valid message");
         let (n, s, c) = (self.n, self.s, self.copy);
         self.event(|t, out| message(t, n, s, c, out, &bytes[..len]))
     }
 
-    pub fn recover(&mut self, o: usize, j: usize) -> Result<(Event, Vec<Message>), u8> {
+    pub fn recover(&mut self, o: usize, j: usize) -> Result<(Event, Vec<Message>), Refusal> {
         let (n, s, c) = (self.n, self.s, self.copy);
         self.event(|t, out| recover(t, n, s, c, out, o, j))
     }
 
-    pub fn nudge(&mut self, o: usize, j: usize) -> Result<(Event, Vec<Message>), u8> {
+    pub fn nudge(&mut self, o: usize, j: usize) -> Result<(Event, Vec<Message>), Refusal> {
         let (n, s, c) = (self.n, self.s, self.copy);
         self.event(|t, out| nudge(t, n, s, c, out, o, j))
     }
 
-    pub fn settled(&self, o: usize, j: usize) -> Result<Settled, u8> {
+    pub fn settled(&self, o: usize, j: usize) -> Result<Settled, Refusal> {
         settled(&self.t, self.n, self.s, self.copy, o, j)
     }
 

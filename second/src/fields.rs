@@ -1,0 +1,125 @@
+//! A message as the eighteen numbers that cross to C: kind, from, to, owner, number, ballot, voted or joined, status, op,
+//! key, edit, seven dependencies.
+
+use crate::message::{self, write_message, Message, NACK};
+use crate::refusal::{Refusal, UNKNOWN_KIND, WRONG_LENGTH};
+
+pub type Fields = [u64; 18];
+
+/// For each kind, where in its bytes each number stands; 0 where it has none. Kind 0 is none.
+pub(crate) const OFFSETS: [[u8; 18]; 9] = {
+    const HEAD: [u8; 18] = [0, 1, 2, 3, 4, 6, 0, 0, 0, 0, 0, 0, 0, 0, 0, 0, 0, 0];
+    const COMMAND: [u8; 18] = [0, 1, 2, 3, 4, 6, 0, 0, 10, 11, 15, 23, 25, 27, 29, 31, 33, 35];
+    [
+        [0; 18],
+        COMMAND,
+        [0, 1, 2, 3, 4, 6, 0, 0, 0, 0, 0, 10, 12, 14, 16, 18, 20, 22],
+        COMMAND,
+        HEAD,
+        COMMAND,
+        HEAD,
+        [0, 1, 2, 3, 4, 6, 10, 14, 15, 16, 20, 28, 30, 32, 34, 36, 38, 40],
+        [0, 1, 2, 3, 4, 6, 10, 0, 0, 0, 0, 0, 0, 0, 0, 0, 0, 0],
+    ]
+};
+
+/// The largest number that each place can hold; an op is one of three.
+const MOST: Fields = {
+    const BYTE: u64 = u8::MAX as u64;
+    const ENTRY: u64 = u16::MAX as u64;
+    const WORD: u64 = u32::MAX as u64;
+    let head = [BYTE, BYTE, BYTE, BYTE, ENTRY, WORD];
+    let mut most = [ENTRY; 18];
+    let mut at = 0;
+    while at < head.len() {
+        most[at] = head[at];
+        at += 1;
+    }
+    (most[6], most[7], most[8], most[9], most[10]) = (WORD, BYTE, 2, WORD, u64::MAX);
+    most
+};
+
+pub fn fields(m: &Message) -> Fields {
+    let mut f = [0; 18];
+    put(m, &mut f);
+    f
+}
+
+/// The same into a place that is lent.
+#[inline]
+pub fn put(m: &Message, f: &mut Fields) {
+    f[0] = m.kind as u64;
+    f[1] = m.from as u64;
+    f[2] = m.to as u64;
+    f[3] = m.owner as u64;
+    f[4] = m.number as u64;
+    f[5] = m.ballot as u64;
+    // A message carries a voted ballot or a joined one, never both.
+    f[6] = (m.voted | m.joined) as u64;
+    f[7] = m.status as u64;
+    f[8] = m.op as u64;
+    f[9] = m.key as u64;
+    f[10] = m.edit;
+    for q in 0..7 {
+        f[11 + q] = m.deps[q] as u64;
+    }
+}
+
+/// The message that these numbers say. A number that its place cannot hold is no field in range, whatever else is wrong.
+#[inline]
+fn message(f: &Fields) -> Result<Message, Refusal> {
+    if !(1..=NACK as u64).contains(&f[0]) {
+        return Err(UNKNOWN_KIND);
+    }
+    let offsets = &OFFSETS[f[0] as usize];
+    let (mut beside, mut too_large) = (0, false);
+    for at in 1..18 {
+        beside |= if offsets[at] == 0 { f[at] } else { 0 };
+        too_large |= f[at] > MOST[at];
+    }
+    if beside != 0 {
+        return Err(WRONG_LENGTH);
+    }
+    if too_large {
+        let first = (1..18).find(|&at| f[at] > MOST[at]).unwrap_or(0);
+        return Err(Refusal::wrong_field(offsets[first] as usize));
+    }
+    Ok(cut(f, f[0] as u8))
+}
+
+/// The message that the numbers say when each is cut to its place, and the seventh taken as this kind has it.
+#[inline]
+pub fn cut(f: &Fields, kind: u8) -> Message {
+    let is_nack = kind == NACK;
+    let mut deps = [0; 7];
+    for q in 0..7 {
+        deps[q] = f[11 + q] as u16;
+    }
+    Message {
+        kind: f[0] as u8,
+        from: f[1] as u8,
+        to: f[2] as u8,
+        owner: f[3] as u8,
+        number: f[4] as u16,
+        ballot: f[5] as u32,
+        voted: if is_nack { 0 } else { f[6] as u32 },
+        joined: if is_nack { f[6] as u32 } else { 0 },
+        status: f[7] as u8,
+        op: f[8] as u8,
+        key: f[9] as u32,
+        edit: f[10],
+        deps,
+    }
+}
+
+/// Writes what the numbers say, as the C call does.
+pub fn write(
+    n: usize,
+    s: usize,
+    copy: usize,
+    out: &mut [u8],
+    f: &Fields,
+) -> Result<usize, Refusal> {
+    message::writing(n, s, copy, out.len())?;
+    write_message(n, s, copy, out, &message(f)?)
+}
