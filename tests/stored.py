@@ -4,7 +4,8 @@ import os, sys
 ROOT = os.path.dirname(os.path.dirname(os.path.abspath(__file__)))
 CHECK = "--check" in sys.argv
 WORDS = [word for word in sys.argv[1:] if word != "--check"]
-VECTORS = WORDS[0] if WORDS else os.path.join(os.path.dirname(ROOT), "shared", "vectors")
+# The runs beside this folder are the base's: they refuse with 3, which no call gives any more.
+VECTORS = WORDS[0] if WORDS else os.path.join(os.path.dirname(ROOT), "shared", "vectors", "change-1")
 
 
 def store(name, lines):

@@ -171,9 +171,7 @@ impl Base<'_> {
     }
 
     fn break_frame(&self, say: &mut dyn FnMut(Break)) {
-        for value in [0, NACK as u64 + 1] {
-            say(Break { at: KIND, value, reason: UNKNOWN_KIND });
-        }
+        say(Break { at: KIND, value: NACK as u64 + 1, reason: UNKNOWN_KIND });
         for value in [0, 2] {
             say(Break { at: LENGTH, value, reason: WRONG_LENGTH });
         }
@@ -209,7 +207,7 @@ impl Base<'_> {
     fn break_vote(&self, say: &mut dyn FnMut(Break)) {
         let m = self.valid;
         self.out_of_range(VOTED_OR_JOINED, &[7, u32::MAX as u64, m.ballot as u64], say);
-        self.out_of_range(STATUS, &[4, 255], say);
+        self.out_of_range(STATUS, &[4], say);
         // Between the voted ballot and status 0 it is the status that comes later.
         let reason = Refusal::wrong_field(OFFSETS[PREPARE_OK as usize][STATUS] as usize);
         say(match m.status {
@@ -223,7 +221,7 @@ impl Base<'_> {
         if !has_command(m.kind) {
             return;
         }
-        self.out_of_range(OP, &[3, 255], say);
+        self.out_of_range(OP, &[3], say);
         if m.kind == PRE_ACCEPT && m.ballot == 0 {
             self.out_of_range(OP, &[0], say);
         }
@@ -231,8 +229,8 @@ impl Base<'_> {
             self.out_of_range(OP, &[1, 2], say);
         }
         if m.op == 0 {
-            self.out_of_range(KEY, &[1, 1 << 31], say);
-            self.out_of_range(EDIT, &[1, 1 << 63], say);
+            self.out_of_range(KEY, &[1 << 31], say);
+            self.out_of_range(EDIT, &[1 << 63], say);
         }
     }
 

@@ -358,11 +358,13 @@ fn writer(script: &mut Script, c: usize) {
     }
 }
 
-/// Every clause of valid broken alone, and every two together: read, and written where a line can say it.
+/// Every clause of valid broken alone, and every two together: read, and with S = 1 written where a line can say it,
+/// since each answer to a write has the whole room in it.
 fn clauses(script: &mut Script, c: usize) {
-    broken::each(script.n, script.s, c, &mut |case| {
+    let (n, s) = (script.n, script.s);
+    broken::each(n, s, c, &mut |case| {
         script.read(c, case.bytes);
-        if let Some(m) = case.fields.as_ref().and_then(said) {
+        if let Some(m) = case.fields.as_ref().filter(|_| s == 1).and_then(said) {
             script.write(c, 256, &m);
         }
     });
@@ -803,13 +805,14 @@ fn edges() -> Script {
                     judged(&mut script, c, &few_cases(n, s, c));
                 }
             }
-            if (n, s) == (3, 1) {
+            every_place(&mut script, 0);
+            if matches!((n, s), (3, 1) | (7, 64)) {
                 clauses(&mut script, 1);
             }
-            lengths(&mut script, 1);
-            kinds(&mut script, n - 1);
-            every_place(&mut script, 0);
+            // None of these asks for S.
             if s == 1 {
+                lengths(&mut script, 1);
+                kinds(&mut script, n - 1);
                 every_byte(&mut script, 1);
             }
         }

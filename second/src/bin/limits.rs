@@ -213,10 +213,21 @@ fn arguments(run: &mut Run, n: usize, s: usize) {
         run.nudge(o, j);
         run.recover(o, j);
     }
+    messages(run, n, s);
+}
+
+/// One message for each reason not to take it.
+fn messages(run: &mut Run, n: usize, s: usize) {
     run.message(&[]);
+    run.message(&accept_ok(0, 1)[..9]);
     run.message(&accept_ok(0, 0));
     run.message(&accept_ok(n as u8, 1));
     run.message(&accept_ok(0, s as u8 + 1));
+    run.message(&accept_ok(1, 1));
+    let mut to_another = accept_ok(0, 1);
+    to_another[2] = 2;
+    run.message(&to_another);
+    run.message(&commit(0, 1, 9, [s as u8 + 1, 0, 0]));
 }
 
 /// Requests until no blank record is left.
