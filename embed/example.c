@@ -19,14 +19,14 @@ static void show(const char *what, const uint8_t *bytes, size_t length) {
 }
 
 /* A host writes this part of the table to its disk, and flushes it, before it sends anything. */
-static void save(const size_t values[3]) {
+static void save(const size_t values[4]) {
     size_t length;
     size_t start = pumxaqert_part(table, table_len, N, S, C, values[0], values[1], &length);
     printf("save %zu.%zu: %zu bytes of the table from byte %zu\n", values[0], values[1], length, start);
 }
 
 int main(void) {
-    size_t values[3];
+    size_t values[4];
     table_len = pumxaqert_table_length(N, S);
     table = malloc(table_len);
     if (!table)
@@ -45,8 +45,8 @@ int main(void) {
     /* W2: copy 1 answers PreAcceptOK (kind 2) without dependencies, and 0.1 is committed. */
     const uint64_t fields[18] = {2, 1, 0, 0, 1};
     uint8_t answer[ROOM];
-    size_t length;
-    refusal = pumxaqert_write_message(N, S, 1, answer, ROOM, fields, &length);
+    size_t length, offset;
+    refusal = pumxaqert_write_message(N, S, 1, answer, ROOM, fields, &length, &offset);
     if (refusal)
         return (int)refusal;
     show("copy 1 answers", answer, length);
@@ -65,6 +65,11 @@ int main(void) {
     size_t codes;
     refusal |= pumxaqert_hand_out(table, table_len, N, S, C, list, 2, &codes);
     printf("handed out %zu: code %u\n", codes, (unsigned)list[0]);
+
+    /* An answer whose last dependency says more than three copies have: the offset in values[3] names that field. */
+    answer[length - 2] = 1;
+    uint32_t wrong = pumxaqert_message(table, table_len, N, S, C, out, ROOM, answer, length, values);
+    printf("damaged: refusal %u, byte %zu\n", (unsigned)wrong, values[3]);
 
     /* NULL with length 0 is an empty area: no room at all is refusal 2. */
     printf("no room: refusal %u\n", (unsigned)pumxaqert_nudge(table, table_len, N, S, C, NULL, 0, 0, 1, values));

@@ -5,11 +5,12 @@
  * bytes.
  *
  * A call returns 0, or the number of a refusal; then all lent memory is as at entry, except that the values, which are
- * this call's answer, are all 0. (pumxaqert_table_length and pumxaqert_part return a length and a place in the table, and refuse nothing.)
+ * this call's answer, are all 0, but for the offset of a wrong field. (pumxaqert_table_length and pumxaqert_part return a
+ * length and a place in the table, and refuse nothing.)
  *
  * Lent areas. A pointer comes with its length, in elements, and is aligned as its type asks. No lent area overlaps
  * another, the values included. NULL may be given with length 0 and means an empty area; the values (values, fields,
- * length, codes, written) may not be NULL, and need not be set before. What a call does not say it writes keeps its
+ * length, codes, written, offset) may not be NULL, and need not be set before. What a call does not say it writes keeps its
  * contents: bytes of out after the written ones, places of the list after the filled ones, all other bytes of the table.
  *
  * No call keeps a pointer, allocates, or calls the host; calls on different areas may run at the same time. The library
@@ -29,7 +30,11 @@ enum {
     PUMXAQERT_SETUP = 1,             /* n, s, c or the table's length is wrong */
     PUMXAQERT_UNSOUND = 11,          /* the table is not sound */
     PUMXAQERT_ROOM = 2,              /* room for outgoing bytes is under 256 */
-    PUMXAQERT_MESSAGE = 3,           /* a message is not valid */
+    PUMXAQERT_UNKNOWN_KIND = 31,     /* a message of no known kind, or no bytes at all */
+    PUMXAQERT_WRONG_LENGTH = 32,     /* a message that is not as long as its kind */
+    PUMXAQERT_WRONG_WAY = 33,        /* a message that is not for this copy, or is from it */
+    PUMXAQERT_WRONG_LEAD = 34,       /* a message not from, or not to, the lead of its ballot, as its kind asks */
+    PUMXAQERT_WRONG_FIELD = 35,      /* a field out of range; the offset says which. In the first ten bytes: before 33 */
     PUMXAQERT_OP = 4,                /* a request with another op than 1 or 2 */
     PUMXAQERT_INSTANCE = 6,          /* there is no such owner or number */
     PUMXAQERT_RECOVER_COMMITTED = 8, /* recover of a committed instance */
@@ -53,20 +58,21 @@ uint32_t pumxaqert_judge(const uint8_t *table, size_t table_len, size_t n, size_
 size_t pumxaqert_part(const uint8_t *table, size_t table_len, size_t n, size_t s, size_t c, size_t owner, size_t number,
                       size_t *length);
 
-/* Events: they change one record of the table. values: its owner, its number, and how many bytes were written at the
- * front of out: whole messages, by rising destination. Each refuses 1, 11, 2 and then
+/* Events: they change one record of the table. values: its owner, its number, how many bytes were written at the front
+ * of out, which are whole messages, by rising destination; and for refusal 35, else 0, where in the message the first
+ * byte of the wrong field stands (docs/LAYOUT.md names it). Each refuses 1, 11, 2 and then
  *   request (op 1 read, 2 write)  4, 5
- *   message (bytes that came in)  3, 10
+ *   message (bytes that came in)  31 to 35, 10
  *   recover                       6, 8, 7
  *   nudge                         6, 9 */
 uint32_t pumxaqert_request(uint8_t *table, size_t table_len, size_t n, size_t s, size_t c, uint8_t *out, size_t out_len,
-                           size_t op, uint32_t key, uint64_t edit, size_t values[3]);
+                           size_t op, uint32_t key, uint64_t edit, size_t values[4]);
 uint32_t pumxaqert_message(uint8_t *table, size_t table_len, size_t n, size_t s, size_t c, uint8_t *out, size_t out_len,
-                           const uint8_t *bytes, size_t bytes_len, size_t values[3]);
+                           const uint8_t *bytes, size_t bytes_len, size_t values[4]);
 uint32_t pumxaqert_recover(uint8_t *table, size_t table_len, size_t n, size_t s, size_t c, uint8_t *out, size_t out_len,
-                           size_t owner, size_t number, size_t values[3]);
+                           size_t owner, size_t number, size_t values[4]);
 uint32_t pumxaqert_nudge(uint8_t *table, size_t table_len, size_t n, size_t s, size_t c, uint8_t *out, size_t out_len,
-                         size_t owner, size_t number, size_t values[3]);
+                         size_t owner, size_t number, size_t values[4]);
 
 /* values: 1, op, key, edit where it is settled (op 0: the edit lost); 0, owner, number, 0 of the uncommitted instance
  * that comes first. Refuses 1, 11, 6. */
@@ -79,15 +85,17 @@ uint32_t pumxaqert_hand_out(uint8_t *table, size_t table_len, size_t n, size_t s
                             size_t list_len, size_t *codes);
 
 /* A message to copy c as numbers: kind, from, to, owner, number, ballot, voted (kind 7) or joined (kind 8), status, op,
- * key, edit, and the seven dependencies. What a kind does not carry is 0. Refuses 1, 3. */
+ * key, edit, and the seven dependencies. What a kind does not carry is 0. Refuses 1, 31 to 35; *offset is where the wrong
+ * field of a 35 begins, else 0. */
 uint32_t pumxaqert_read_message(size_t n, size_t s, size_t c, const uint8_t *bytes, size_t bytes_len,
-                                uint64_t fields[18]);
+                                uint64_t fields[18], size_t *offset);
 
-/* Writes what fields says at the front of out; *written is the message's length. Refuses 1, 2 (out_len under 256), and 3
- * for what the copy named in `to` would not take, a number that does not fit its place or stands where its kind has none
- * among it. c is the copy that writes; it need not be the message's `from`. */
+/* Writes what fields says at the front of out; *written is the message's length. Refuses 1, 2 (out_len under 256), and
+ * then as the copy named in `to` would refuse the message, *offset as above. A number where the kind has none makes the
+ * message too long (32); then the first number that its place cannot hold (an op above 2, a byte above 255 ..) is a wrong
+ * field before all others. c is the copy that writes; it need not be the message's `from`. */
 uint32_t pumxaqert_write_message(size_t n, size_t s, size_t c, uint8_t *out, size_t out_len, const uint64_t fields[18],
-                                 size_t *written);
+                                 size_t *written, size_t *offset);
 
 #ifdef __cplusplus
 }

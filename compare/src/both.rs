@@ -1,10 +1,10 @@
 //! One call on both sides: answers, outgoing bytes, lists and tables are compared to the last byte.
 
-use crate::{fields, make};
+use crate::make;
 use crate::{UNTOUCHED, UNTOUCHED_CODE};
-use pumxaqert::{raw, Command, Event, Instance, Op, Refusal, Settling, Setup};
+use pumxaqert::{raw, Command, Event, Fields, Instance, Message, Op, Settling, Setup};
 use second::table::{HEAD_LEN, RECORD_LEN};
-use second::Settled;
+use second::{fields, Refusal, Settled};
 
 /// A little more than any event needs, so that writing past 256 would show.
 pub const OUT: usize = 300;
@@ -23,10 +23,10 @@ pub enum Call<'a> {
     HandOut(usize),
 }
 
-/// What a call answers, the same for both sides. A refusal is the paper's number.
+/// What a call answers, the same for both sides.
 #[derive(Clone, Copy, Debug, PartialEq, Eq)]
 pub enum Answer {
-    Refused(u32),
+    Refused(Refusal),
     Done,
     Part(usize, usize),
     Event(usize, usize, usize),
@@ -125,28 +125,89 @@ impl Both {
         &mut self,
         setup: Setup,
         bytes: &[u8],
-    ) -> Result<Result<second::Message, u32>, String> {
+    ) -> Result<Result<second::Message, Refusal>, String> {
         let Setup { n, s, copy } = setup;
-        let ours = second::read_message(n, s, copy, bytes).map_err(u32::from);
-        let theirs = setup.read_message(bytes).map_err(Refusal::number);
-        if ours.map(|m| fields::fields(&m)) != theirs.map(|m| m.fields()) {
+        let ours = second::read_message(n, s, copy, bytes);
+        let theirs = c_read(setup, bytes);
+        if ours.map(|m| fields::fields(&m)) != theirs {
             return Err(format!(
                 "{setup:?} reads {bytes:02x?}\n  second:  {ours:?}\n  library: {theirs:?}"
             ));
         }
-        if let (Ok(our), Ok(their)) = (&ours, &theirs) {
-            self.ours.clear();
-            self.theirs.clear();
-            let a = second::write_message(n, s, copy, &mut self.ours.out, our).map_err(u32::from);
-            let b = setup.write_message(&mut self.theirs.out, their).map_err(Refusal::number);
-            if a != b || a != Ok(bytes.len()) || self.ours.out != self.theirs.out {
-                return Err(format!("{our:?} is written\n  second:  {a:?}\n  library: {b:?}"));
-            }
-            if self.ours.out[..bytes.len()] != *bytes {
-                return Err(format!("{our:?} is not written back as it was read"));
+        let wrapped = setup.read_message(bytes);
+        if wrapped.map(|m| m.fields()).map_err(told) != theirs {
+            return Err(format!("{setup:?} reads {bytes:02x?}\n  wrapper: {wrapped:?}"));
+        }
+        if let Ok(m) = &ours {
+            let written = self.write(setup, &fields::fields(m))?;
+            if written != Ok(bytes.len()) || self.ours.out[..bytes.len()] != *bytes {
+                return Err(format!("{m:?} is not written back as it was read: {written:?}"));
             }
         }
         Ok(ours)
+    }
+
+    /// How long the message is that these numbers say, where both sides agree on it and on every byte of the room.
+    pub fn write(&mut self, setup: Setup, f: &Fields) -> Result<Result<usize, Refusal>, String> {
+        let Setup { n, s, copy } = setup;
+        self.ours.clear();
+        self.theirs.clear();
+        let ours = fields::write(n, s, copy, &mut self.ours.out, f);
+        let theirs = c_write(setup, &mut self.theirs.out, f);
+        if ours != theirs || self.ours.out != self.theirs.out {
+            return Err(format!(
+                "{setup:?} writes {f:?}\n  second:  {ours:?}\n  library: {theirs:?}"
+            ));
+        }
+        // The wrapper has a message only of numbers that its kind carries.
+        let wrapped = Message::from_fields(f).filter(|m| m.fields() == *f);
+        if let Some(m) = wrapped {
+            self.theirs.clear();
+            let theirs = setup.write_message(&mut self.theirs.out, &m).map_err(told);
+            if ours != theirs || self.ours.out != self.theirs.out {
+                return Err(format!("{setup:?} writes {f:?}\n  wrapper: {theirs:?}"));
+            }
+        }
+        Ok(ours)
+    }
+}
+
+/// The wrapper's refusal as the second program's.
+fn told(refusal: pumxaqert::Refusal) -> Refusal {
+    numbered(refusal.number(), refusal.offset())
+}
+
+/// A number or an offset that is none of a message's is none of the paper's either.
+fn numbered(number: u32, offset: usize) -> Refusal {
+    Refusal {
+        number: number.try_into().unwrap_or(u8::MAX),
+        offset: offset.try_into().unwrap_or(u8::MAX),
+    }
+}
+
+fn c_read(setup: Setup, bytes: &[u8]) -> Result<Fields, Refusal> {
+    let Setup { n, s, copy } = setup;
+    let (mut f, mut offset) = ([0; 18], usize::MAX);
+    let (at, length) = (bytes.as_ptr(), bytes.len());
+    // SAFETY: here and below, each area comes from a slice or array with its length.
+    let number =
+        unsafe { raw::pumxaqert_read_message(n, s, copy, at, length, &mut f, &mut offset) };
+    match (number, offset) {
+        (0, 0) => Ok(f),
+        _ => Err(numbered(number, offset)),
+    }
+}
+
+fn c_write(setup: Setup, out: &mut [u8], f: &Fields) -> Result<usize, Refusal> {
+    let Setup { n, s, copy } = setup;
+    let (mut written, mut offset) = (usize::MAX, usize::MAX);
+    let (at, length) = (out.as_mut_ptr(), out.len());
+    let number = unsafe {
+        raw::pumxaqert_write_message(n, s, copy, at, length, f, &mut written, &mut offset)
+    };
+    match (number, offset) {
+        (0, 0) => Ok(written),
+        _ => Err(numbered(number, offset)),
     }
 }
 
@@ -182,13 +243,13 @@ pub fn second_side(setup: Setup, room: usize, call: Call, t: &mut [u8], lent: &m
                     Answer::Settled(op as u64, key as u64, edit)
                 }
                 Ok(Settled::Waits { owner, number }) => Answer::Waits(owner, number),
-                Err(refusal) => Answer::Refused(refusal as u32),
+                Err(refusal) => Answer::Refused(refusal),
             }
         }
         Call::HandOut(places) => {
             return match second::hand_out(t, n, s, copy, &mut lent.list[..places]) {
                 Ok(codes) => Answer::Codes(codes),
-                Err(refusal) => Answer::Refused(refusal as u32),
+                Err(refusal) => Answer::Refused(refusal),
             }
         }
         Call::Request(op, key, edit) => {
@@ -202,12 +263,12 @@ pub fn second_side(setup: Setup, room: usize, call: Call, t: &mut [u8], lent: &m
     };
     match event {
         Ok(second::Event { owner, number, written }) => Answer::Event(owner, number, written),
-        Err(refusal) => Answer::Refused(refusal as u32),
+        Err(refusal) => Answer::Refused(refusal),
     }
 }
 
-fn done(answer: Result<(), u8>) -> Answer {
-    answer.map_or_else(|refusal| Answer::Refused(refusal as u32), |()| Answer::Done)
+fn done(answer: Result<(), Refusal>) -> Answer {
+    answer.map_or_else(Answer::Refused, |()| Answer::Done)
 }
 
 pub fn library_side(
@@ -219,7 +280,7 @@ pub fn library_side(
 ) -> Answer {
     let out = &mut lent.out[..room];
     let at = |owner, number| Instance { owner, number };
-    let refused = |refusal: Refusal| Answer::Refused(refusal.number());
+    let refused = |refusal| Answer::Refused(told(refusal));
     let event = match call {
         Call::Blank => return setup.blank(t).map_or_else(refused, |()| Answer::Done),
         Call::Judge => return setup.judge(t).map_or_else(refused, |()| Answer::Done),
@@ -255,12 +316,11 @@ fn event_answer(event: Event) -> Answer {
 fn request(setup: Setup, t: &mut [u8], out: &mut [u8], op: usize, key: u32, edit: u64) -> Answer {
     if let Some(op) = Op::from_number(op as u64) {
         let answer = setup.request(t, out, Command { op, key, edit });
-        return answer.map_or_else(|refusal| Answer::Refused(refusal.number()), event_answer);
+        return answer.map_or_else(|refusal| Answer::Refused(told(refusal)), event_answer);
     }
-    let mut values = [0; 3];
+    let mut values = [0; 4];
     let Setup { n, s, copy } = setup;
-    // SAFETY: both areas come from slices with their lengths.
-    let refusal = unsafe {
+    let number = unsafe {
         raw::pumxaqert_request(
             t.as_mut_ptr(),
             t.len(),
@@ -275,8 +335,8 @@ fn request(setup: Setup, t: &mut [u8], out: &mut [u8], op: usize, key: u32, edit
             &mut values,
         )
     };
-    match refusal {
+    match number {
         0 => Answer::Event(values[0], values[1], values[2]),
-        _ => Answer::Refused(refusal),
+        _ => Answer::Refused(numbered(number, values[3])),
     }
 }

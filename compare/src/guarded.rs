@@ -5,6 +5,9 @@ use pumxaqert::raw::*;
 use pumxaqert::{Fields, Setup};
 
 const GUARD: usize = 64;
+const FIELDS: usize = 18;
+/// The most that a call answers.
+pub const VALUES: usize = FIELDS + 1;
 
 /// An area of some length in the middle of known cells; empty, it may be lent as NULL.
 pub struct Area<T> {
@@ -79,10 +82,18 @@ impl Input {
     pub fn values(&self) -> usize {
         match self {
             Input::OnTable(Call::Blank | Call::Judge) => 0,
-            Input::OnTable(Call::HandOut(_) | Call::Part(..)) | Input::Write(_) => 1,
-            Input::OnTable(Call::Settled(..)) => 4,
-            Input::OnTable(_) | Input::Message => 3,
-            Input::Read => 18,
+            Input::OnTable(Call::HandOut(_) | Call::Part(..)) => 1,
+            Input::Write(_) => 2,
+            Input::OnTable(_) | Input::Message => 4,
+            Input::Read => VALUES,
+        }
+    }
+
+    /// Whether the last value is the offset of a wrong field.
+    pub fn has_offset(&self) -> bool {
+        match self {
+            Input::OnTable(Call::Settled(..)) => false,
+            _ => self.values() > 1,
         }
     }
 }
@@ -97,10 +108,12 @@ pub fn c_call(setup: Setup, input: Input, areas: &mut Areas) -> u64 {
     // many places as the call answers, and a size is as wide as a u64 on the only machine that the library runs on.
     match input {
         Input::Read => unsafe {
-            pumxaqert_read_message(n, s, c, bytes, bytes_len, values.cast()) as u64
+            let offset = values.add(FIELDS).cast();
+            pumxaqert_read_message(n, s, c, bytes, bytes_len, values.cast(), offset) as u64
         },
         Input::Write(f) => unsafe {
-            pumxaqert_write_message(n, s, c, out, out_len, &f, values.cast()) as u64
+            let offset = values.add(1).cast();
+            pumxaqert_write_message(n, s, c, out, out_len, &f, values.cast(), offset) as u64
         },
         Input::Message => event(setup, None, areas) as u64,
         Input::OnTable(call) => on_table(setup, call, areas),

@@ -6,7 +6,6 @@ pub mod both;
 pub mod cases;
 mod classify;
 pub mod demand;
-pub mod fields;
 pub mod guarded;
 pub mod linear;
 pub mod make;
@@ -23,6 +22,19 @@ pub mod world;
 /// Contents of lent memory before a call, to see what the call leaves alone.
 pub const UNTOUCHED: u8 = 0xa5;
 pub const UNTOUCHED_CODE: u16 = 0xa5a5;
+
+/// The paper's refusals.
+pub const REFUSALS: [u8; 15] = [1, 2, 4, 5, 6, 7, 8, 9, 10, 11, 31, 32, 33, 34, 35];
+
+/// Which of them it is.
+pub fn refusal_place(number: u8) -> usize {
+    REFUSALS.iter().position(|&its| its == number).expect("a refusal of the paper")
+}
+
+/// A message is not valid.
+pub fn not_valid(number: u8) -> bool {
+    (31..=35).contains(&number)
+}
 
 /// The length of each kind of message; kind 0 is none.
 pub const LENGTHS: [usize; 9] = [0, 37, 24, 37, 10, 37, 10, 42, 14];

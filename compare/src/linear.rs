@@ -5,6 +5,7 @@
 //! entry, a prefix to its last instance and to the prefix before. That is at most 9 edges for each instance.
 
 use second::table::{COMMITTED, HEAD_LEN, RECORD_LEN};
+use second::Refusal;
 
 const MOST: usize = 7 * 64;
 const NODES: usize = 2 * MOST;
@@ -21,7 +22,7 @@ pub fn hand_out(
     s: usize,
     copy: usize,
     list: &mut [u16],
-) -> Result<usize, u8> {
+) -> Result<usize, Refusal> {
     second::judge_table(t, n, s, copy)?;
     let mut graph = Graph::new(n, s, t);
     for x in 0..n * s {

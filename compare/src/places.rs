@@ -1,5 +1,7 @@
 //! The places that runs are to reach, and how often they did.
 
+use crate::refusal_place;
+
 /// A name for each place, and its words in the account.
 macro_rules! places {
     ($($name:ident $words:literal,)*) => {
@@ -68,7 +70,6 @@ places! {
     Drained "run drained: all committed and handed out alike",
     Refused1 "refusal 1",
     Refused2 "refusal 2",
-    Refused3 "refusal 3",
     Refused4 "refusal 4",
     Refused5 "refusal 5",
     Refused6 "refusal 6",
@@ -77,6 +78,11 @@ places! {
     Refused9 "refusal 9",
     Refused10 "refusal 10",
     Refused11 "refusal 11",
+    Refused31 "refusal 31",
+    Refused32 "refusal 32",
+    Refused33 "refusal 33",
+    Refused34 "refusal 34",
+    Refused35 "refusal 35",
 }
 
 #[derive(Clone)]
@@ -99,8 +105,8 @@ impl Places {
         self.counts[place as usize] += 1;
     }
 
-    pub fn refused(&mut self, number: u32) {
-        self.counts[Place::Refused1 as usize + number as usize - 1] += 1;
+    pub fn refused(&mut self, number: u8) {
+        self.counts[Place::Refused1 as usize + refusal_place(number)] += 1;
     }
 
     pub fn add(&mut self, other: &Places) {

@@ -2,10 +2,10 @@
 //! refused. The run itself goes on as if they had not been.
 
 use crate::both::{Answer, Call, Pair, OUT};
-use crate::make;
 use crate::places::Place;
 use crate::random::Random;
 use crate::world::World;
+use crate::{make, not_valid};
 use pumxaqert::{Setup, ROOM};
 use second::table::{Record, COMMITTED, HEAD_LEN, RECORD_LEN};
 
@@ -47,15 +47,15 @@ fn check(
         _ => Place::TableOther,
     });
     let answer = world.both.call(setup, room, call, &mut tables)?;
-    if let Answer::Refused(number) = answer {
-        places.refused(number);
+    if let Answer::Refused(refusal) = answer {
+        places.refused(refusal.number);
         if tables.ours != table {
-            return Err(format!("{call:?} was refused {number} and changed the table"));
+            return Err(format!("{call:?} was refused {refusal} and changed the table"));
         }
     }
     if damaged {
         places.reach(match answer {
-            Answer::Refused(3) => Place::MessageDamaged,
+            Answer::Refused(refusal) if not_valid(refusal.number) => Place::MessageDamaged,
             _ => Place::MessageInvented,
         });
     }

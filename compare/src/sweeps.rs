@@ -2,6 +2,7 @@
 //! instance is closed over it, then one place of the list at a time. The proved hand-out is measured against it.
 
 use second::table::{COMMITTED, HEAD_LEN, RECORD_LEN};
+use second::Refusal;
 
 const MOST: usize = 7 * 64;
 const STATUS_AT: usize = 8;
@@ -18,7 +19,7 @@ pub fn hand_out(
     s: usize,
     copy: usize,
     list: &mut [u16],
-) -> Result<usize, u8> {
+) -> Result<usize, Refusal> {
     second::judge_table(t, n, s, copy)?;
     let mut beginnings = [[0; 7]; MOST];
     sweep(t, n, s, &mut beginnings, false);

@@ -9,10 +9,11 @@ use crate::make;
 use crate::places::{Place, Places};
 use crate::probe;
 use crate::random::Random;
-use crate::LENGTHS;
+use crate::{not_valid, LENGTHS};
 use pumxaqert::{Instance, Setup, ROOM};
 use second::rules::{covers, NO_OP};
 use second::table::{Record, COMMITTED, RECORD_LEN};
+use second::Refusal;
 
 pub struct Copy {
     pub setup: Setup,
@@ -195,7 +196,7 @@ impl World {
         let copy = &mut self.copies[q];
         let answer = self.both.call(copy.setup, ROOM, call, &mut copy.tables);
         let (o, j, written) = match answer.map_err(|wrong| wrong + &self.before(q, call))? {
-            Answer::Refused(number) => return self.refused(q, number, call),
+            Answer::Refused(refusal) => return self.refused(q, refusal, call),
             Answer::Event(o, j, written) => (o, j, written),
             other => return Err(format!("{other:?} is no event's answer")),
         };
@@ -239,14 +240,15 @@ impl World {
         format!("\n  before:  {:?}", make::get(saved, make::place(*setup, o, j)))
     }
 
-    fn refused(&mut self, q: usize, number: u32, call: Call) -> Result<(), String> {
+    fn refused(&mut self, q: usize, refusal: Refusal, call: Call) -> Result<(), String> {
+        let number = refusal.number;
         self.places.refused(number);
         if self.copies[q].tables.ours != self.copies[q].saved {
-            return Err(format!("{call:?} was refused {number} and changed the table"));
+            return Err(format!("{call:?} was refused {refusal} and changed the table"));
         }
         // What was sent is valid, what is saved is sound, and a commit is never contradicted.
-        if !self.wild && matches!(number, 1 | 2 | 3 | 10 | 11) {
-            return Err(format!("{call:?} was refused {number} in an undamaged run"));
+        if !self.wild && (matches!(number, 1 | 2 | 10 | 11) || not_valid(number)) {
+            return Err(format!("{call:?} was refused {refusal} in an undamaged run"));
         }
         Ok(())
     }

@@ -4,7 +4,7 @@ use compare::random::Random;
 use compare::{linear, shapes, sweeps, UNTOUCHED_CODE};
 use pumxaqert::Setup;
 
-type HandOut = fn(&mut [u8], usize, usize, usize, &mut [u16]) -> Result<usize, u8>;
+type HandOut = fn(&mut [u8], usize, usize, usize, &mut [u16]) -> Result<usize, second::Refusal>;
 
 const MEASURED: [(&str, HandOut); 2] = [("linear", linear::hand_out), ("sweeps", sweeps::hand_out)];
 

@@ -113,7 +113,7 @@ impl Host {
                 self.network.send(&bytes);
             }
             Outcome::Refused(Refusal::NoBlank) => self.wanted.push(command),
-            Outcome::Refused(refusal) => println!("edit {} is refused: {refusal:?}", command.edit),
+            Outcome::Refused(refusal) => println!("edit {} is refused: {refusal}", command.edit),
             Outcome::Cut => {
                 self.account(copy, moment);
                 self.asked_again(copy, command);
@@ -192,7 +192,7 @@ impl Host {
     fn after(&mut self, copy: usize, moment: Option<Moment>, outcome: Outcome) {
         match outcome {
             Outcome::Answered(_, bytes) => self.network.send(&bytes),
-            Outcome::Refused(refusal) => println!("copy {copy} refuses: {refusal:?}"),
+            Outcome::Refused(refusal) => println!("copy {copy} refuses: {refusal}"),
             Outcome::Cut => self.account(copy, moment),
         }
     }

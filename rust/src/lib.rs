@@ -6,8 +6,10 @@
 
 mod message;
 pub mod raw;
+mod refusal;
 
 pub use message::{Body, Command, Deps, Fields, Message, Op};
+pub use refusal::{Field, Refusal};
 
 /// Room that every event, and the writer, asks for.
 pub const ROOM: usize = 256;
@@ -33,58 +35,6 @@ impl Instance {
     }
 }
 
-/// Why a call did nothing, with the paper's numbers.
-#[derive(Clone, Copy, Debug, PartialEq, Eq)]
-#[repr(u32)]
-pub enum Refusal {
-    /// A wrong N, S or copy, or a table of another length.
-    Setup = 1,
-    /// Room for outgoing bytes is under 256.
-    Room = 2,
-    /// A message is not valid.
-    Message = 3,
-    /// A request's op is not a read or a write.
-    Op = 4,
-    /// A request finds no blank own record.
-    NoBlank = 5,
-    /// There is no such owner or number.
-    Instance = 6,
-    /// Recover with joined >= 4,294,967,288.
-    BallotsUsedUp = 7,
-    /// Recover of a committed instance.
-    RecoverCommitted = 8,
-    /// Nudge, not committed and phase 0.
-    NudgeIdle = 9,
-    /// A Commit differs from the stored one.
-    OtherCommit = 10,
-    /// The table is not sound.
-    Unsound = 11,
-}
-
-impl Refusal {
-    pub const ALL: [Refusal; 11] = [
-        Refusal::Setup,
-        Refusal::Room,
-        Refusal::Message,
-        Refusal::Op,
-        Refusal::NoBlank,
-        Refusal::Instance,
-        Refusal::BallotsUsedUp,
-        Refusal::RecoverCommitted,
-        Refusal::NudgeIdle,
-        Refusal::OtherCommit,
-        Refusal::Unsound,
-    ];
-
-    pub fn number(self) -> u32 {
-        self as u32
-    }
-
-    pub fn from_number(number: u32) -> Option<Refusal> {
-        Refusal::ALL.into_iter().find(|r| r.number() == number)
-    }
-}
-
 /// What an event did: its instance, and how many bytes at the front of the room leave once the record is saved.
 #[derive(Clone, Copy, Debug, PartialEq, Eq)]
 pub struct Event {
@@ -100,17 +50,30 @@ pub enum Settling {
     Waits(Instance),
 }
 
-/// A number that is not the paper's cannot come from the proved library: something else was linked.
+/// Only the calls on a message name a field of one, and no message is of this kind.
+const NO_MESSAGE: u8 = 0;
+
 fn refused(number: u32) -> Result<(), Refusal> {
+    refused_at(number, NO_MESSAGE, 0)
+}
+
+/// The answer about a message of this kind. What is not the paper's cannot come from the proved library: something else
+/// was linked.
+fn refused_at(number: u32, kind: u8, offset: usize) -> Result<(), Refusal> {
     match number {
         0 => Ok(()),
-        _ => Err(Refusal::from_number(number).expect("a refusal of the paper")),
+        _ => Err(Refusal::told(number, kind, offset).expect("a refusal of the paper")),
     }
 }
 
-fn event(number: u32, values: [usize; 3]) -> Result<Event, Refusal> {
-    let [owner, j, written] = values;
-    refused(number).map(|()| Event { instance: Instance { owner, number: j }, written })
+fn event(number: u32, kind: u8, values: [usize; 4]) -> Result<Event, Refusal> {
+    let [owner, j, written, offset] = values;
+    refused_at(number, kind, offset)?;
+    Ok(Event { instance: Instance { owner, number: j }, written })
+}
+
+fn kind_of(bytes: &[u8]) -> u8 {
+    bytes.first().copied().unwrap_or(NO_MESSAGE)
 }
 
 impl Setup {
@@ -161,7 +124,7 @@ impl Setup {
         out: &mut [u8],
         command: Command,
     ) -> Result<Event, Refusal> {
-        let mut values = [0; 3];
+        let mut values = [0; 4];
         let number = unsafe {
             raw::pumxaqert_request(
                 table.as_mut_ptr(),
@@ -177,7 +140,7 @@ impl Setup {
                 &mut values,
             )
         };
-        event(number, values)
+        event(number, NO_MESSAGE, values)
     }
 
     /// A message that arrived at this copy.
@@ -187,7 +150,7 @@ impl Setup {
         out: &mut [u8],
         bytes: &[u8],
     ) -> Result<Event, Refusal> {
-        let mut values = [0; 3];
+        let mut values = [0; 4];
         let number = unsafe {
             raw::pumxaqert_message(
                 table.as_mut_ptr(),
@@ -202,7 +165,7 @@ impl Setup {
                 &mut values,
             )
         };
-        event(number, values)
+        event(number, kind_of(bytes), values)
     }
 
     /// This copy takes over the instance.
@@ -227,7 +190,7 @@ impl Setup {
         out: &mut [u8],
         at: Instance,
     ) -> Result<Event, Refusal> {
-        let mut values = [0; 3];
+        let mut values = [0; 4];
         let number = unsafe {
             call(
                 table.as_mut_ptr(),
@@ -242,7 +205,7 @@ impl Setup {
                 &mut values,
             )
         };
-        event(number, values)
+        event(number, NO_MESSAGE, values)
     }
 
     pub fn settled(&self, table: &[u8], at: Instance) -> Result<Settling, Refusal> {
@@ -288,8 +251,8 @@ impl Setup {
 
     /// A message as received by this copy.
     pub fn read_message(&self, bytes: &[u8]) -> Result<Message, Refusal> {
-        let mut fields = [0; 18];
-        refused(unsafe {
+        let (mut fields, mut offset) = ([0; 18], 0);
+        let number = unsafe {
             raw::pumxaqert_read_message(
                 self.n,
                 self.s,
@@ -297,15 +260,17 @@ impl Setup {
                 bytes.as_ptr(),
                 bytes.len(),
                 &mut fields,
+                &mut offset,
             )
-        })?;
+        };
+        refused_at(number, kind_of(bytes), offset)?;
         Ok(Message::from_fields(&fields).expect("numbers that fit their places"))
     }
 
-    /// Writes a message at the front of the room; its length.
+    /// Writes a message at the front of the room; its length. What the copy named in `to` would refuse is refused so.
     pub fn write_message(&self, out: &mut [u8], message: &Message) -> Result<usize, Refusal> {
-        let mut written = 0;
-        refused(unsafe {
+        let (mut written, mut offset) = (0, 0);
+        let number = unsafe {
             raw::pumxaqert_write_message(
                 self.n,
                 self.s,
@@ -314,8 +279,10 @@ impl Setup {
                 out.len(),
                 &message.fields(),
                 &mut written,
+                &mut offset,
             )
-        })?;
+        };
+        refused_at(number, message.body.kind(), offset)?;
         Ok(written)
     }
 }

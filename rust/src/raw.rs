@@ -12,7 +12,7 @@ pub type OnInstance = unsafe extern "C" fn(
     out_len: usize,
     owner: usize,
     number: usize,
-    values: *mut [usize; 3],
+    values: *mut [usize; 4],
 ) -> u32;
 
 extern "C" {
@@ -45,7 +45,7 @@ extern "C" {
         op: usize,
         key: u32,
         edit: u64,
-        values: *mut [usize; 3],
+        values: *mut [usize; 4],
     ) -> u32;
 
     pub fn pumxaqert_message(
@@ -58,7 +58,7 @@ extern "C" {
         out_len: usize,
         bytes: *const u8,
         bytes_len: usize,
-        values: *mut [usize; 3],
+        values: *mut [usize; 4],
     ) -> u32;
 
     pub fn pumxaqert_recover(
@@ -71,7 +71,7 @@ extern "C" {
         out_len: usize,
         owner: usize,
         number: usize,
-        values: *mut [usize; 3],
+        values: *mut [usize; 4],
     ) -> u32;
 
     pub fn pumxaqert_nudge(
@@ -84,7 +84,7 @@ extern "C" {
         out_len: usize,
         owner: usize,
         number: usize,
-        values: *mut [usize; 3],
+        values: *mut [usize; 4],
     ) -> u32;
 
     pub fn pumxaqert_settled(
@@ -116,6 +116,7 @@ extern "C" {
         bytes: *const u8,
         bytes_len: usize,
         fields: *mut [u64; 18],
+        offset: *mut usize,
     ) -> u32;
 
     pub fn pumxaqert_write_message(
@@ -126,5 +127,6 @@ extern "C" {
         out_len: usize,
         fields: *const [u64; 18],
         written: *mut usize,
+        offset: *mut usize,
     ) -> u32;
 }

@@ -98,7 +98,7 @@ fn all_refusals() {
     let mut out = [0; ROOM];
     assert_eq!(Setup { n: 4, ..s }.blank(&mut table), Err(Refusal::Setup));
     assert_eq!(s.request(&mut table, &mut out[..255], EDIT), Err(Refusal::Room));
-    assert_eq!(s.message(&mut table, &mut out, &[]), Err(Refusal::Message));
+    assert_eq!(s.message(&mut table, &mut out, &[]), Err(Refusal::UnknownKind));
     let no_op = Command { op: Op::NoOp, key: 0, edit: 0 };
     assert_eq!(s.request(&mut table, &mut out, no_op), Err(Refusal::Op));
     assert_eq!(
@@ -120,8 +120,112 @@ fn all_refusals() {
     assert_eq!(s.recover(&mut table, &mut out, two), Err(Refusal::BallotsUsedUp));
     table[at] = 7;
     assert_eq!(s.judge(&table), Err(Refusal::Unsound));
-    assert!(Refusal::ALL.iter().all(|&r| Refusal::from_number(r.number()) == Some(r)));
-    assert_eq!((Refusal::from_number(0), Refusal::from_number(12)), (None, None));
+}
+
+/// Numbers and back; no call tells 0, 3, 12 or 36, or blames a byte at which no field begins.
+#[test]
+fn refusal_numbers() {
+    let told: Vec<Refusal> = (0..40).filter_map(|number| Refusal::told(number, 0, 0)).collect();
+    let numbers: Vec<u32> = told.iter().map(|r| r.number()).collect();
+    assert_eq!(numbers, [1, 2, 4, 5, 6, 7, 8, 9, 10, 11, 31, 32, 33, 34]);
+    assert!(told.iter().all(|r| r.offset() == 0));
+    assert_eq!(Refusal::told(35, 4, 10), None);
+    let wrong = Refusal::told(35, 7, 34).unwrap();
+    assert_eq!(wrong, Refusal::WrongField { offset: 34, field: Field::Dependency(3) });
+    assert_eq!((wrong.number(), wrong.offset()), (35, 34));
+    assert_eq!(wrong.to_string(), "35: a field out of range, dependency 3 at byte 34");
+    assert_eq!(Refusal::WrongWay.to_string(), "33: a message to another copy, or from this one");
+}
+
+/// Every byte of every kind: the field that begins there, or none.
+#[test]
+fn fields_by_their_offsets() {
+    let command = "op key . . . edit . . . . . . .";
+    let deps: String = (0..7).map(|q| format!(" dependency{q} .")).collect();
+    for kind in 0..=255 {
+        let body = match kind {
+            1 | 3 | 5 => format!("{command}{deps}"),
+            2 => deps.clone(),
+            4 | 6 => String::new(),
+            7 => format!("voted . . . status {command}{deps}"),
+            8 => "joined . . .".into(),
+            _ => {
+                assert!((0..64).all(|offset| Field::at(kind, offset).is_none()));
+                continue;
+            }
+        };
+        let wanted = format!(". from to owner number . ballot . . . {body}");
+        let begins = |offset| match Field::at(kind, offset) {
+            Some(field) => field.to_string().replace(' ', ""),
+            None => ".".into(),
+        };
+        let length = wanted.split_whitespace().count();
+        let got: Vec<String> = (0..length).map(begins).collect();
+        assert_eq!(got.join(" "), wanted.split_whitespace().collect::<Vec<_>>().join(" "));
+        assert!((length..64).all(|offset| Field::at(kind, offset).is_none()));
+    }
+}
+
+/// The bytes of the W2 answer, with this byte changed, at copy 0: what reader and event both answer.
+fn changed(at: usize, byte: u8) -> Refusal {
+    let s = setup(0);
+    let mut bytes = [0; ROOM];
+    let length = s.write_message(&mut bytes, &ok(1, [0; 3])).unwrap();
+    bytes[at] = byte;
+    let read = s.read_message(&bytes[..length]).unwrap_err();
+    let (mut table, mut out) = (blank(s), [0xa5; ROOM]);
+    let before = table.clone();
+    assert_eq!(s.message(&mut table, &mut out, &bytes[..length]), Err(read));
+    assert!(table == before && out == [0xa5; ROOM]);
+    read
+}
+
+#[test]
+fn reasons_of_the_reader() {
+    assert_eq!(changed(0, 9), Refusal::UnknownKind);
+    assert_eq!(changed(0, 1), Refusal::WrongLength);
+    assert_eq!(changed(2, 1), Refusal::WrongWay);
+    assert_eq!(changed(1, 0), Refusal::WrongWay);
+    assert_eq!(changed(3, 1), Refusal::WrongLead);
+    let fields = [
+        (1, 3, Field::From),
+        (2, 3, Field::To),
+        (3, 3, Field::Owner),
+        (4, 5, Field::Number),
+        (6, 7, Field::Ballot),
+        (10, 5, Field::Dependency(0)),
+        (22, 1, Field::Dependency(6)),
+    ];
+    for (offset, byte, field) in fields {
+        assert_eq!(changed(offset, byte), Refusal::WrongField { offset, field });
+    }
+}
+
+/// The writer answers what the copy named in `to` would.
+#[test]
+fn reasons_of_the_writer() {
+    let s = setup(2);
+    let mut out = [0; ROOM];
+    let mut refused = |m: Message| s.write_message(&mut out, &m).unwrap_err();
+    let good = commit(1, 0, [0; 3]);
+    let wrong = |offset, field| Refusal::WrongField { offset, field };
+    assert_eq!(refused(Message { to: 3, ..good }), wrong(2, Field::To));
+    assert_eq!(refused(Message { from: 0, ..good }), Refusal::WrongWay);
+    assert_eq!(refused(Message { owner: 1, ..ok(1, [0; 3]) }), Refusal::WrongLead);
+    let command = Command { op: Op::NoOp, ..EDIT };
+    let no_op = |command| Body::Commit { command, deps: deps([0; 3]) };
+    assert_eq!(refused(Message { body: no_op(command), ..good }), wrong(11, Field::Key));
+    let command = Command { key: 0, ..command };
+    assert_eq!(refused(Message { body: no_op(command), ..good }), wrong(15, Field::Edit));
+    let vote = |voted, status, command| {
+        let body = Body::PrepareOk { voted, status, command, deps: deps([0; 3]) };
+        Message { ballot: 8, body, ..good }
+    };
+    assert_eq!(refused(vote(8, 1, EDIT)), wrong(10, Field::Voted));
+    assert_eq!(refused(vote(0, 4, EDIT)), wrong(14, Field::Status));
+    assert_eq!(refused(vote(0, 0, EDIT)), wrong(15, Field::Op));
+    let nack = Message { ballot: 8, body: Body::Nack { joined: 8 }, ..good };
+    assert_eq!(refused(nack), wrong(10, Field::Joined));
 }
 
 /// Every kind as numbers and back, the numbers in the header's places.

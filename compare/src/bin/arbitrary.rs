@@ -3,11 +3,12 @@
 //! the second program's, with all memory outside the promise as it was.
 
 use compare::both::{second_side, Answer, Call, Lent, LIST, OUT};
-use compare::guarded::{c_call, Area, Areas, Input};
+use compare::guarded::{c_call, Area, Areas, Input, VALUES};
 use compare::random::Random;
-use compare::{fields, make, threads, UNTOUCHED, UNTOUCHED_CODE};
+use compare::{make, refusal_place, threads, REFUSALS, UNTOUCHED, UNTOUCHED_CODE};
 use pumxaqert::{Instance, Setup};
 use second::table::{HEAD_LEN, RECORD_LEN};
+use second::{fields, Refusal};
 use std::process::ExitCode;
 use std::time::Instant;
 
@@ -23,7 +24,8 @@ struct Tester {
     /// A sound table for `setup`, used for some inputs and then made anew.
     base: Vec<u8>,
     setup: Setup,
-    answers: [u64; 12],
+    answers: u64,
+    refusals: [u64; REFUSALS.len()],
 }
 
 fn main() -> ExitCode {
@@ -51,11 +53,16 @@ fn main() -> ExitCode {
 }
 
 fn report(count: u64, testers: &[Tester], begun: Instant) -> ExitCode {
-    let total = |at: usize| testers.iter().map(|tester| tester.answers[at]).sum::<u64>();
-    println!("{:>12}  answers", total(0));
-    (1..12).for_each(|number| println!("{:>12}  refusal {number}", total(number)));
+    let total = |of: &dyn Fn(&Tester) -> u64| testers.iter().map(of).sum::<u64>();
+    let answers = total(&|tester| tester.answers);
+    println!("{answers:>12}  answers");
+    let refusals: Vec<u64> =
+        (0..REFUSALS.len()).map(|at| total(&|tester| tester.refusals[at])).collect();
+    for (number, count) in REFUSALS.iter().zip(&refusals) {
+        println!("{count:>12}  refusal {number}");
+    }
     eprintln!("{:.1} seconds", begun.elapsed().as_secs_f64());
-    if (0..12).any(|number| total(number) == 0) {
+    if answers == 0 || refusals.contains(&0) {
         println!("an answer or a refusal was never given");
         return ExitCode::FAILURE;
     }
@@ -72,12 +79,13 @@ impl Tester {
                 out: Area::new(OUT, 0x5a),
                 list: Area::new(LIST, 0x5a5a),
                 bytes: Area::new(64, 0x5a),
-                values: Area::new(18, 0x5a5a),
+                values: Area::new(VALUES, 0x5a5a),
             },
             lent: Lent { out: [UNTOUCHED; OUT], list: [UNTOUCHED_CODE; LIST] },
             base: Vec::new(),
             setup: Setup { n: 0, s: 0, copy: 0 },
-            answers: [0; 12],
+            answers: 0,
+            refusals: [0; REFUSALS.len()],
         }
     }
 
@@ -110,8 +118,11 @@ impl Tester {
                  second:  {number} {values:?}\n  library: {got} {seen:?}"
             ));
         }
-        let refused = if matches!(input, Input::OnTable(Call::Part(..))) { 0 } else { number };
-        self.answers[refused as usize] += 1;
+        match number {
+            0 => self.answers += 1,
+            _ if matches!(input, Input::OnTable(Call::Part(..))) => self.answers += 1,
+            _ => self.refusals[refusal_place(number as u8)] += 1,
+        }
         Ok(())
     }
 
@@ -139,7 +150,7 @@ impl Tester {
         self.areas.out.set(&self.lent.out[..room], random.chance(50));
         self.areas.list.set(&self.lent.list[..places], random.chance(50));
         self.areas.bytes.set(bytes, random.chance(50));
-        self.areas.values.set(&[UNSET; 18][..values], false);
+        self.areas.values.set(&[UNSET; VALUES][..values], false);
     }
 
     /// The second program's number and values, as the C call would hand them back.
@@ -156,26 +167,26 @@ impl Tester {
         let call = match input {
             Input::Read => {
                 return match second::read_message(n, s, copy, bytes) {
-                    Ok(m) => (0, fields::fields(&m).to_vec()),
-                    Err(refusal) => (refusal as u64, vec![0; 18]),
+                    Ok(m) => (0, [&fields::fields(&m)[..], &[0]].concat()),
+                    Err(refusal) => refused(input, refusal),
                 }
             }
             Input::Write(f) => {
                 return match fields::write(n, s, copy, &mut self.lent.out[..room], &f) {
-                    Ok(written) => (0, vec![written as u64]),
-                    Err(refusal) => (refusal as u64, vec![0]),
+                    Ok(written) => (0, vec![written as u64, 0]),
+                    Err(refusal) => refused(input, refusal),
                 }
             }
             Input::Message => Call::Message(bytes),
             Input::OnTable(Call::HandOut(_)) => Call::HandOut(places),
             Input::OnTable(call) => call,
         };
-        let wide = |values: [usize; 3]| values.map(|value| value as u64).to_vec();
+        let wide = |values: [usize; 4]| values.map(|value| value as u64).to_vec();
         match second_side(setup, room, call, table, &mut self.lent) {
-            Answer::Refused(number) => (number as u64, vec![0; input.values()]),
+            Answer::Refused(refusal) => refused(input, refusal),
             Answer::Done => (0, vec![]),
             Answer::Part(at, length) => (at as u64, vec![length as u64]),
-            Answer::Event(o, j, written) => (0, wide([o, j, written])),
+            Answer::Event(o, j, written) => (0, wide([o, j, written, 0])),
             Answer::Settled(op, key, edit) => (0, vec![1, op, key, edit]),
             Answer::Waits(o, j) => (0, vec![0, o as u64, j as u64, 0]),
             Answer::Codes(codes) => (0, vec![codes as u64]),
@@ -219,12 +230,16 @@ impl Tester {
         }
         let values = areas.values.contents();
         let is_part = matches!(input, Input::OnTable(Call::Part(..)));
-        if !is_part && got > 11 {
+        if !is_part && got != 0 && !REFUSALS.iter().any(|&number| number as u64 == got) {
             return Err("a number that is not the paper's".into());
         }
         let refused = !is_part && got != 0;
-        if refused && values.iter().any(|&value| value != 0) {
+        let told = input.values() - input.has_offset() as usize;
+        if refused && values[..told].iter().any(|&value| value != 0) {
             return Err("a refusal with values".into());
+        }
+        if values[told..].iter().any(|&offset| (offset != 0) != (got == 35)) {
+            return Err("an offset without a wrong field, or the other way round".into());
         }
         let (written, codes) = match input {
             _ if refused => (0, 0),
@@ -275,6 +290,15 @@ impl Tester {
         }
         Ok(())
     }
+}
+
+/// A refusal's number and values: all 0, but for the offset.
+fn refused(input: Input, refusal: Refusal) -> (u64, Vec<u64>) {
+    let mut values = vec![0; input.values()];
+    if let Some(last) = values.last_mut().filter(|_| input.has_offset()) {
+        *last = refusal.offset as u64;
+    }
+    (refusal.number as u64, values)
 }
 
 /// Mostly the table's; now and then any numbers.

@@ -5,8 +5,9 @@ use compare::both::{library_side, second_side, Call, Lent, LIST, OUT};
 use compare::cases::{self, Case};
 use compare::measure::Rounds;
 use compare::stack::Stack;
-use compare::{fields, linear, make, shapes, sweeps, UNTOUCHED, UNTOUCHED_CODE};
+use compare::{linear, make, shapes, sweeps, UNTOUCHED, UNTOUCHED_CODE};
 use pumxaqert::{raw, Setup};
+use second::fields;
 use second::table::RECORD_LEN;
 use std::hint::black_box;
 use std::time::Duration;
@@ -195,11 +196,13 @@ fn message(rounds: &Rounds, m: &second::Message) -> [[f64; 4]; 2] {
     let numbers = fields::fields(m);
     let [c_out, numbers_out, struct_out, wrapper_out] = &mut outs;
     let (mut read, mut other, mut written) = ([0; 18], [0; 18], 0);
+    let (mut at_read, mut at_written) = (0, 0);
     // SAFETY: all areas are arrays, lent with their lengths.
     let times = rounds.medians(&mut [
         &mut || unsafe {
             let (at, length) = (black_box(bytes).as_ptr(), bytes.len());
-            keep(raw::pumxaqert_read_message(7, 64, 0, at, length, black_box(&mut read)));
+            let read = black_box(&mut read);
+            keep(raw::pumxaqert_read_message(7, 64, 0, at, length, read, &mut at_read));
         },
         &mut || {
             if let Ok(m) = second::read_message(7, 64, 0, black_box(bytes)) {
@@ -210,7 +213,8 @@ fn message(rounds: &Rounds, m: &second::Message) -> [[f64; 4]; 2] {
         &mut || keep(LARGEST.read_message(black_box(bytes))),
         &mut || unsafe {
             let (at, f) = (black_box(&mut *c_out).as_mut_ptr(), black_box(&numbers));
-            keep(raw::pumxaqert_write_message(7, 64, 0, at, 256, f, &mut written));
+            let (written, offset) = (&mut written, &mut at_written);
+            keep(raw::pumxaqert_write_message(7, 64, 0, at, 256, f, written, offset));
         },
         &mut || keep(fields::write(7, 64, 0, black_box(&mut *numbers_out), black_box(&numbers))),
         &mut || keep(second::write_message(7, 64, 0, black_box(&mut *struct_out), black_box(m))),

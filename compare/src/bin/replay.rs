@@ -56,7 +56,7 @@ impl Run {
 
     fn written(&self, answer: Answer) -> String {
         match answer {
-            Answer::Refused(number) => format!("refused {number}"),
+            Answer::Refused(refusal) => format!("refused {refusal}"),
             Answer::Event(o, j, written) => {
                 format!("event {o} {j} {}", to_hex(&self.both.ours.out[..written]))
             }

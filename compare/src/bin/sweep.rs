@@ -74,7 +74,8 @@ fn sweep_table(
             tables.theirs[at] = value;
             counts.tables += 1;
             let judged = second::judge_table(&tables.ours, setup.n, setup.s, setup.copy);
-            if judged.map_err(u32::from) != setup.judge(&tables.theirs).map_err(|r| r.number()) {
+            let theirs = setup.judge(&tables.theirs).map_err(|r| r.number());
+            if judged.map_err(|r| r.number as u32) != theirs {
                 return Err(format!("byte {at} of {setup:?} as {value}: second judges {judged:?}"));
             }
             counts.sound += judged.is_ok() as u64;

@@ -6,7 +6,8 @@
 mod planted;
 
 use planted::Planted;
-use second::{Event, Message, Settled};
+use second::fields::{self, Fields};
+use second::{Event, Refusal, Settled};
 use std::slice::{from_raw_parts, from_raw_parts_mut};
 
 /// NULL comes only with length 0, and is then an empty area.
@@ -26,17 +27,26 @@ unsafe fn lent_mut<'a, T>(at: *mut T, length: usize) -> &'a mut [T] {
     }
 }
 
-fn answered(answer: Result<Event, u8>, values: &mut [usize; 3]) -> u32 {
-    match answer {
-        Ok(Event { owner, number, written }) => {
-            *values = [owner, number, written];
-            0
-        }
-        Err(refusal) => {
-            *values = [0; 3];
-            refusal as u32
-        }
-    }
+/// The number of a refusal, 0 for none; where a wrong field begins is put in its place.
+fn number<T>(answer: &Result<T, Refusal>, offset: &mut usize) -> u32 {
+    let refusal = answer.as_ref().err().copied().unwrap_or(Refusal::of(0));
+    *offset = refusal.offset as usize;
+    refusal.number as u32
+}
+
+/// The same of a call that knows of no field.
+fn number_alone<T>(answer: &Result<T, Refusal>) -> u32 {
+    number(answer, &mut 0)
+}
+
+fn answered(answer: Result<Event, Refusal>, values: &mut [usize; 4]) -> u32 {
+    *values = match answer {
+        Ok(Event { owner, number, written }) => [owner, number, written, 0],
+        Err(_) => [0; 4],
+    };
+    let number = number(&answer, &mut values[3]);
+    values[3] = planted::offset(Planted::now(), values[3]);
+    number
 }
 
 #[no_mangle]
@@ -52,7 +62,7 @@ pub unsafe extern "C" fn pumxaqert_blank(
     s: usize,
     c: usize,
 ) -> u32 {
-    second::blank_table(lent_mut(table, table_len), n, s, c).err().unwrap_or(0) as u32
+    number_alone(&second::blank_table(lent_mut(table, table_len), n, s, c))
 }
 
 #[no_mangle]
@@ -65,7 +75,7 @@ pub unsafe extern "C" fn pumxaqert_judge(
 ) -> u32 {
     let t = lent(table, table_len);
     let seen = planted::before_judge(Planted::now(), t);
-    second::judge_table(seen.as_deref().unwrap_or(t), n, s, c).err().unwrap_or(0) as u32
+    number_alone(&second::judge_table(seen.as_deref().unwrap_or(t), n, s, c))
 }
 
 #[no_mangle]
@@ -96,7 +106,7 @@ pub unsafe extern "C" fn pumxaqert_request(
     op: usize,
     key: u32,
     edit: u64,
-    values: *mut [usize; 3],
+    values: *mut [usize; 4],
 ) -> u32 {
     let (t, out) = (lent_mut(table, table_len), lent_mut(out, out_len));
     let op = op.try_into().unwrap_or(u8::MAX);
@@ -114,7 +124,7 @@ pub unsafe extern "C" fn pumxaqert_message(
     out_len: usize,
     bytes: *const u8,
     bytes_len: usize,
-    values: *mut [usize; 3],
+    values: *mut [usize; 4],
 ) -> u32 {
     let (t, out) = (lent_mut(table, table_len), lent_mut(out, out_len));
     let setup = planted::Setup { n, s, copy: c };
@@ -132,7 +142,7 @@ pub unsafe extern "C" fn pumxaqert_recover(
     out_len: usize,
     owner: usize,
     number: usize,
-    values: *mut [usize; 3],
+    values: *mut [usize; 4],
 ) -> u32 {
     let (t, out) = (lent_mut(table, table_len), lent_mut(out, out_len));
     answered(second::recover(t, n, s, c, out, owner, number), &mut *values)
@@ -149,14 +159,14 @@ pub unsafe extern "C" fn pumxaqert_nudge(
     out_len: usize,
     owner: usize,
     number: usize,
-    values: *mut [usize; 3],
+    values: *mut [usize; 4],
 ) -> u32 {
     let (t, out) = (lent_mut(table, table_len), lent_mut(out, out_len));
     let answer = second::nudge(t, n, s, c, out, owner, number);
     planted::after_nudge(Planted::now(), &answer, out);
     let number = answered(answer, &mut *values);
     if number != 0 && Planted::now() == Planted::ValuesLeft {
-        *values = [owner, number as usize, 0];
+        *values = [owner, number as usize, 0, 0];
     }
     number
 }
@@ -172,16 +182,13 @@ pub unsafe extern "C" fn pumxaqert_settled(
     number: usize,
     values: *mut [u64; 4],
 ) -> u32 {
-    let values = &mut *values;
-    match second::settled(lent(table, table_len), n, s, c, owner, number) {
-        Ok(Settled::Command { op, key, edit }) => *values = [1, op as u64, key as u64, edit],
-        Ok(Settled::Waits { owner, number }) => *values = [0, owner as u64, number as u64, 0],
-        Err(refusal) => {
-            *values = [0; 4];
-            return refusal as u32;
-        }
-    }
-    0
+    let answer = second::settled(lent(table, table_len), n, s, c, owner, number);
+    *values = match answer {
+        Ok(Settled::Command { op, key, edit }) => [1, op as u64, key as u64, edit],
+        Ok(Settled::Waits { owner, number }) => [0, owner as u64, number as u64, 0],
+        Err(_) => [0; 4],
+    };
+    number_alone(&answer)
 }
 
 #[no_mangle]
@@ -202,7 +209,7 @@ pub unsafe extern "C" fn pumxaqert_hand_out(
     if Planted::now() == Planted::PastTheEnd && list_len > 0 {
         list.as_mut_ptr().add(list_len).write(0);
     }
-    answer.err().unwrap_or(0) as u32
+    number_alone(&answer)
 }
 
 #[no_mangle]
@@ -212,21 +219,13 @@ pub unsafe extern "C" fn pumxaqert_read_message(
     c: usize,
     bytes: *const u8,
     bytes_len: usize,
-    fields: *mut [u64; 18],
+    fields: *mut Fields,
+    offset: *mut usize,
 ) -> u32 {
-    let fields = &mut *fields;
-    *fields = [0; 18];
-    let m = match second::read_message(n, s, c, lent(bytes, bytes_len)) {
-        Ok(m) => m,
-        Err(refusal) => return refusal as u32,
-    };
-    let other = m.voted.max(m.joined) as u64;
-    let head = [m.kind, m.from, m.to, m.owner].map(u64::from);
-    fields[..4].copy_from_slice(&head);
-    fields[4..8].copy_from_slice(&[m.number as u64, m.ballot as u64, other, m.status as u64]);
-    fields[8..11].copy_from_slice(&[m.op as u64, m.key as u64, m.edit]);
-    fields[11..].copy_from_slice(&m.deps.map(u64::from));
-    0
+    let answer =
+        planted::read(Planted::now(), planted::Setup { n, s, copy: c }, lent(bytes, bytes_len));
+    *fields = answer.map_or([0; 18], |m| fields::fields(&m));
+    number(&answer, &mut *offset)
 }
 
 #[no_mangle]
@@ -236,35 +235,12 @@ pub unsafe extern "C" fn pumxaqert_write_message(
     c: usize,
     out: *mut u8,
     out_len: usize,
-    fields: *const [u64; 18],
+    fields: *const Fields,
     written: *mut usize,
+    offset: *mut usize,
 ) -> u32 {
-    // No receiver takes kind 0, and the refusals before 3 stay first.
-    let m = from_fields(&*fields).unwrap_or_default();
-    let answer = second::write_message(n, s, c, lent_mut(out, out_len), &m);
+    let setup = planted::Setup { n, s, copy: c };
+    let answer = planted::write(Planted::now(), setup, lent_mut(out, out_len), &*fields);
     *written = answer.unwrap_or(0);
-    answer.err().unwrap_or(0) as u32
-}
-
-fn from_fields(f: &[u64; 18]) -> Option<Message> {
-    let other: u32 = f[6].try_into().ok()?;
-    let mut deps = [0; 7];
-    for (entry, &number) in deps.iter_mut().zip(&f[11..]) {
-        *entry = number.try_into().ok()?;
-    }
-    Some(Message {
-        kind: f[0].try_into().ok()?,
-        from: f[1].try_into().ok()?,
-        to: f[2].try_into().ok()?,
-        owner: f[3].try_into().ok()?,
-        number: f[4].try_into().ok()?,
-        ballot: f[5].try_into().ok()?,
-        voted: if f[0] == 8 { 0 } else { other },
-        joined: if f[0] == 8 { other } else { 0 },
-        status: f[7].try_into().ok()?,
-        op: f[8].try_into().ok()?,
-        key: f[9].try_into().ok()?,
-        edit: f[10],
-        deps,
-    })
+    number(&answer, &mut *offset)
 }

@@ -1,7 +1,9 @@
 //! Differences that can be planted: the paper's "errors that look reasonable", and slips in each kind of lent memory.
 
+use second::fields::{self, Fields};
+use second::message::decode;
 use second::table::{Record, Vote, RECORD_LEN};
-use second::{read_message, record_part, Event, Message};
+use second::{read_message, record_part, refusal, Event, Message, Refusal};
 use std::sync::OnceLock;
 
 #[derive(Clone, Copy, PartialEq, Eq)]
@@ -29,11 +31,19 @@ pub enum Planted {
     PastTheEnd,
     /// The judge does not look at a record's last byte.
     LastByteUnjudged,
+    /// An event's offset of a wrong field is the next byte's.
+    OffsetOffByOne,
+    /// The reader asks who a message is for before it asks for ranges.
+    WayBeforeRanges,
+    /// The reader blames the earlier of two fields: the voted ballot that status 0 has none of.
+    EarlierBlamed,
+    /// The writer blames all dependencies for one.
+    EntriesAsOne,
 }
 
 use Planted::*;
 
-const ALL: [Planted; 12] = [
+const ALL: [Planted; 16] = [
     Nothing,
     JoinedAsVoted,
     WorkedOutAnew,
@@ -46,6 +56,10 @@ const ALL: [Planted; 12] = [
     ValuesLeft,
     PastTheEnd,
     LastByteUnjudged,
+    OffsetOffByOne,
+    WayBeforeRanges,
+    EarlierBlamed,
+    EntriesAsOne,
 ];
 
 impl Planted {
@@ -55,6 +69,45 @@ impl Planted {
             let number = std::env::var("PUMXAQERT_PLANTED").unwrap_or("0".into());
             ALL[number.parse::<usize>().expect("the number of a planted difference")]
         })
+    }
+}
+
+/// The reader, with what is planted in it.
+pub fn read(planted: Planted, setup: Setup, bytes: &[u8]) -> Result<Message, Refusal> {
+    let Setup { n, s, copy } = setup;
+    let answer = read_message(n, s, copy, bytes);
+    let (Err(refusal), Ok(m)) = (answer, decode(bytes)) else { return answer };
+    let wrong_way = m.to as usize != copy || m.from as usize == copy;
+    match planted {
+        WayBeforeRanges if refusal.number == 35 && wrong_way => Err(refusal::WRONG_WAY),
+        EarlierBlamed if refusal == Refusal::wrong_field(14) && m.status == 0 => {
+            Err(Refusal::wrong_field(10))
+        }
+        _ => answer,
+    }
+}
+
+/// The writer, with what is planted in it.
+pub fn write(planted: Planted, setup: Setup, out: &mut [u8], f: &Fields) -> Result<usize, Refusal> {
+    let Setup { n, s, copy } = setup;
+    let answer = fields::write(n, s, copy, out, f);
+    let first = match f[0] {
+        1 | 3 | 5 => 23,
+        2 => 10,
+        7 => 28,
+        _ => return answer,
+    };
+    match (planted, answer) {
+        (EntriesAsOne, Err(r)) if r.offset >= first => Err(Refusal::wrong_field(first as usize)),
+        _ => answer,
+    }
+}
+
+/// The offset that an event tells.
+pub fn offset(planted: Planted, offset: usize) -> usize {
+    match planted {
+        OffsetOffByOne if offset > 0 => offset + 1,
+        _ => offset,
     }
 }
 
@@ -72,7 +125,7 @@ pub fn message(
     t: &mut [u8],
     out: &mut [u8],
     bytes: &[u8],
-) -> Result<Event, u8> {
+) -> Result<Event, Refusal> {
     let Setup { n, s, copy } = setup;
     let found = match planted {
         JoinedAsVoted | WorkedOutAnew | AgreeAmongThemselves | OwnerAmongReplies
@@ -181,7 +234,7 @@ fn take_matching(f: usize, m: &mut Message, record: &mut Record) {
 
 fn changed_after(
     planted: Planted,
-    answer: &Result<Event, u8>,
+    answer: &Result<Event, Refusal>,
     t: &mut [u8],
     out: &mut [u8],
     m: &Message,
@@ -197,12 +250,12 @@ fn changed_after(
             }
         }
         (MarkForgotten, Ok(_)) if m.kind == 5 => t[at + 36] = 0,
-        (RefusedButStored, Err(10)) => t[at + 14] ^= 1,
+        (RefusedButStored, Err(refusal::OTHER_COMMIT)) => t[at + 14] ^= 1,
         _ => {}
     }
 }
 
-pub fn after_nudge(planted: Planted, answer: &Result<Event, u8>, out: &mut [u8]) {
+pub fn after_nudge(planted: Planted, answer: &Result<Event, Refusal>, out: &mut [u8]) {
     if let (RoomTouched, Ok(event)) = (planted, answer) {
         if let Some(byte) = out.get_mut(event.written) {
             *byte = 0;
