@@ -13,6 +13,7 @@ pub mod measure;
 pub mod places;
 pub mod probe;
 pub mod random;
+pub mod reasons;
 pub mod shapes;
 pub mod stack;
 pub mod sweeps;

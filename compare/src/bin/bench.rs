@@ -155,34 +155,105 @@ fn sizes(rounds: &Rounds, full: bool) {
     }
 }
 
+const NAMES: [&str; 8] =
+    ["PreAccept", "PreAcceptOK", "Accept", "AcceptOK", "Commit", "Prepare", "PrepareOK", "Nack"];
+
+/// A valid message to copy 0.
+fn message_of(kind: u8) -> second::Message {
+    let (from, owner, ballot) = match kind {
+        6 => (2, 1, 10),
+        7 => (1, 1, 8),
+        _ => (1, (kind % 2) as usize, 0),
+    };
+    cases::message(kind, from, owner, 64, ballot)
+}
+
 fn messages(rounds: &Rounds) {
-    const NAMES: [&str; 8] = [
-        "PreAccept",
-        "PreAcceptOK",
-        "Accept",
-        "AcceptOK",
-        "Commit",
-        "Prepare",
-        "PrepareOK",
-        "Nack",
-    ];
     println!("\n## Messages, N = 7, S = 64: the C calls, and the second program to and from the same numbers\n");
     let heads = "library | second | ratio (at most 1) | second, its own struct | wrapper";
     println!("| kind | read: {heads} | write: {heads} |");
     println!("|---|{}", "---|".repeat(10));
     for (kind, name) in (1u8..).zip(NAMES) {
-        let (from, owner, ballot) = match kind {
-            6 => (2, 1, 10),
-            7 => (1, 1, 8),
-            _ => (1, (kind % 2) as usize, 0),
-        };
-        let [read, write] = message(rounds, &cases::message(kind, from, owner, 64, ballot));
+        let [read, write] = message(rounds, &message_of(kind));
         let cells = |[library, second, own, wrapper]: [f64; 4]| {
             let ratio = library / second;
             format!("{library:.1} ns | {second:.1} ns | {ratio:.2} | {own:.1} ns | {wrapper:.1} ns")
         };
         println!("| {name} | {} | {} |", cells(read), cells(write));
     }
+    refusing(rounds);
+}
+
+/// Each refusal's time beside that of the message accepted.
+fn refusing(rounds: &Rounds) {
+    println!("\n## Refusing a message, N = 7, S = 64: the C call's time by that of accepting (at most 1.5), and the second program's\n");
+    let reasons = "31 | 32 | 35, first field | 33 | 34 | 35, last field";
+    println!("| kind | accepted: library | second | {reasons} |");
+    println!("|---|{}", "---|".repeat(8));
+    for (kind, name) in (1u8..).zip(NAMES) {
+        let messages = refused(kind);
+        let [library, second] = reading(rounds, &messages);
+        print!("| {name} | {:.1} ns | {:.1} ns |", library[0], second[0]);
+        for (at, message) in messages.iter().enumerate().skip(1) {
+            match message.is_empty() {
+                true => print!(" |"),
+                false => {
+                    print!(" {:.2} ({:.2}) |", library[at] / library[0], second[at] / second[0])
+                }
+            }
+        }
+        println!();
+    }
+}
+
+/// A valid message, and with one thing changed: its kind, its length, its sender to none, its receiver, its lead (empty
+/// where the kind asks for none), its last field.
+fn refused(kind: u8) -> [Vec<u8>; 7] {
+    let mut bytes = [0; 42];
+    let length = second::message::encode(&message_of(kind), &mut bytes);
+    let whole = bytes[..length].to_vec();
+    let with = |at: usize, byte: u8| {
+        let mut changed = whole.clone();
+        changed[at] = byte;
+        changed
+    };
+    let last = match kind {
+        4 | 6 => with(6, 7),
+        8 => with(10, 7),
+        _ => with(length - 2, 65),
+    };
+    let led_by_5 = if kind == 5 { Vec::new() } else { with(6, 29) };
+    let longer = [&whole[..], &[0]].concat();
+    [whole.clone(), with(0, 9), longer, with(1, 7), with(2, 3), led_by_5, last]
+}
+
+/// The C call and the second program to the same numbers, for each of the messages.
+fn reading(rounds: &Rounds, messages: &[Vec<u8>; 7]) -> [Vec<f64>; 2] {
+    let library = |bytes: &[u8]| {
+        let (mut f, mut offset) = ([0; 18], 0);
+        let (at, length) = (black_box(bytes).as_ptr(), bytes.len());
+        // SAFETY: all areas are lent with their lengths.
+        unsafe {
+            let f = black_box(&mut f);
+            keep(raw::pumxaqert_read_message(7, 64, 0, at, length, f, &mut offset));
+        }
+        keep(offset);
+    };
+    let second = |bytes: &[u8]| {
+        let mut f = [0; 18];
+        let answer = second::read_message(7, 64, 0, black_box(bytes));
+        if let Ok(m) = &answer {
+            fields::put(m, black_box(&mut f));
+        }
+        keep((answer.err(), f));
+    };
+    let mut theirs: Vec<_> = messages.iter().map(|bytes| move || library(bytes)).collect();
+    let mut ours: Vec<_> = messages.iter().map(|bytes| move || second(bytes)).collect();
+    let mut all: Vec<&mut dyn FnMut()> = Vec::new();
+    all.extend(theirs.iter_mut().map(|f| f as &mut dyn FnMut()));
+    all.extend(ours.iter_mut().map(|f| f as &mut dyn FnMut()));
+    let times = rounds.medians(&mut all);
+    [times[..7].to_vec(), times[7..].to_vec()]
 }
 
 /// Reading and writing: the C call, the second program with numbers and with its struct, and the wrapper, which makes

@@ -1,9 +1,10 @@
 //! sweep COUNT [SEED]: so many sound tables, and as many valid messages of each kind; each byte of them takes all 256
-//! values in turn, and each length is tried. Judge, reader and an event must answer as the second program does.
+//! values in turn, and each length is tried. Judge, reader, writer and an event must answer as the second program does.
+//! Before that the messages that are chosen for each copy of N = 3, 5, 7 and S = 1, 64.
 
 use compare::both::{Both, Call, Pair};
 use compare::random::Random;
-use compare::{make, threads};
+use compare::{make, reasons, threads};
 use pumxaqert::{Setup, ROOM};
 use second::table::{HEAD_LEN, RECORD_LEN};
 use std::process::ExitCode;
@@ -13,8 +14,7 @@ use std::time::Instant;
 struct Counts {
     tables: u64,
     sound: u64,
-    messages: u64,
-    valid: u64,
+    messages: reasons::Counts,
 }
 
 fn main() -> ExitCode {
@@ -25,17 +25,20 @@ fn main() -> ExitCode {
     };
     let seed = words.get(1).copied().unwrap_or(1);
     let begun = Instant::now();
-    let job = |counts: &mut Counts, i: u64| {
-        let seed = seed.wrapping_add(i);
-        one(&mut Random(seed), counts).map_err(|wrong| format!("seed {seed}: {wrong}"))
+    let chosen = setups();
+    let job = |counts: &mut Counts, i: u64| match chosen.get(i as usize) {
+        Some(setup) => reasons::all(*setup, &mut counts.messages)
+            .map_err(|wrong| format!("input {i}: {wrong}")),
+        None => {
+            let seed = seed.wrapping_add(i - chosen.len() as u64);
+            one(&mut Random(seed), counts).map_err(|wrong| format!("seed {seed}: {wrong}"))
+        }
     };
-    match threads::over_all(count, Counts::default, job) {
+    match threads::over_all(chosen.len() as u64 + count, Counts::default, job) {
         Ok(all) => {
-            let sum = |of: fn(&Counts) -> u64| all.iter().map(of).sum::<u64>();
-            println!("{:>12}  tables, {} of them sound", sum(|c| c.tables), sum(|c| c.sound));
-            println!("{:>12}  messages, {} of them valid", sum(|c| c.messages), sum(|c| c.valid));
+            report(&all);
             eprintln!("{:.1} seconds", begun.elapsed().as_secs_f64());
-            println!("{count} sweeps: no difference");
+            println!("{} copies and {count} sweeps: no difference", chosen.len());
             ExitCode::SUCCESS
         }
         Err(wrong) => {
@@ -43,6 +46,21 @@ fn main() -> ExitCode {
             ExitCode::FAILURE
         }
     }
+}
+
+fn setups() -> Vec<Setup> {
+    let sizes = [3, 5, 7].into_iter().flat_map(|n| [(n, 1), (n, 64)]);
+    sizes.flat_map(|(n, s)| (0..n).map(move |copy| Setup { n, s, copy })).collect()
+}
+
+fn report(all: &[Counts]) {
+    let sum = |of: fn(&Counts) -> u64| all.iter().map(of).sum::<u64>();
+    println!("{:>12}  tables, {} of them sound", sum(|c| c.tables), sum(|c| c.sound));
+    println!("{:>12}  messages that break a clause, or two", sum(|c| c.messages.broken));
+    let [read, valid] = [sum(|c| c.messages.read), sum(|c| c.messages.valid)];
+    println!("{read:>12}  messages read, {valid} of them valid");
+    let [written, taken] = [sum(|c| c.messages.written), sum(|c| c.messages.taken)];
+    println!("{written:>12}  messages written, {taken} of them valid");
 }
 
 fn one(random: &mut Random, counts: &mut Counts) -> Result<(), String> {
@@ -54,7 +72,7 @@ fn one(random: &mut Random, counts: &mut Counts) -> Result<(), String> {
     sweep_table(&mut both, setup, &table, counts)?;
     for kind in 1..=8 {
         let (bytes, length) = valid(random, setup, &table, kind);
-        sweep_message(&mut both, setup, &bytes[..length], counts)?;
+        reasons::every_byte(&mut both, setup, &bytes[..length], &mut counts.messages)?;
     }
     Ok(())
 }
@@ -100,26 +118,4 @@ fn valid(random: &mut Random, setup: Setup, table: &[u8], kind: u8) -> ([u8; 42]
             return (bytes, length);
         }
     }
-}
-
-fn sweep_message(
-    both: &mut Both,
-    setup: Setup,
-    bytes: &[u8],
-    counts: &mut Counts,
-) -> Result<(), String> {
-    let mut read = |bytes: &[u8]| {
-        counts.messages += 1;
-        both.read(setup, bytes).map(|read| counts.valid += read.is_ok() as u64)
-    };
-    let mut changed = bytes.to_vec();
-    for at in 0..bytes.len() {
-        for value in 0..=255 {
-            changed[at] = value;
-            read(&changed)?;
-        }
-        changed[at] = bytes[at];
-    }
-    changed.resize(64, 0);
-    (0..=64).try_for_each(|length| read(&changed[..length]))
 }

@@ -80,7 +80,7 @@ pub fn read(planted: Planted, setup: Setup, bytes: &[u8]) -> Result<Message, Ref
     let wrong_way = m.to as usize != copy || m.from as usize == copy;
     match planted {
         WayBeforeRanges if refusal.number == 35 && wrong_way => Err(refusal::WRONG_WAY),
-        EarlierBlamed if refusal == Refusal::wrong_field(14) && m.status == 0 => {
+        EarlierBlamed if m.kind == 7 && m.status == 0 && refusal.offset == 14 => {
             Err(Refusal::wrong_field(10))
         }
         _ => answer,
