@@ -1,4 +1,6 @@
 //! The eight kinds of message: reader, writer, and the first reason not to take one.
+//!
+//! The steps of judging are inlined into both: between calls a message would go through memory.
 
 use crate::bytes::{part, part_mut, u16_at, u32_at};
 use crate::refusal::{Refusal, ROOM as NO_ROOM, UNKNOWN_KIND, WRONG_LEAD, WRONG_LENGTH, WRONG_WAY};
@@ -70,6 +72,7 @@ fn known(kind: u8) -> bool {
 }
 
 /// The fields as they stand; only kind and length are judged.
+#[inline(always)]
 pub fn decode(bytes: &[u8]) -> Result<Message, Refusal> {
     let kind = *bytes.first().ok_or(UNKNOWN_KIND)?;
     ask(known(kind), UNKNOWN_KIND)?;
@@ -134,7 +137,7 @@ fn ask(holds: bool, otherwise: Refusal) -> Result<(), Refusal> {
 
 /// The first reason for the copy `receiver` not to take the message; none is what "valid" means. Kind and length are
 /// known to be good.
-#[inline]
+#[inline(always)]
 fn judge(setup: &Setup, receiver: usize, m: &Message) -> Result<(), Refusal> {
     let (from, to) = (m.from as usize, m.to as usize);
     judge_head(setup, m)?;
@@ -150,7 +153,7 @@ fn judge(setup: &Setup, receiver: usize, m: &Message) -> Result<(), Refusal> {
 }
 
 /// The ranges of what every kind begins with. A ballot that the kind cannot have counts as out of range.
-#[inline]
+#[inline(always)]
 fn judge_head(setup: &Setup, m: &Message) -> Result<(), Refusal> {
     let asked_for = matches!(m.kind, PREPARE | PREPARE_OK);
     ask((m.from as usize) < setup.n, Refusal::wrong_field(FROM))?;
@@ -160,7 +163,7 @@ fn judge_head(setup: &Setup, m: &Message) -> Result<(), Refusal> {
     ask(setup.is_ballot(m.ballot) && (m.ballot != 0 || !asked_for), Refusal::wrong_field(BALLOT))
 }
 
-#[inline]
+#[inline(always)]
 fn judge_body(setup: &Setup, m: &Message) -> Result<(), Refusal> {
     match m.kind {
         PRE_ACCEPT | ACCEPT | COMMIT => {
@@ -177,7 +180,7 @@ fn judge_body(setup: &Setup, m: &Message) -> Result<(), Refusal> {
 
 /// With status 0 there is nothing else; whatever stands there all the same is to blame, since it comes later, but for
 /// the voted ballot, which comes before the status.
-#[inline]
+#[inline(always)]
 fn judge_vote(setup: &Setup, m: &Message) -> Result<(), Refusal> {
     let nothing = m.status == NONE;
     ask(setup.is_ballot(m.voted) && m.voted < m.ballot, Refusal::wrong_field(BODY))?;
@@ -188,7 +191,7 @@ fn judge_vote(setup: &Setup, m: &Message) -> Result<(), Refusal> {
 }
 
 /// The command at this offset, and whether it may be a no-op or anything else. A no-op has nothing after its op.
-#[inline]
+#[inline(always)]
 fn judge_command(m: &Message, at: usize, no_op: bool, other: bool) -> Result<(), Refusal> {
     let is_no_op = m.op == NO_OP;
     ask(m.op <= WRITE && if is_no_op { no_op } else { other }, Refusal::wrong_field(at))?;
@@ -197,7 +200,7 @@ fn judge_command(m: &Message, at: usize, no_op: bool, other: bool) -> Result<(),
 }
 
 /// Which entry is too high is asked only where one is.
-#[inline]
+#[inline(always)]
 fn judge_deps(m: &Message, at: usize, highest: &Deps) -> Result<(), Refusal> {
     if within(&m.deps, highest) {
         return Ok(());

@@ -26,8 +26,7 @@ impl Setup {
         if !good_sizes(n, s) || copy >= n {
             return Err(refusal::SETUP);
         }
-        let mut highest = [0; MAX_COPIES];
-        highest[..n].fill(s as u16);
+        let highest = core::array::from_fn(|q| if q < n { s as u16 } else { 0 });
         Ok(Setup { n, s, copy, highest })
     }
 
