@@ -23,21 +23,31 @@ pub(crate) const OFFSETS: [[u8; 18]; 9] = {
     ]
 };
 
+const BYTE: u64 = u8::MAX as u64;
+const ENTRY: u64 = u16::MAX as u64;
+const WORD: u64 = u32::MAX as u64;
+
 /// The largest number that each place can hold; an op is one of three.
-const MOST: Fields = {
-    const BYTE: u64 = u8::MAX as u64;
-    const ENTRY: u64 = u16::MAX as u64;
-    const WORD: u64 = u32::MAX as u64;
-    let head = [BYTE, BYTE, BYTE, BYTE, ENTRY, WORD];
-    let mut most = [ENTRY; 18];
-    let mut at = 0;
-    while at < head.len() {
-        most[at] = head[at];
-        at += 1;
-    }
-    (most[6], most[7], most[8], most[9], most[10]) = (WORD, BYTE, 2, WORD, u64::MAX);
-    most
-};
+const MOST: Fields = [
+    BYTE,
+    BYTE,
+    BYTE,
+    BYTE,
+    ENTRY,
+    WORD,
+    WORD,
+    BYTE,
+    2,
+    WORD,
+    u64::MAX,
+    ENTRY,
+    ENTRY,
+    ENTRY,
+    ENTRY,
+    ENTRY,
+    ENTRY,
+    ENTRY,
+];
 
 pub fn fields(m: &Message) -> Fields {
     let mut f = [0; 18];
