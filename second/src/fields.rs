@@ -23,31 +23,15 @@ pub(crate) const OFFSETS: [[u8; 18]; 9] = {
     ]
 };
 
-const BYTE: u64 = u8::MAX as u64;
-const ENTRY: u64 = u16::MAX as u64;
-const WORD: u64 = u32::MAX as u64;
-
 /// The largest number that each place can hold; an op is one of three.
-const MOST: Fields = [
-    BYTE,
-    BYTE,
-    BYTE,
-    BYTE,
-    ENTRY,
-    WORD,
-    WORD,
-    BYTE,
-    2,
-    WORD,
-    u64::MAX,
-    ENTRY,
-    ENTRY,
-    ENTRY,
-    ENTRY,
-    ENTRY,
-    ENTRY,
-    ENTRY,
-];
+const MOST: Fields = {
+    let (byte, two, four) = (u8::MAX as u64, u16::MAX as u64, u32::MAX as u64);
+    let mut most = [two; 18];
+    (most[0], most[1], most[2], most[3]) = (byte, byte, byte, byte);
+    (most[5], most[6], most[7]) = (four, four, byte);
+    (most[8], most[9], most[10]) = (2, four, u64::MAX);
+    most
+};
 
 pub fn fields(m: &Message) -> Fields {
     let mut f = [0; 18];
