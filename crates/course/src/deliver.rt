@@ -10,45 +10,56 @@ use scene::Scene;
 use scene::copies::is_down;
 use scene::way::Found;
 use scene::way::Parcel;
+use scene::way::damage;
 use scene::way::find;
+use scene::way::message_at;
 use scene::way::number_at;
 use scene::way::parcel_at;
+use scene::way::shorten;
 use scene::way::take_off;
-use scene::way::to_of;
+use scene::way::to_at;
 use script::Event;
 use script::Fate;
 use script::Reason;
+use text::bytes::byte_at;
 use text::bytes::front;
 use text::put::finish;
 
-// The message reaches its copy, if that is up.
-fn arrive(all: &mut [u8], w: Scene, number: usize, b: &[u8]) -> Turn {
-    let to = to_of(b);
-    if is_down(w, to) {
-        say(b"  message # is lost: copy # is down", number, to, 0);
+// The message reaches copy c, if that is up.
+fn arrive(all: &mut [u8], w: Scene, c: usize, number: usize, b: &[u8]) -> Turn {
+    if is_down(w, c) {
+        say(b"  message # is lost: copy # is down", number, c, 0);
         return went(w);
     }
-    let at = begin(b"  message # arrives at #: ", number, to, 0);
-    finish(put_message(at, w.n, w.s, to, b));
-    event(all, w, to, Event::Message, b)
+    let at = begin(b"  message # arrives at #: ", number, c, 0);
+    finish(put_message(at, w.n, w.s, c, b));
+    event(all, w, c, Event::Message, b)
 }
 
-fn unpack(all: &mut [u8], w: Scene, m: Parcel) -> Turn {
+fn unpack(all: &mut [u8], w: Scene, c: usize, m: Parcel) -> Turn {
     let bytes = m.bytes;
-    arrive(all, w, m.number, front(&bytes, m.length))
+    arrive(all, w, c, m.number, front(&bytes, m.length))
 }
 
-// The message at a place of the way is taken off, and reaches its copy.
-fn deliver_at(all: &mut [u8], w: Scene, i: usize) -> Turn {
+// The message at a place of the way is taken off, and reaches copy c, whoever it was for.
+fn stray_at(all: &mut [u8], w: Scene, i: usize, c: usize) -> Turn {
+    if w.n <= c {
+        return halted(w, Reason::NoCopy);
+    }
     let m = parcel_at(&*all, i);
     let next = take_off(&mut *all, w, i);
-    unpack(all, next, m)
+    unpack(all, next, c, m)
+}
+
+fn deliver_at(all: &mut [u8], w: Scene, i: usize) -> Turn {
+    let to = to_at(&*all, i);
+    stray_at(all, w, i, to)
 }
 
 // The message stays on the way, to arrive once more.
 fn repeat_at(all: &mut [u8], w: Scene, i: usize) -> Turn {
     let m = parcel_at(&*all, i);
-    unpack(all, w, m)
+    unpack(all, w, m.to, m)
 }
 
 fn drop_at(all: &mut [u8], w: Scene, i: usize) -> Turn {
@@ -56,11 +67,44 @@ fn drop_at(all: &mut [u8], w: Scene, i: usize) -> Turn {
     went(take_off(all, w, i))
 }
 
+fn damage_at(all: &mut [u8], w: Scene, i: usize, at: usize, byte: usize) -> Turn {
+    let m = message_at(&*all, i);
+    if m.len() <= at {
+        return halted(w, Reason::NoByte);
+    }
+    say(
+        b"  message # is damaged: byte # was #",
+        number_at(&*all, i),
+        at,
+        byte_at(m, at),
+    );
+    damage(all, i, at, byte);
+    went(w)
+}
+
+fn shorten_at(all: &mut [u8], w: Scene, i: usize, length: usize) -> Turn {
+    let had = message_at(&*all, i).len();
+    if had < length {
+        return halted(w, Reason::NoByte);
+    }
+    say(
+        b"  message # is cut short: it had # bytes",
+        number_at(&*all, i),
+        had,
+        0,
+    );
+    shorten(all, i, length);
+    went(w)
+}
+
 fn meet(all: &mut [u8], w: Scene, i: usize, fate: Fate) -> Turn {
     match fate {
         Fate::Deliver => deliver_at(all, w, i),
+        Fate::Stray(c) => stray_at(all, w, i, c),
         Fate::Drop => drop_at(all, w, i),
         Fate::Repeat => repeat_at(all, w, i),
+        Fate::Damage { at, byte } => damage_at(all, w, i, at, byte),
+        Fate::Shorten(length) => shorten_at(all, w, i, length),
     }
 }
 

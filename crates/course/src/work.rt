@@ -16,7 +16,6 @@ use scene::tables::is_changed;
 use scene::tables::save;
 use scene::tables::table_in;
 use scene::tables::table_mut;
-use scene::way::from_of;
 use scene::way::is_full;
 use scene::way::put_on;
 use scene::way::to_of;
@@ -43,16 +42,16 @@ fn save_record(all: &mut [u8], w: Scene, c: usize, o: usize, j: usize) {
     say_saved(&*all, w, c, o, j);
 }
 
-// One message leaves: it is on the way from now on.
-fn send_one(all: &mut [u8], w: Scene, b: &[u8]) -> Scene {
+// One message leaves copy c: it is on the way from now on.
+fn send_one(all: &mut [u8], w: Scene, c: usize, b: &[u8]) -> Scene {
     let to = to_of(b);
-    let at = begin(b"  message # leaves # for #: ", w.sent, from_of(b), to);
+    let at = begin(b"  message # leaves # for #: ", w.sent, c, to);
     finish(put_message(at, w.n, w.s, to, b));
-    put_on(all, w, b)
+    put_on(all, w, c, to, b)
 }
 
 // Whole messages stand one after the other in the first bytes of the room.
-fn send_all(all: &mut [u8], w: Scene, room: &[u8], written: usize) -> Turn {
+fn send_all(all: &mut [u8], w: Scene, c: usize, room: &[u8], written: usize) -> Turn {
     let mut now = w;
     let mut at = 0;
     while at < written {
@@ -70,7 +69,7 @@ fn send_all(all: &mut [u8], w: Scene, room: &[u8], written: usize) -> Turn {
             return halted(now, Reason::WayFull);
         }
         let end = at + length;
-        now = send_one(&mut *all, now, &room[at..end]);
+        now = send_one(&mut *all, now, c, &room[at..end]);
         at = end;
     }
     went(now)
@@ -95,7 +94,7 @@ fn save_and_send(
         say(b"  copy # is cut off before it sends", c, 0, 0);
         return went(stopped(w, c));
     }
-    send_all(all, w, room, written)
+    send_all(all, w, c, room, written)
 }
 
 fn answered(all: &mut [u8], w: Scene, c: usize, answer: Answer, room: &[u8]) -> Turn {

@@ -10,17 +10,20 @@ fn name_at(why: Reason) -> usize {
         Reason::Copies => 1,
         Reason::Copy => 2,
         Reason::Way => 3,
-        Reason::Cut => 4,
-        Reason::Restart => 5,
-        Reason::Show => 6,
-        Reason::NoRun => 7,
-        Reason::Setup => 8,
-        Reason::NoCopy => 9,
-        Reason::IsDown => 10,
-        Reason::IsUp => 11,
-        Reason::NoMessage => 12,
-        Reason::WayFull => 13,
-        Reason::Restless => 14,
+        Reason::Damage => 4,
+        Reason::Cut => 5,
+        Reason::Restart => 6,
+        Reason::Show => 7,
+        Reason::NoRun => 8,
+        Reason::Setup => 9,
+        Reason::NoCopy => 10,
+        Reason::IsDown => 11,
+        Reason::IsUp => 12,
+        Reason::NoMessage => 13,
+        Reason::NoByte => 14,
+        Reason::ByteValue => 15,
+        Reason::WayFull => 16,
+        Reason::Restless => 17,
     }
 }
 
@@ -28,11 +31,12 @@ fn name_at(why: Reason) -> usize {
 pub fn put_reason(out: Text, why: Reason) -> Text {
     put_text(
         out,
-        b"a line begins with copies, copy, deliver, drop, repeat, cut, stop, restart, show or #\
+        b"a line begins with copies, copy, deliver, drop, repeat, damage, shorten, cut, stop, restart, show or #\
             |say: copies 3, numbers 4\
             |say: copy 0 requests write key 7 edit 100, requests read key 7, recovers 0.1, nudges 0.1, \
             is asked about 0.1, hands out, or hands out up to 2\
-            |say: deliver 0 to 1, deliver all, drop 0 to 1, or repeat 0 to 1\
+            |say: deliver 0 to 1, deliver 0 to 1 at 2, deliver all, drop 0 to 1, or repeat 0 to 1\
+            |say: damage 0 to 1 byte 15 as 9, or shorten 0 to 1 to 6 bytes\
             |say: cut copy 0 before saving, before sending, or after 1 mark\
             |say: stop copy 0, or restart copy 0\
             |say: show, or show copy 0\
@@ -42,6 +46,8 @@ pub fn put_reason(out: Text, why: Reason) -> Text {
             |the copy is down: restart it first\
             |the copy is up\
             |no message is on the way between the two\
+            |the message has fewer bytes\
+            |a byte is 0 to 255\
             |more than 512 messages are on the way\
             |the copies do not come to rest",
         name_at(why),

@@ -8,10 +8,10 @@ use scene::Scene;
 use scene::copies::is_down;
 use scene::tables::saved;
 use scene::tables::table_in;
-use scene::way::from_of;
+use scene::way::from_at;
 use scene::way::message_at;
 use scene::way::number_at;
-use scene::way::to_of;
+use scene::way::to_at;
 use table::HEAD;
 use table::record_part;
 use text::put::finish;
@@ -81,15 +81,14 @@ fn show_copies(all: &[u8], w: Scene) {
 }
 
 fn show_message(all: &[u8], w: Scene, i: usize) {
-    let m = message_at(all, i);
-    let to = to_of(m);
+    let to = to_at(all, i);
     let at = begin(
         b"  message # is on the way from # to #: ",
         number_at(all, i),
-        from_of(m),
+        from_at(all, i),
         to,
     );
-    finish(put_message(at, w.n, w.s, to, m));
+    finish(put_message(at, w.n, w.s, to, message_at(all, i)));
 }
 
 fn show_way(all: &[u8], w: Scene) {

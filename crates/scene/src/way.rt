@@ -1,4 +1,5 @@
-// The messages on the way, oldest first, each in a place of its own: the length, the message's number, its bytes.
+// The messages on the way, oldest first, each in a place of its own: the length, the message's number, the copy that it
+// left and the copy that it goes to, its bytes. Bytes may be damaged on the way; where the message goes does not change.
 use crate::Scene;
 use nouns::logic::both;
 use nouns::logic::equal;
@@ -16,7 +17,7 @@ const MOST: usize = 512;
 // A place; no message is longer.
 const PLACE: usize = 64;
 
-const FRONT: usize = 3;
+const FRONT: usize = 5;
 
 // All places.
 pub const WAY: usize = MOST * PLACE;
@@ -26,9 +27,10 @@ pub enum Found {
     Nothing,
 }
 
-// A message in its bytes, and the number by which the run knows it.
+// A message in its bytes, the number by which the run knows it, and the copy that it goes to.
 pub struct Parcel {
     pub number: usize,
+    pub to: usize,
     pub length: usize,
     pub bytes: [u8; PLACE],
 }
@@ -40,10 +42,6 @@ fn place(i: usize) -> usize
 }
 
 // A message's bytes begin with its kind, the copy that it is from and the copy that it is for.
-pub fn from_of(b: &[u8]) -> usize {
-    byte_at(b, 1)
-}
-
 pub fn to_of(b: &[u8]) -> usize {
     byte_at(b, 2)
 }
@@ -54,9 +52,23 @@ pub fn message_at(all: &[u8], i: usize) -> &[u8] {
     part(all, at + FRONT, byte_at(all, at))
 }
 
+fn message_mut(all: &mut [u8], i: usize) -> &mut [u8] {
+    let at = place(i);
+    let length = byte_at(&*all, at);
+    part_mut(all, at + FRONT, length)
+}
+
 pub fn number_at(all: &[u8], i: usize) -> usize {
     let at = place(i);
     byte_at(all, at + 1) + 256 * byte_at(all, at + 2)
+}
+
+pub fn from_at(all: &[u8], i: usize) -> usize {
+    byte_at(all, place(i) + 3)
+}
+
+pub fn to_at(all: &[u8], i: usize) -> usize {
+    byte_at(all, place(i) + 4)
 }
 
 // The message at a place, held outside the way.
@@ -66,9 +78,14 @@ pub fn parcel_at(all: &[u8], i: usize) -> Parcel {
     write(&mut bytes, 0, m);
     Parcel {
         number: number_at(all, i),
+        to: to_at(all, i),
         length: m.len(),
         bytes,
     }
+}
+
+fn is_between(all: &[u8], i: usize, from: usize, to: usize) -> bool {
+    both(equal(from_at(all, i), from), equal(to_at(all, i), to))
 }
 
 // The oldest message on the way from one copy to another.
@@ -76,8 +93,7 @@ pub fn find(all: &[u8], w: Scene, from: usize, to: usize) -> Found {
     let waiting = w.waiting;
     let mut i = 0;
     while i < waiting {
-        let m = message_at(all, i);
-        if both(equal(from_of(m), from), equal(to_of(m), to)) {
+        if is_between(all, i, from, to) {
             return Found::At(i);
         }
         i += 1;
@@ -97,13 +113,20 @@ fn one_less(x: usize) -> usize {
     if 0 < x { x - 1 } else { 0 }
 }
 
-// One more message is on the way, if there is a place for it.
-pub fn put_on(all: &mut [u8], w: Scene, b: &[u8]) -> Scene {
+// One more message is on the way from one copy to another, if there is a place for it.
+pub fn put_on(all: &mut [u8], w: Scene, from: usize, to: usize, b: &[u8]) -> Scene {
     if is_full(w) {
         return w;
     }
     let at = place(w.waiting);
-    let front = [low8(b.len()), low8(w.sent), low8(w.sent / 256)];
+    let number = w.sent;
+    let front = [
+        low8(b.len()),
+        low8(number),
+        low8(number / 256),
+        low8(from),
+        low8(to),
+    ];
     write(&mut *all, at, &front);
     write(part_mut(all, at + FRONT, PLACE - FRONT), 0, b);
     let mut next = w;
@@ -131,4 +154,16 @@ pub fn take_off(all: &mut [u8], w: Scene, i: usize) -> Scene {
     let mut next = w;
     next.waiting = one_less(w.waiting);
     next
+}
+
+// One byte of the message at a place is another from now on.
+pub fn damage(all: &mut [u8], i: usize, at: usize, byte: usize) {
+    let new = [low8(byte)];
+    write(message_mut(all, i), at, &new);
+}
+
+// Only the first bytes of the message at a place are left.
+pub fn shorten(all: &mut [u8], i: usize, length: usize) {
+    let new = [low8(length)];
+    write(all, place(i), &new);
 }

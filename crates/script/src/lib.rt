@@ -2,6 +2,9 @@
 //     copies 3, numbers 4                       begins a run of three blank copies with four numbers each
 //     copy 0 requests write key 7 edit 100      or: requests read key 7
 //     deliver 0 to 1 · drop 0 to 1 · repeat 0 to 1      the oldest message on the way from 0 to 1
+//     deliver 0 to 1 at 2                       it goes astray: it arrives at copy 2
+//     damage 0 to 1 byte 15 as 9                it stays on the way; its byte 15, counted from 0, is 9 from now on
+//     shorten 0 to 1 to 6 bytes                 it stays on the way; only its first 6 bytes are left
 //     deliver all                               until nothing is on the way
 //     cut copy 0 before saving                  its next step, that is; or: before sending, after 1 mark
 //     stop copy 0 · restart copy 0
@@ -29,8 +32,11 @@ pub enum Act {
 // What becomes of a message.
 pub enum Fate {
     Deliver,
+    Stray(usize),
     Drop,
     Repeat,
+    Damage { at: usize, byte: usize },
+    Shorten(usize),
 }
 
 // When a copy is cut off: at once, or in its next step.
@@ -47,6 +53,7 @@ pub enum Reason {
     Copies,
     Copy,
     Way,
+    Damage,
     Cut,
     Restart,
     Show,
@@ -56,6 +63,8 @@ pub enum Reason {
     IsDown,
     IsUp,
     NoMessage,
+    NoByte,
+    ByteValue,
     WayFull,
     Restless,
 }

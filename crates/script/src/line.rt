@@ -53,6 +53,25 @@ fn way(from: usize, to: usize, fate: Fate) -> Step {
     Step::Way { from, to, fate }
 }
 
+fn damage(from: usize, to: usize, at: usize, byte: usize) -> Step {
+    if 255 < byte {
+        return Step::Bad(Reason::ByteValue);
+    }
+    way(from, to, Fate::Damage { at, byte })
+}
+
+// What becomes of the oldest message between two copies, by the place of the form below.
+fn between(form: usize, from: usize, to: usize, a: usize, b: usize) -> Step {
+    match form {
+        8 => way(from, to, Fate::Deliver),
+        9 => way(from, to, Fate::Stray(a)),
+        10 => way(from, to, Fate::Drop),
+        11 => way(from, to, Fate::Repeat),
+        12 => damage(from, to, a, b),
+        _ => way(from, to, Fate::Shorten(a)),
+    }
+}
+
 // A copy is told to do something, by the place of the form below.
 fn at_copy(form: usize, c: usize, a: usize, b: usize) -> Step {
     match form {
@@ -71,21 +90,19 @@ fn cut(c: usize, when: Moment) -> Step {
 }
 
 // A step by the place of its form below.
-fn step(line: &[u8], form: usize, a: usize, b: usize, c: usize) -> Step {
+fn step(line: &[u8], form: usize, a: usize, b: usize, c: usize, d: usize) -> Step {
     match form {
         0 | 1 | 2 | 3 | 4 | 5 | 6 => at_copy(form, a, b, c),
         7 => Step::All,
-        8 => way(a, b, Fate::Deliver),
-        9 => way(a, b, Fate::Drop),
-        10 => way(a, b, Fate::Repeat),
-        11 => cut(a, Moment::Saving),
-        12 => cut(a, Moment::Sending),
-        13 | 14 => cut(a, Moment::Marks(b)),
-        15 => cut(a, Moment::Now),
-        16 => Step::Restart(a),
-        17 => Step::Show,
-        18 => Step::ShowCopy(a),
-        19 => Step::Copies { n: a, s: b },
+        8 | 9 | 10 | 11 | 12 | 13 | 14 => between(form, a, b, c, d),
+        15 => cut(a, Moment::Saving),
+        16 => cut(a, Moment::Sending),
+        17 | 18 => cut(a, Moment::Marks(b)),
+        19 => cut(a, Moment::Now),
+        20 => Step::Restart(a),
+        21 => Step::Show,
+        22 => Step::ShowCopy(a),
+        23 => Step::Copies { n: a, s: b },
         _ => Step::Bad(reason_of(line)),
     }
 }
@@ -94,16 +111,17 @@ fn step(line: &[u8], form: usize, a: usize, b: usize, c: usize) -> Step {
 fn reason_of(line: &[u8]) -> Reason {
     let got = which_form(
         line,
-        b"copies*|copy*|deliver*|drop*|repeat*|cut*|stop*|restart*|show*",
+        b"copies*|copy*|deliver*|drop*|repeat*|damage*|shorten*|cut*|stop*|restart*|show*",
     );
     let form = got.form;
     match form {
         0 => Reason::Copies,
         1 => Reason::Copy,
         2 | 3 | 4 => Reason::Way,
-        5 => Reason::Cut,
-        6 | 7 => Reason::Restart,
-        8 => Reason::Show,
+        5 | 6 => Reason::Damage,
+        7 => Reason::Cut,
+        8 | 9 => Reason::Restart,
+        10 => Reason::Show,
         _ => Reason::Word,
     }
 }
@@ -130,8 +148,12 @@ pub fn step_of(line: &[u8]) -> Step {
             |copy # hands out up to #\
             |deliver all\
             |deliver # to #\
+            |deliver # to # at #\
             |drop # to #\
             |repeat # to #\
+            |damage # to # byte # as #\
+            |shorten # to # to # bytes\
+            |shorten # to # to # byte\
             |cut copy # before saving\
             |cut copy # before sending\
             |cut copy # after # marks\
@@ -142,5 +164,6 @@ pub fn step_of(line: &[u8]) -> Step {
             |show copy #\
             |copies #, numbers #",
     );
-    step(line, got.form, got.v[0], got.v[1], got.v[2])
+    let v = got.v;
+    step(line, got.form, v[0], v[1], v[2], v[3])
 }

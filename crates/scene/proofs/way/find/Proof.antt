@@ -12,23 +12,8 @@ abbrev μ-loop : tie.MeasureT-loop
 loop-holds : tie.Need-loop-holds Inv-loop μ-loop
 loop-holds c = search needs
 
-message-at-requires : tie.Need-message-at-requires Inv-loop μ-loop
-message-at-requires c κs = search needs
-
-from-of-requires : tie.Need-from-of-requires Inv-loop μ-loop
-from-of-requires c κs = search needs
-
-equal-requires : tie.Need-equal-requires Inv-loop μ-loop
-equal-requires c κs = search needs
-
-to-of-requires : tie.Need-to-of-requires Inv-loop μ-loop
-to-of-requires c κs = search needs
-
-equal-requires-2 : tie.Need-equal-requires-2 Inv-loop μ-loop
-equal-requires-2 c κs = search needs
-
-both-requires : tie.Need-both-requires Inv-loop μ-loop
-both-requires c κs = search needs
+is-between-requires : tie.Need-is-between-requires Inv-loop μ-loop
+is-between-requires c κs = search needs
 
 returns : tie.Need-returns Inv-loop μ-loop
 returns c = search needs
@@ -52,12 +37,7 @@ find-spec =
     Inv-loop
     μ-loop
     loop-holds
-    message-at-requires
-    from-of-requires
-    equal-requires
-    to-of-requires
-    equal-requires-2
-    both-requires
+    is-between-requires
     returns
     add-i
     loop-less
