@@ -6,10 +6,10 @@ use Rattle.course.proofs.work.send_all.Statement.{statement}
 use Rattle.course.proofs.work.send_all.Tie as tie
 
 abbrev Inv-loop : tie.InvT-loop
-Inv-loop all₀ room written now₀ at₀ all now at = length all ≡ length all₀
+Inv-loop all₀ c room written now₀ at₀ all now at = length all ≡ length all₀
 
 abbrev μ-loop : tie.MeasureT-loop
-μ-loop all₀ room written now₀ at₀ all now at = written - at
+μ-loop all₀ c room written now₀ at₀ all now at = written - at
 
 loop-holds : tie.Need-loop-holds Inv-loop μ-loop
 loop-holds c = search needs
