@@ -25,30 +25,27 @@ use text::bytes::byte_at;
 use text::bytes::front;
 use text::put::finish;
 
-// The message reaches copy c, if that is up.
-fn arrive(all: &mut [u8], w: Scene, c: usize, number: usize, b: &[u8]) -> Turn {
+// The message reaches copy c, if that is up. What it is, the copy that it was sent to can tell.
+fn arrive(all: &mut [u8], w: Scene, c: usize, m: Parcel) -> Turn {
     if is_down(w, c) {
-        say(b"  message # is lost: copy # is down", number, c, 0);
+        say(b"  message # is lost: copy # is down", m.number, c, 0);
         return went(w);
     }
-    let at = begin(b"  message # arrives at #: ", number, c, 0);
-    finish(put_message(at, w.n, w.s, c, b));
+    let bytes = m.bytes;
+    let b = front(&bytes, m.length);
+    let at = begin(b"  message # arrives at #: ", m.number, c, 0);
+    finish(put_message(at, w.n, w.s, m.to, b));
     event(all, w, c, Event::Message, b)
 }
 
-fn unpack(all: &mut [u8], w: Scene, c: usize, m: Parcel) -> Turn {
-    let bytes = m.bytes;
-    arrive(all, w, c, m.number, front(&bytes, m.length))
-}
-
-// The message at a place of the way is taken off, and reaches copy c, whoever it was for.
+// The message at a place of the way is taken off, and reaches copy c, whoever it was sent to.
 fn stray_at(all: &mut [u8], w: Scene, i: usize, c: usize) -> Turn {
     if w.n <= c {
         return halted(w, Reason::NoCopy);
     }
     let m = parcel_at(&*all, i);
     let next = take_off(&mut *all, w, i);
-    unpack(all, next, c, m)
+    arrive(all, next, c, m)
 }
 
 fn deliver_at(all: &mut [u8], w: Scene, i: usize) -> Turn {
@@ -59,7 +56,7 @@ fn deliver_at(all: &mut [u8], w: Scene, i: usize) -> Turn {
 // The message stays on the way, to arrive once more.
 fn repeat_at(all: &mut [u8], w: Scene, i: usize) -> Turn {
     let m = parcel_at(&*all, i);
-    unpack(all, w, m.to, m)
+    arrive(all, w, m.to, m)
 }
 
 fn drop_at(all: &mut [u8], w: Scene, i: usize) -> Turn {
@@ -88,10 +85,10 @@ fn shorten_at(all: &mut [u8], w: Scene, i: usize, length: usize) -> Turn {
         return halted(w, Reason::NoByte);
     }
     say(
-        b"  message # is cut short: it had # bytes",
+        b"  message # keeps # of # bytes",
         number_at(&*all, i),
+        length,
         had,
-        0,
     );
     shorten(all, i, length);
     went(w)

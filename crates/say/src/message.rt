@@ -13,6 +13,7 @@ use paper::Vote;
 use text::put::Text;
 use text::put::put_bytes;
 use text::put::put_form;
+use text::put::put_hex;
 use text::put::put_text;
 use wire::Reading;
 
@@ -63,12 +64,12 @@ fn put_fields(out: Text, n: usize, m: Message) -> Text {
     put_body(put_form(name, b" #.# ballot #", v), n, body, deps)
 }
 
-// The message in these bytes, as copy c reads it.
+// The message in these bytes, as copy c reads it; the bytes where it cannot.
 pub fn put_message(out: Text, n: usize, s: usize, c: usize, b: &[u8]) -> Text {
     let got = wire::read_message(n, s, c, b);
     let answer = got.answer;
     match answer {
-        Reading::Refused(_) => put_bytes(out, b"not a message"),
+        Reading::Refused(_) => put_hex(put_bytes(out, b"invalid bytes"), b, b.len()),
         Reading::Valid => put_fields(out, n, got.message),
     }
 }
