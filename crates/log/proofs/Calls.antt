@@ -15,6 +15,8 @@ use Rattle.rules.specs.Received.{refused10}
 use Rattle.rules.specs.Events.{onMessage}
 use Rattle.wire.specs.Wire.{messageAt, validBytes}
 use Rattle.wire.specs.Calls as wire
+use Rattle.wire.specs.declared.Reading.the-variants as reading
+use Rattle.wire.proofs.Laws.{whyRead, read-is}
 use Rattle.seen.specs.Records.{recordsIn}
 use Rattle.numbers.specs.Num.{splice}
 use Rattle.rules.specs.declared.Step.{Step}
@@ -89,22 +91,22 @@ pub setup-of : (n s c : ℕ) (t : List ℕ) → fitsSetup n s c t ≡ true → s
 unfolding fitsSetup
 setup-of n s c t h = and-true (setupOk n s c) _ h .0
 
--- a received message: 3 exactly for bytes that are not valid, then 10. Past the gate the reader says nothing else
+-- a received message: refused with the reader's reason exactly for bytes that are not valid, then 10
 pub receive-open : (n s c : ℕ) (t out b : List ℕ) → setupOk n s c ≡ true
     → receiveOpen n s c t out b
-    ≡ cond (not (validBytes n s c b)) (refuse why.Message t out)
+    ≡ cond (not (validBytes n s c b)) (refuse (whyRead n s c b) t out)
     (cond (refused10 (recordIn s t (messageAt b .owner) (messageAt b .number)) (messageAt b)) (refuse why.OtherCommit t out)
     (acted s t out (messageAt b .owner) (messageAt b .number) (onMessage n s c (recordsIn s t) (messageAt b))))
-unfolding receiveOpen heard wire.readMessage
+unfolding receiveOpen heard
 receive-open n s c t out b p = go (validBytes n s c b) refl
   where
     go : (v : Bool) → validBytes n s c b ≡ v
         → receiveOpen n s c t out b
-        ≡ cond (not (validBytes n s c b)) (refuse why.Message t out)
+        ≡ cond (not (validBytes n s c b)) (refuse (whyRead n s c b) t out)
         (cond (refused10 (recordIn s t (messageAt b .owner) (messageAt b .number)) (messageAt b)) (refuse why.OtherCommit t out)
         (acted s t out (messageAt b .owner) (messageAt b .number) (onMessage n s c (recordsIn s t) (messageAt b))))
-    go true e = rw (p, e)
-    go false e = rw (p, e)
+    go true e = let x : wire.readMessage n s c b ≡ record { answer = reading.Valid; message = messageAt b } = read-is n s c b ∙ rw (p, e) in rw (x, e)
+    go false e = let x : wire.readMessage n s c b ≡ wire.unread (whyRead n s c b) = read-is n s c b ∙ rw (p, e) in rw (x, e)
 
 -- a setup has three copies or more
 pub three : (n s c : ℕ) (t : List ℕ) → fitsSetup n s c t ≡ true → 3 ≤ n

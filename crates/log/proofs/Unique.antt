@@ -6,7 +6,7 @@ use native.Mathlib.Omega.{arith}
 use Rattle.paper.proofs.Numbers.{numberOf-apart, numberOf-pos}
 use Rattle.log.specs.declared.Answer.{Answer}
 use Rattle.log.specs.declared.Answer.the-variants.{Event, Refused}
-use Rattle.log.specs.Events.{Outcome, answerNumber, answerOwner, answerInstance, answerWritten}
+use Rattle.log.specs.Events.{Outcome, answerNumber, answerOwner, answerInstance, answerWritten, answerOffset}
 use Rattle.log.proofs.Calls.{Met}
 
 -- each call's contract is `Met` of its outcome, a function of what came in
@@ -14,8 +14,8 @@ pub event-unique : (x : Outcome) (a b : Answer) (t u o p : List ℕ) → Met x a
 event-unique x a b t u o p f g = (f .0 ∙ sym (g .0), f .1 .0 ∙ sym (g .1 .0), f .1 .1 ∙ sym (g .1 .1))
 
 pub answer-apart : (a b : Answer) → answerNumber a ≡ answerNumber b → answerOwner a ≡ answerOwner b → answerInstance a ≡ answerInstance b
-    → answerWritten a ≡ answerWritten b → a ≡ b
-answer-apart (Event o j k) (Event p i l) e f g h = λ x. Event (f x) (g x) (h x)
-answer-apart (Event o j k) (Refused r) e f g h = absurd (omega (arith, numberOf-pos r))
-answer-apart (Refused r) (Event o j k) e f g h = absurd (omega (arith, numberOf-pos r))
-answer-apart (Refused r) (Refused t) e f g h = ap Refused (numberOf-apart r t e)
+    → answerWritten a ≡ answerWritten b → answerOffset a ≡ answerOffset b → a ≡ b
+answer-apart (Event o j k) (Event p i l) e f g h m = λ x. Event (f x) (g x) (h x)
+answer-apart (Event o j k) (Refused r) e f g h m = absurd (omega (arith, numberOf-pos r))
+answer-apart (Refused r) (Event o j k) e f g h m = absurd (omega (arith, numberOf-pos r))
+answer-apart (Refused r) (Refused t) e f g h m = ap Refused (numberOf-apart r t e m)

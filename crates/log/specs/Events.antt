@@ -9,7 +9,7 @@ use lib.ListN.{length}
 use Rattle.numbers.specs.Num.{splice}
 use Rattle.codec.specs.Parts.{opOf}
 use Rattle.paper.specs.Instance.{instanceOk}
-use Rattle.paper.specs.Refusal.{numberOf}
+use Rattle.paper.specs.Refusal.{numberOf, offsetIn}
 use Rattle.paper.specs.declared.Command.{Command}
 use Rattle.paper.specs.declared.Message.{Message}
 use Rattle.paper.specs.declared.Refusal.{Refusal}
@@ -134,6 +134,10 @@ answerInstance (Refused r) = 0
 abbrev pub answerWritten : Answer → ℕ
 answerWritten (Event o j k) = k
 answerWritten (Refused r) = 0
+
+abbrev pub answerOffset : Answer → ℕ
+answerOffset (Event o j k) = 0
+answerOffset (Refused r) = offsetIn r
 
 -- what a call past the gate rests on
 pub record Passed (n s c : ℕ) (t : List ℕ) (room : ℕ) : Type 0 where

@@ -5,7 +5,7 @@ use Prim.Native.Nat.{ℕ}
 use native.Mathlib.Omega.{arith}
 use lib.ListN.{getD}
 use Rattle.paper.proofs.Laws.{opNumber-apart}
-use Rattle.paper.proofs.Numbers.{numberOf-apart, numberOf-pos}
+use Rattle.paper.proofs.Numbers.{number-apart, numberOf-pos}
 use Rattle.order.specs.declared.Settling.{Settling}
 use Rattle.order.specs.declared.Settling.the-variants as settling
 use Rattle.order.specs.declared.Handing.{Handing}
@@ -23,25 +23,48 @@ pub hand-out-unique : (n s c : ℕ) (t list : List ℕ) (x y : Handing) (u v k l
     → (x ≡ y) × (u ≡ v) × (k ≡ l)
 hand-out-unique n s c t list x y u v k l p q = (p .0 ∙ sym (q .0), p .1 .0 ∙ sym (q .1 .0), p .1 .1 ∙ sym (q .1 .1))
 
--- number and values tell any two answers apart
-pub settling-apart : (a b : Settling) → settlingNumber a ≡ settlingNumber b → settlingValues a ≡ settlingValues b → a ≡ b
-settling-apart (settling.Settled k) (settling.Settled l) e v =
+-- number and values tell any two answers apart; neither call answers 35
+pub settling-apart : (a b : Settling) → settlingNumber a ≡ settlingNumber b → settlingValues a ≡ settlingValues b → (settlingNumber a ≡ 35 → ⊥) → a ≡ b
+settling-apart (settling.Settled k) (settling.Settled l) e v m =
     let op = opNumber-apart (k .op) (l .op) (value 1 v) in
     λ i. settling.Settled (record { op = op i; key = value 2 v i; edit = value 3 v i })
   where
     value : (i : ℕ) → settlingValues (settling.Settled k) ≡ settlingValues (settling.Settled l) → getD (settlingValues (settling.Settled k)) i 0 ≡ getD (settlingValues (settling.Settled l)) i 0
     value i v = ap (λ (x : List ℕ). getD x i 0) v
-settling-apart (settling.Settled k) (settling.Waits o j) e v = let z : _≡_ {A = ℕ} 1 0 = ap (λ (x : List ℕ). getD x 0 0) v in absurd (omega arith)
-settling-apart (settling.Waits o j) (settling.Settled k) e v = let z : _≡_ {A = ℕ} 0 1 = ap (λ (x : List ℕ). getD x 0 0) v in absurd (omega arith)
-settling-apart (settling.Waits o j) (settling.Waits p k) e v = ap₂ settling.Waits (ap (λ (x : List ℕ). getD x 1 0) v) (ap (λ (x : List ℕ). getD x 2 0) v)
-settling-apart (settling.Settled k) (settling.Refused r) e v = absurd (omega (arith, numberOf-pos r))
-settling-apart (settling.Waits o j) (settling.Refused r) e v = absurd (omega (arith, numberOf-pos r))
-settling-apart (settling.Refused r) (settling.Settled k) e v = absurd (omega (arith, numberOf-pos r))
-settling-apart (settling.Refused r) (settling.Waits o j) e v = absurd (omega (arith, numberOf-pos r))
-settling-apart (settling.Refused r) (settling.Refused t) e v = ap settling.Refused (numberOf-apart r t e)
+settling-apart (settling.Settled k) (settling.Waits o j) e v m = let z : _≡_ {A = ℕ} 1 0 = ap (λ (x : List ℕ). getD x 0 0) v in absurd (omega arith)
+settling-apart (settling.Waits o j) (settling.Settled k) e v m = let z : _≡_ {A = ℕ} 0 1 = ap (λ (x : List ℕ). getD x 0 0) v in absurd (omega arith)
+settling-apart (settling.Waits o j) (settling.Waits p k) e v m = ap₂ settling.Waits (ap (λ (x : List ℕ). getD x 1 0) v) (ap (λ (x : List ℕ). getD x 2 0) v)
+settling-apart (settling.Settled k) (settling.Refused r) e v m = absurd (omega (arith, numberOf-pos r))
+settling-apart (settling.Waits o j) (settling.Refused r) e v m = absurd (omega (arith, numberOf-pos r))
+settling-apart (settling.Refused r) (settling.Settled k) e v m = absurd (omega (arith, numberOf-pos r))
+settling-apart (settling.Refused r) (settling.Waits o j) e v m = absurd (omega (arith, numberOf-pos r))
+settling-apart (settling.Refused r) (settling.Refused t) e v m = ap settling.Refused (number-apart r t e m)
 
-pub handing-apart : (a b : Handing) → handingNumber a ≡ handingNumber b → handingCount a ≡ handingCount b → a ≡ b
-handing-apart (handing.Codes j) (handing.Codes k) e v = ap handing.Codes v
-handing-apart (handing.Codes j) (handing.Refused r) e v = absurd (omega (arith, numberOf-pos r))
-handing-apart (handing.Refused r) (handing.Codes k) e v = absurd (omega (arith, numberOf-pos r))
-handing-apart (handing.Refused r) (handing.Refused t) e v = ap handing.Refused (numberOf-apart r t e)
+pub handing-apart : (a b : Handing) → handingNumber a ≡ handingNumber b → handingCount a ≡ handingCount b → (handingNumber a ≡ 35 → ⊥) → a ≡ b
+handing-apart (handing.Codes j) (handing.Codes k) e v m = ap handing.Codes v
+handing-apart (handing.Codes j) (handing.Refused r) e v m = absurd (omega (arith, numberOf-pos r))
+handing-apart (handing.Refused r) (handing.Codes k) e v m = absurd (omega (arith, numberOf-pos r))
+handing-apart (handing.Refused r) (handing.Refused t) e v m = ap handing.Refused (number-apart r t e m)
+
+-- what the table's judge refuses is no 35
+through : (x : Judging) → (judgingNumber x ≡ 35 → ⊥) → (rest : Settling) → (settlingNumber rest ≡ 35 → ⊥) → settlingNumber (settledThrough x rest) ≡ 35 → ⊥
+through judging.Sound p rest q e = q e
+through (judging.Refused r) p rest q e = p e
+
+pub settled-plain : (n s c : ℕ) (t : List ℕ) (o j : ℕ) → settlingNumber (settled n s c t o j) ≡ 35 → ⊥
+unfolding settled settledOpen
+settled-plain n s c t o j = through (judged n s c t) (judged-plain n s c t) (settledOpen n s t o j) (open (instanceOk n s o j) (firstOpen n s (recordsIn s t) o j))
+  where
+    open : (b : Bool) (x : Found)
+        → settlingNumber (cond (not b) (settling.Refused Instance) (found x (settling.Settled (recordIn s t o j .vote .command)) settling.Waits)) ≡ 35 → ⊥
+    open false x e = omega arith
+    open true nowhere e = omega arith
+    open true (at p k) e = omega arith
+
+pub handed-plain : (n s c : ℕ) (t list : List ℕ) → handingNumber (handed n s c t list .answer) ≡ 35 → ⊥
+unfolding handed handedOpen
+handed-plain n s c t list = go (judged n s c t) (judged-plain n s c t)
+  where
+    go : (x : Judging) → (judgingNumber x ≡ 35 → ⊥) → handingNumber (handedThrough x t list (handedOpen n s t list) .answer) ≡ 35 → ⊥
+    go judging.Sound p e = omega arith
+    go (judging.Refused r) p e = p e

@@ -43,6 +43,27 @@ back OtherCommit = refl
 pub numberOf-apart : (a b : Refusal) → numberOf a ≡ numberOf b → offsetIn a ≡ offsetIn b → a ≡ b
 numberOf-apart a b e o = sym (back a) ∙ ap₂ refusalOf e o ∙ back b
 
+-- but for 35 the number is enough
+plain : (r : Refusal) → (numberOf r ≡ 35 → ⊥) → offsetIn r ≡ 0
+plain Setup n = refl
+plain Unsound n = refl
+plain Room n = refl
+plain UnknownKind n = refl
+plain WrongLength n = refl
+plain WrongWay n = refl
+plain WrongLead n = refl
+plain (WrongField k) n = absurd (n refl)
+plain Op n = refl
+plain Instance n = refl
+plain RecoverCommitted n = refl
+plain NudgeIdle n = refl
+plain BallotsUsedUp n = refl
+plain NoBlank n = refl
+plain OtherCommit n = refl
+
+pub number-apart : (a b : Refusal) → numberOf a ≡ numberOf b → (numberOf a ≡ 35 → ⊥) → a ≡ b
+number-apart a b e n = numberOf-apart a b e (plain a n ∙ sym (plain b (λ h. n (e ∙ h))))
+
 -- 3 is no refusal's number
 pub three-none : (r : Refusal) → numberOf r ≡ 3 → ⊥
 three-none Setup e = omega arith

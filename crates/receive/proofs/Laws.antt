@@ -33,7 +33,7 @@ use Rattle.wire.specs.Calls as calls
 use Rattle.wire.specs.declared.Received.{Received}
 use Rattle.wire.specs.declared.Reading.{Reading}
 use Rattle.wire.specs.declared.Reading.the-variants as reading
-use Rattle.wire.proofs.Laws.{framed-is}
+use Rattle.wire.proofs.Laws.{framed-is, whyRead, read-is}
 use Rattle.closed.proofs.Closed.{message-event}
 use Rattle.closed.proofs.Heard.{heard, valid-instance}
 use Rattle.closed.proofs.Sound.{sound-is}
@@ -141,14 +141,15 @@ module _ (n s c : ℕ) (t out : List ℕ) where
     unread r f = let g : calls.readMessage n s c b .answer ≡ reading.Refused r = ap (λ (z : Received). z .answer) (sym e) ∙ f in rw g
 
     pub read : x .answer ≡ reading.Valid → (validBytes n s c b ≡ true) × (x .message ≡ messageAt b)
-    unfolding calls.readMessage
     read f = go (validBytes n s c b) refl
       where
         go : (v : Bool) → validBytes n s c b ≡ v → (validBytes n s c b ≡ true) × (x .message ≡ messageAt b)
-        go true p = (p, ap (λ (z : Received). z .message) e ∙ rw (setup, p))
+        go true p =
+            let q : x ≡ record { answer = reading.Valid; message = messageAt b } = e ∙ read-is n s c b ∙ rw (setup, p) in
+            (p, ap (λ (z : Received). z .message) q)
         go false p =
-            let q : x .answer ≡ reading.Refused why.Message = ap (λ (z : Received). z .answer) e ∙ rw (setup, p) in
-            let g : reading.Valid ≡ reading.Refused why.Message = sym f ∙ q in
+            let q : x ≡ calls.unread (whyRead n s c b) = e ∙ read-is n s c b ∙ rw (setup, p) in
+            let g : reading.Valid ≡ reading.Refused (whyRead n s c b) = sym f ∙ ap (λ (z : Received). z .answer) q in
             let z : _≡_ {A = ℕ} 0 1 = cc in
             absurd (omega arith)
 
