@@ -162,7 +162,7 @@ module _ (n s c : ℕ) (t : List ℕ) (u : Records) (h : Holds n s c t u) (out :
       (taken ∙ ap (acted s t out (m .owner) (m .number)) same)
     where
       go : (w : Message) (b : Bool) → w ≡ m → b ≡ true → refused10 (recordIn s t (m .owner) (m .number)) m ≡ false
-          → cond (not b) (refuse why.Message t out)
+          → cond (not b) (refuse (whyRead n s c (messageBytes m)) t out)
           (cond (refused10 (recordIn s t (w .owner) (w .number)) w) (refuse why.OtherCommit t out) (acted s t out (w .owner) (w .number) (onMessage n s c (recordsIn s t) w)))
           ≡ acted s t out (m .owner) (m .number) (onMessage n s c (recordsIn s t) m)
       go w b ew eb e = rw (ew, eb, e)

@@ -27,7 +27,9 @@ use Rattle.rules.specs.Recover.{outOfBallots}
 use Rattle.rules.specs.Nudge.{nothingToNudge}
 use Rattle.rules.specs.Events.{requestNumber}
 use Rattle.rules.specs.Order.{found, firstOpen}
-use Rattle.wire.specs.Wire.{messageAt, validBytes, framed, opFits}
+use Rattle.paper.specs.Message.{partsOf}
+use Rattle.wire.specs.Wire.{kindAt, messageAt, validBytes, verdictAt, framed, opFits}
+use Rattle.wire.proofs.Laws.{whyRead, why-not-10}
 use Rattle.table.specs.Table.{recordIn, Kept}
 use Rattle.seen.specs.Records.{recordsIn}
 use Rattle.closed.proofs.Laws.{by-cond, tf}
@@ -110,7 +112,7 @@ module _ (n s : ℕ) (setup : Setup n s) where
       let r : Record = recordIn s t (messageAt b .owner) (messageAt b .number) in
       rw (gate-is n s c t out (receiveOpen n s c t out b) k, receive-open n s c t out b (setup-of n s c t (k .setup)))
       (or-else (ltb (length out) 256) why.Room t out _ refl
-      (or-else (not (validBytes n s c b)) why.Message t out _ refl (or-else (refused10 r (messageAt b)) why.OtherCommit t out _ refl (done t out _ _ _))))
+      (or-else (not (validBytes n s c b)) (whyRead n s c b) t out _ refl (or-else (refused10 r (messageAt b)) why.OtherCommit t out _ refl (done t out _ _ _))))
   open-fine c t out k (recover o j) =
       let r : Record = recordIn s t o j in
       rw (gate-is n s c t out (recoverOpen n s c t out o j) k)
@@ -164,7 +166,7 @@ module _ (n s : ℕ) (setup : Setup n s) where
       rw (← record-is x y t c (m .owner) (m .number) (valid-instance n s c m g)) (rules-proved.lasting n s setup .unrefused y₀ y st r c m (t .sent b i .among) g) in
       rw (gate-is n s c v out (receiveOpen n s c v out b) (t .copies c .kept l), receive-open n s c v out b (setup-of n s c v (t .copies c .kept l .setup)))
       (by-cond Agrees (ltb (length out) 256) (λ e. ten 2 refl)
-      (λ e. by-cond Agrees (not (validBytes n s c b)) (λ f. ten 3 refl)
+      (λ e. by-cond Agrees (not (validBytes n s c b)) (λ f. why-not-10 (partsOf (kindAt b)) (verdictAt n s c b))
       (λ f. by-cond Agrees (refused10 (recordIn s v (m .owner) (m .number)) m) (λ g. tf _ g (same (not-false _ f))) (λ g. ten 0 refl))))
 
   -- the table in memory is sound

@@ -28,6 +28,7 @@ use Rattle.rules.specs.Nudge.{nothingToNudge}
 use Rattle.rules.specs.Events.{put, requestNumber, onRequest, onMessage, onRecover, onNudge, messages}
 use Rattle.rules.proofs.Rests.{blank-above}
 use Rattle.wire.specs.Wire.{messageAt, validBytes, framed, opFits}
+use Rattle.wire.proofs.Laws.{whyRead}
 use Rattle.table.specs.Table.{recordIn, Kept}
 use Rattle.seen.specs.Records.{recordsIn}
 use Rattle.paper.specs.Fits.{CommandFits}
@@ -164,7 +165,7 @@ module _ (n s c : ℕ) (t out : List ℕ) (k : Kept n s c t) (copy : c < n) (y :
       let m : Message = messageAt b in
       let x : Step = onMessage n s c (recordsIn s t) m in
       let a = past _ why.Room t out _ _ (gate-is n s c t out (receiveOpen n s c t out b) k) h in
-      let d = past (not (validBytes n s c b)) why.Message t out (receiveOpen n s c t out b) _ (receive-open n s c t out b setup) (a .answered) in
+      let d = past (not (validBytes n s c b)) (whyRead n s c b) t out (receiveOpen n s c t out b) _ (receive-open n s c t out b setup) (a .answered) in
       let e = past (refused10 (recordIn s t (m .owner) (m .number)) m) why.OtherCommit t out _ (acted s t out (m .owner) (m .number) x) refl (d .answered) in
       let v : valid n s c m ≡ true = and-true (framed b && opFits b) _ (not-false _ (d .test)) .1 in
       let i : instanceOk n s (m .owner) (m .number) ≡ true = valid-instance n s c m v in

@@ -70,7 +70,6 @@ pub record Read (n s c : ℕ) (m : Message) : Type 0 where
   pub taken : validBytes n s c (messageBytes m) ≡ true
 
 pub reads : (n s c : ℕ) (m : Message) → MessageFits m → setupOk n s c ≡ true → valid n s c m ≡ true → Read n s c m
-unfolding readMessage
 reads n s c m f p v = go (validBytes n s c (messageBytes m)) refl
   where
     read : readMessage n s c (messageBytes m) ≡ record { answer = reading.Valid; message = m }
@@ -81,8 +80,12 @@ reads n s c m f p v = go (validBytes n s c (messageBytes m)) refl
     number (reading.Refused r) = 1
 
     go : (b : Bool) → validBytes n s c (messageBytes m) ≡ b → Read n s c m
-    go true e = record { is = ap (λ (z : Received). z .message) (rw (p, e) at read); taken = e }
-    go false e = clash (sym (ap (λ (z : Received). number (z .answer)) (rw (p, e) at read)))
+    go true e =
+        let x : readMessage n s c (messageBytes m) ≡ record { answer = reading.Valid; message = messageAt (messageBytes m) } = read-is n s c (messageBytes m) ∙ rw (p, e) in
+        record { is = ap (λ (z : Received). z .message) (sym x ∙ read); taken = e }
+    go false e =
+        let x : readMessage n s c (messageBytes m) ≡ unread (whyRead n s c (messageBytes m)) = read-is n s c (messageBytes m) ∙ rw (p, e) in
+        clash (sym (ap (λ (z : Received). number (z .answer)) (sym x ∙ read)))
 
 -- bytes that are a valid message of this list
 pub record Carried (n s : ℕ) (l : List Message) (b : List ℕ) : Type 0 where

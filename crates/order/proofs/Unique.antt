@@ -1,16 +1,28 @@
 -- No second result satisfies a contract of this crate's calls, and number and values tell the answers apart. Assumes nothing.
 use mathlib.Core.Path.{_≡_, sym, ap, ap₂, _∙_}
+use mathlib.Core.Bool.{Bool, true, false, not, cond}
 use mathlib.Core.List.{List}
 use Prim.Native.Nat.{ℕ}
 use native.Mathlib.Omega.{arith}
 use lib.ListN.{getD}
 use Rattle.paper.proofs.Laws.{opNumber-apart}
 use Rattle.paper.proofs.Numbers.{number-apart, numberOf-pos}
+use Rattle.paper.specs.Instance.{instanceOk}
+use Rattle.paper.specs.declared.Refusal.the-variants.{Instance}
+use Rattle.rules.specs.Order.{found, firstOpen}
+use Rattle.rules.specs.declared.First.{First}
+use Rattle.rules.specs.declared.First.the-variants.{At, Nowhere}
+use Rattle.table.specs.Table.{recordIn}
+use Rattle.table.specs.Calls.{judged, judgingNumber}
+use Rattle.table.specs.declared.Judging.{Judging}
+use Rattle.table.specs.declared.Judging.the-variants as judging
+use Rattle.table.proofs.Unique.{judged-plain}
+use Rattle.seen.specs.Records.{recordsIn}
 use Rattle.order.specs.declared.Settling.{Settling}
 use Rattle.order.specs.declared.Settling.the-variants as settling
 use Rattle.order.specs.declared.Handing.{Handing}
 use Rattle.order.specs.declared.Handing.the-variants as handing
-use Rattle.order.specs.Calls.{settled, Handed, handed, settlingNumber, settlingValues, handingNumber, handingCount}
+use Rattle.order.specs.Calls.{settledThrough, settledOpen, settled, Handed, handedThrough, handedOpen, handed, settlingNumber, settlingValues, handingNumber, handingCount}
 
 pub settled-unique : (n s c : ℕ) (t : List ℕ) (o j : ℕ) (x y : Settling) → x ≡ settled n s c t o j → y ≡ settled n s c t o j → x ≡ y
 settled-unique n s c t o j x y p q = p ∙ sym q
@@ -55,11 +67,11 @@ pub settled-plain : (n s c : ℕ) (t : List ℕ) (o j : ℕ) → settlingNumber 
 unfolding settled settledOpen
 settled-plain n s c t o j = through (judged n s c t) (judged-plain n s c t) (settledOpen n s t o j) (open (instanceOk n s o j) (firstOpen n s (recordsIn s t) o j))
   where
-    open : (b : Bool) (x : Found)
+    open : (b : Bool) (x : First)
         → settlingNumber (cond (not b) (settling.Refused Instance) (found x (settling.Settled (recordIn s t o j .vote .command)) settling.Waits)) ≡ 35 → ⊥
     open false x e = omega arith
-    open true nowhere e = omega arith
-    open true (at p k) e = omega arith
+    open true Nowhere e = omega arith
+    open true (At p k) e = omega arith
 
 pub handed-plain : (n s c : ℕ) (t list : List ℕ) → handingNumber (handed n s c t list .answer) ≡ 35 → ⊥
 unfolding handed handedOpen

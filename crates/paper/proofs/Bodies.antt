@@ -7,8 +7,9 @@ use mathlib.Core.List.{List, [], _∷_}
 use native.Mathlib.Omega.{arith}
 use lib.ListN.{getD}
 use borrow.Author.Tests.{eqb-true}
+use Rattle.paper.specs.Logic.{implies}
 use Rattle.paper.specs.Command.{noop}
-use Rattle.paper.specs.Message.{unknown, rows, rowOf, rowIn, partsOf, partsIn, kindOf, isCommit, carriedIn, commandIn, bodyOf, kept}
+use Rattle.paper.specs.Message.{unknown, rows, rowOf, rowIn, partsOf, partsIn, kindOf, isCommit, carriedIn, commandIn, joinedIn, bodyOf, isFresh, kept}
 use Rattle.paper.specs.declared.Body.{Body}
 use Rattle.paper.specs.declared.Body.the-variants.{PreAccept, PreAcceptOk, Accept, AcceptOk, Commit, Prepare, PrepareOk, Nack}
 use Rattle.paper.specs.declared.Carried.{Carried}
@@ -125,3 +126,31 @@ unlisted a b c d e f g h z (suc (suc (suc (suc (suc (suc zero)))))) n1 n2 n3 n4 
 unlisted a b c d e f g h z (suc (suc (suc (suc (suc (suc (suc zero))))))) n1 n2 n3 n4 n5 n6 n7 n8 = absurd (n7 refl)
 unlisted a b c d e f g h z (suc (suc (suc (suc (suc (suc (suc (suc zero)))))))) n1 n2 n3 n4 n5 n6 n7 n8 = absurd (n8 refl)
 unlisted a b c d e f g h z (suc (suc (suc (suc (suc (suc (suc (suc (suc k))))))))) n1 n2 n3 n4 n5 n6 n7 n8 = refl
+
+-- what a body does not carry is zero
+module _ (b : Body) where
+  pub untold-voted : partsIn b .told ≡ false → carriedIn b .voted ≡ 0
+  unfolding kept
+  untold-voted e = sym (ap (λ (x : Carried). x .voted) (carried-kept b)) ∙ rw e
+
+  pub untold-status : partsIn b .told ≡ false → carriedIn b .status ≡ 0
+  unfolding kept
+  untold-status e = sym (ap (λ (x : Carried). x .status) (carried-kept b)) ∙ rw e
+
+  pub no-command : partsIn b .command ≡ false → carriedIn b .command ≡ noop
+  unfolding kept
+  no-command e = sym (ap (λ (x : Carried). x .command) (carried-kept b)) ∙ rw e
+
+  pub unjoined : partsIn b .joined ≡ false → joinedIn b ≡ 0
+  unfolding kept
+  unjoined e = sym (ap (λ (x : Carried). x .joined) (carried-kept b)) ∙ rw e
+
+  -- what is asked of the op at ballot 0 is asked of a kind with a command
+  pub stale : partsIn b .command ≡ false → isFresh (rowIn b .ballots) ≡ false
+  unfolding everyRow allOf
+  stale e = go (isFresh (rowIn b .ballots)) (partsIn b .command) e (every-row (λ r. implies (isFresh (r .ballots)) (r .parts .command)) refl (kindOf b))
+    where
+      go : (f c : Bool) → c ≡ false → implies f c ≡ true → f ≡ false
+      go true true e h = absurd (let z : _≡_ {A = ℕ} 0 1 = cc in omega arith)
+      go true false e h = absurd (let z : _≡_ {A = ℕ} 0 1 = cc in omega arith)
+      go false c e h = refl

@@ -14,8 +14,13 @@ use Rattle.paper.specs.Ballot.{ballotOk, lead}
 use Rattle.paper.specs.Vote.{noVote, blank, sameVote, noneIsBlank, voteOk, toldOk, addedOk, member}
 use Rattle.paper.specs.Sound.{collectedOk, replyOk, repliesOk, rangesOk, votesOk, preparingOk, proposingOk, busyOk, phasesOk, soundRecord}
 use Rattle.paper.specs.Message.{rowOf}
-use Rattle.paper.specs.Valid.{Clause, FromRange, ToRange, OwnerRange, NumberRange, BallotRange, RecoveryBallot, ToHere, FromAnother, FromLead, ToLead, VotedRange, ToldBelow, StatusRange, ToldVoted, OpRange, FreshOp, ToldOp, KeyRange, EditRange, EntryRange, ToldEntry, JoinedRange, JoinedAbove, DepsCarried, Failing, none, first, holdsOf, entryClauses, firstOf, firstFailing, opIn}
+use Rattle.paper.specs.Valid.{Clause, FromRange, ToRange, OwnerRange, NumberRange, BallotRange, RecoveryBallot, ToHere, FromAnother, FromLead, ToLead, VotedRange, ToldBelow, StatusRange, ToldVoted, OpRange, FreshOp, ToldOp, KeyRange, EditRange, EntryRange, ToldEntry, JoinedRange, JoinedAbove, DepsCarried, Failing, none, first, holdsOf, entryClauses, firstOf, firstFailing, opIn, blameOf, verdictOn}
 use Rattle.paper.specs.declared.Op.{Op}
+use Rattle.paper.specs.declared.Field.the-variants as field
+use Rattle.paper.specs.declared.Blame.{Blame}
+use Rattle.paper.specs.declared.Blame.the-variants as blame
+use Rattle.paper.specs.declared.Verdict.{Verdict}
+use Rattle.paper.specs.declared.Verdict.the-variants as verdict
 use Rattle.paper.specs.declared.Op.the-variants.{Noop, Read, Write}
 use Rattle.paper.specs.declared.Command.{Command}
 use Rattle.paper.specs.declared.Vote.{Vote}
@@ -224,6 +229,51 @@ validLines =
 valid-clauses : computedOf validLines ≡ writtenOf validLines
 unfolding computedOf writtenOf validLines entryClauses firstFailing firstOf holdsOf rowOf ballotOk lead sameDeps allBelow
 valid-clauses = refl
+
+-- what copy c of five, with four numbers each, finds a message by value to be
+abbrev found : ℕ → Message → Verdict
+found c m = verdictOn 5 4 c (opIn m) m
+
+abbrev blames : Blame → Verdict → Line Verdict
+blames b x = record { computed = x; written = verdict.Blamed b }
+
+blameLines : List (Line Verdict)
+blameLines =
+    -- beside a kind without dependencies
+    blames blame.Length (found 2 (message 0 10 AcceptOk (entry 3 4)))
+    -- the head's fields
+    ∷ blames (blame.Of field.From) (found 2 (commitFrom 5))
+    ∷ blames (blame.Of field.To) (found 5 (toward 5 (commitFrom 0)))
+    ∷ blames (blame.Of field.Owner) (found 2 (about 5 3 (commitFrom 0)))
+    ∷ blames (blame.Of field.Number) (found 2 (about 1 0 (commitFrom 0)))
+    ∷ blames (blame.Of field.Ballot) (found 2 (commitAt 1))
+    ∷ blames (blame.Of field.Ballot) (found 2 (message 1 0 Prepare noDeps))
+    -- the way, and the lead
+    ∷ blames blame.Way (found 3 (commitFrom 0))
+    ∷ blames blame.Way (found 2 (commitFrom 2))
+    ∷ blames blame.Lead (found 2 (message 3 0 (PreAccept write) noDeps))
+    ∷ blames blame.Lead (found 2 (message 0 9 AcceptOk noDeps))
+    -- the body's fields; between two the later
+    ∷ blames (blame.Of field.Voted) (found 2 (tells 13 3 write noDeps))
+    ∷ blames (blame.Of field.Voted) (found 2 (tells 18 3 write noDeps))
+    ∷ blames (blame.Of field.Status) (found 2 (tells 9 4 write noDeps))
+    ∷ blames (blame.Of field.Status) (found 2 (tells 9 0 noop noDeps))
+    ∷ blames (blame.Of field.Op) (verdictOn 5 4 2 3 (commitOf write))
+    ∷ blames (blame.Of field.Op) (found 2 (message 1 0 (PreAccept noop) noDeps))
+    ∷ blames (blame.Of field.Op) (found 2 (tells 0 0 write noDeps))
+    ∷ blames (blame.Of field.Key) (found 2 (commitOf (command Noop 1 0)))
+    ∷ blames (blame.Of field.Edit) (found 2 (commitOf (command Noop 0 1)))
+    ∷ blames (blame.Of (field.Entry 3)) (found 2 (commitWith (entry 3 5)))
+    ∷ blames (blame.Of (field.Entry 6)) (found 2 (commitWith (entry 6 1)))
+    ∷ blames (blame.Of (field.Entry 3)) (found 2 (tells 0 0 noop (entry 3 4)))
+    ∷ blames (blame.Of field.Joined) (found 2 (nackOf 13))
+    ∷ blames (blame.Of field.Joined) (found 2 (nackOf 10))
+    ∷ []
+
+-- 1/12: whom each clause blames
+whom-clauses : computedOf blameLines ≡ writtenOf blameLines
+unfolding computedOf writtenOf blameLines entryClauses firstFailing firstOf holdsOf rowOf ballotOk lead sameDeps allBelow blameOf verdictOn
+whom-clauses = refl
 
 -- Records: of 1.3, at copy 2 of five, which leads ballots 10 and 18.
 abbrev vote : ℕ → ℕ → Vote

@@ -26,7 +26,7 @@ use Rattle.paper.specs.declared.Blame.the-variants as blame
 use Rattle.paper.specs.declared.Verdict.{Verdict}
 use Rattle.paper.specs.declared.Verdict.the-variants as verdict
 use Rattle.paper.proofs.Laws.{and-true, allBelow-at}
-use Rattle.paper.proofs.Bodies.{allOf, everyRow, every-row, carried-kept}
+use Rattle.paper.proofs.Bodies.{untold-voted, untold-status, no-command, unjoined, stale}
 use Rattle.valid.specs.Groups.{unless, andThen, headVerdict, wayVerdict, toldVerdict, commandVerdict, highest, entriesVerdict, depsVerdict, joinedVerdict, bodyVerdict}
 
 -- the verdict on a list of clauses
@@ -110,34 +110,6 @@ entry-as true true x n s i = go (ltb i n)
     go false = zero-is 0
 entry-as true false x n s i = and-all (leb x (entryLimit n s i))
 entry-as false e x n s i = and-all (leb x (entryLimit n s i))
-
--- what a body does not carry is zero
-module _ (b : Body) where
-  untold-voted : partsIn b .told ≡ false → carriedIn b .voted ≡ 0
-  unfolding kept
-  untold-voted e = sym (ap (λ (x : Carried). x .voted) (carried-kept b)) ∙ rw e
-
-  untold-status : partsIn b .told ≡ false → carriedIn b .status ≡ 0
-  unfolding kept
-  untold-status e = sym (ap (λ (x : Carried). x .status) (carried-kept b)) ∙ rw e
-
-  no-command : partsIn b .command ≡ false → carriedIn b .command ≡ noop
-  unfolding kept
-  no-command e = sym (ap (λ (x : Carried). x .command) (carried-kept b)) ∙ rw e
-
-  unjoined : partsIn b .joined ≡ false → joinedIn b ≡ 0
-  unfolding kept
-  unjoined e = sym (ap (λ (x : Carried). x .joined) (carried-kept b)) ∙ rw e
-
-  -- what is asked of the op at ballot 0 is asked of a kind with a command
-  stale : partsIn b .command ≡ false → isFresh (rowIn b .ballots) ≡ false
-  unfolding everyRow allOf
-  stale e = go (isFresh (rowIn b .ballots)) (partsIn b .command) e (every-row (λ r. implies (isFresh (r .ballots)) (r .parts .command)) refl (kindOf b))
-    where
-      go : (f c : Bool) → c ≡ false → implies f c ≡ true → f ≡ false
-      go true true e h = absurd (let z : _≡_ {A = ℕ} 0 1 = cc in omega arith)
-      go true false e h = absurd (let z : _≡_ {A = ℕ} 0 1 = cc in omega arith)
-      go false c e h = refl
 
 -- the entries, tested twice
 entries-chain : (n s : ℕ) (w : Row) (v : Vote) (f : Clause → Bool) → ((i : ℕ) → f (EntryRange i) ≡ entryOk n s (v .deps) i)

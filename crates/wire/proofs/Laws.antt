@@ -10,6 +10,7 @@ use borrow.Author.Tests.{leb-true, eqb-true, eq-eqb, ne-eqb, lt-ltb, le-ltb}
 use Rattle.numbers.specs.Num.{splice}
 use Rattle.numbers.specs.Fields.{sizeOf}
 use Rattle.codec.specs.Parts.{commandWidths, depsWidths, commandBytes, depsBytes}
+use Rattle.paper.specs.Refusal.{numberOf}
 use Rattle.paper.specs.Setup.{setupOk}
 use Rattle.paper.specs.Message.{rowOf, rowIn, partsOf, partsIn, kindOf, carriedIn}
 use Rattle.paper.specs.Valid.{opIn, valid, verdictOn}
@@ -23,6 +24,7 @@ use Rattle.paper.specs.declared.Message.{Message}
 use Rattle.wire.specs.declared.Reading.the-variants as reading
 use Rattle.wire.specs.declared.Writing.the-variants as writing
 use Rattle.paper.specs.declared.Blame.{Blame}
+use Rattle.paper.specs.declared.Blame.the-variants as blame
 use Rattle.paper.specs.declared.Verdict.{Verdict}
 use Rattle.paper.specs.declared.Verdict.the-variants as verdict
 use Rattle.paper.proofs.Laws.{and-true}
@@ -231,6 +233,20 @@ module _ (n s c : ℕ) (b : List ℕ) where
 pub whyOf : Parts → Verdict → Refusal
 whyOf p verdict.Valid = Setup
 whyOf p (verdict.Blamed x) = refusalOf p x
+
+-- it is 31 to 35
+pub why-number : (p : Parts) (x : Blame) → (31 ≤ numberOf (whyOf p (verdict.Blamed x))) × (numberOf (whyOf p (verdict.Blamed x)) ≤ 35)
+unfolding whyOf
+why-number p blame.Kind = (omega arith, omega arith)
+why-number p blame.Length = (omega arith, omega arith)
+why-number p blame.Way = (omega arith, omega arith)
+why-number p blame.Lead = (omega arith, omega arith)
+why-number p (blame.Of f) = (omega arith, omega arith)
+
+pub why-not-10 : (p : Parts) (v : Verdict) → numberOf (whyOf p v) ≡ 10 → ⊥
+unfolding whyOf
+why-not-10 p verdict.Valid e = omega arith
+why-not-10 p (verdict.Blamed x) e = omega (arith, e, why-number p x .0)
 
 abbrev pub whyRead : ℕ → ℕ → ℕ → List ℕ → Refusal
 whyRead n s c b = whyOf (partsOf (kindAt b)) (verdictAt n s c b)
