@@ -31,6 +31,7 @@ use Rattle.rules.specs.Recover.{outOfBallots}
 use Rattle.rules.specs.Events.{put, requestNumber, onRequest, onMessage, onRecover}
 use Rattle.rules.proofs.Rests.{blank-above}
 use Rattle.wire.specs.Wire.{messageBytes}
+use Rattle.wire.proofs.Laws.{whyRead}
 use Rattle.table.specs.Table.{blankTable, recordIn, putRecord, Kept}
 use Rattle.table.specs.Calls.{judged}
 use Rattle.table.specs.declared.Judging.the-variants as judging

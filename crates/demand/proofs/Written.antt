@@ -18,11 +18,11 @@ use Rattle.paper.specs.declared.Message.{Message}
 use Rattle.rules.specs.declared.Step.{Step}
 use Rattle.rules.specs.Events.{addressed, messagesFrom, messages}
 use Rattle.wire.specs.Wire.{lengthOf, kindAt, headBytes, messageAt, messageBytes, validBytes}
-use Rattle.wire.specs.Calls.{readMessage}
+use Rattle.wire.specs.Calls.{unread, readMessage}
 use Rattle.wire.specs.declared.Received.{Received}
 use Rattle.wire.specs.declared.Reading.{Reading}
 use Rattle.wire.specs.declared.Reading.the-variants as reading
-use Rattle.wire.proofs.Laws.{ten, length-messageBytes}
+use Rattle.wire.proofs.Laws.{ten, length-messageBytes, whyRead, read-is}
 use Rattle.wire.proofs.Round.{written-reads-back}
 use Rattle.paper.specs.Fits.{MessageFits}
 use Rattle.closed.specs.Held.{Sent}

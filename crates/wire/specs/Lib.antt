@@ -1,3 +1,4 @@
 pub mod Wire
 pub mod Calls
 pub mod Examples
+pub mod Reasons
