@@ -1,19 +1,28 @@
 -- A message as eighteen numbers: kind, from, to, owner, number, ballot, voted or joined, status, op, key, edit, dependencies.
 -- Assumes nothing.
-use Prim.Native.Nat.{ℕ, _%_}
-use mathlib.Core.Bool.{Bool, cond}
+use Prim.Native.Nat.{ℕ, zero, suc, _+_, _%_}
+use mathlib.Core.Bool.{Bool, _||_, not, cond}
 use mathlib.Core.List.{List, [], _∷_}
-use lib.Dec.{eqb}
-use lib.ListN.{getD, replicate}
+use lib.Dec.{leb, ltb, eqb}
+use lib.ListN.{length, getD, replicate}
 use Rattle.codec.specs.Parts.{opOf}
 use Rattle.paper.specs.Logic.{allBelow}
 use Rattle.paper.specs.Command.{opNumber}
-use Rattle.paper.specs.Message.{partsIn, kindOf, bodyOf, commandIn, votedIn, statusIn, joinedIn, noMessage}
+use Rattle.paper.specs.Setup.{setupOk}
+use Rattle.paper.specs.Message.{rowOf, partsOf, partsIn, kindOf, bodyOf, commandIn, votedIn, statusIn, joinedIn}
+use Rattle.paper.specs.Valid.{hasField}
 use Rattle.paper.specs.declared.Command.{Command}
 use Rattle.paper.specs.declared.Body.{Body}
+use Rattle.paper.specs.declared.Parts.{Parts}
+use Rattle.paper.specs.declared.Field.{Field}
+use Rattle.paper.specs.declared.Field.the-variants as field
+use Rattle.paper.specs.declared.Blame.{Blame}
+use Rattle.paper.specs.declared.Blame.the-variants as blame
+use Rattle.paper.specs.declared.Refusal.the-variants.{Setup, Room}
 use Rattle.paper.specs.declared.Message.{Message}
 use Rattle.wire.specs.declared.Reading.{Reading}
 use Rattle.wire.specs.declared.Reading.the-variants as reading
+use Rattle.wire.specs.Calls.{refusalOf, unwritten, Wrote, wrote}
 
 -- voted, or joined where the body carries that
 unfoldable pub otherBallot : Body → ℕ
@@ -58,7 +67,43 @@ messageFrom fs =
 unfoldable pub sameFields : List ℕ → List ℕ → Bool
 sameFields f g = allBelow 18 (λ i. eqb (getD f i 0) (getD g i 0))
 
--- the message whose fields these are; where there is none (a number does not fit its place, or stands where the kind has
--- none), one that no copy takes
-unfoldable pub messageOf : List ℕ → Message
-messageOf fs = cond (sameFields fs (fieldsOf (messageFrom fs))) (messageFrom fs) noMessage
+-- the fields by their place among the numbers; the first is the kind, and counts as none
+unfoldable pub numberFields : Parts → List Field
+numberFields p =
+    field.From ∷ field.From ∷ field.To ∷ field.Owner ∷ field.Number ∷ field.Ballot ∷ cond (p .joined) field.Joined field.Voted ∷ field.Status ∷ field.Op
+    ∷ field.Key ∷ field.Edit ∷ field.Entry 0 ∷ field.Entry 1 ∷ field.Entry 2 ∷ field.Entry 3 ∷ field.Entry 4 ∷ field.Entry 5 ∷ field.Entry 6 ∷ []
+
+abbrev pub fieldOf : Parts → ℕ → Field
+fieldOf p i = getD (numberFields p) i field.From
+
+-- the most that can stand in each place
+unfoldable pub most : List ℕ
+most =
+    255 ∷ 255 ∷ 255 ∷ 255 ∷ 65535 ∷ 4294967295 ∷ 4294967295 ∷ 255 ∷ 2 ∷ 4294967295 ∷ 18446744073709551615 ∷ 65535 ∷ 65535 ∷ 65535 ∷ 65535 ∷ 65535
+    ∷ 65535 ∷ 65535 ∷ []
+
+-- what the kind does not carry is 0
+unfoldable pub carriedOnly : Parts → List ℕ → Bool
+carriedOnly p fs = allBelow 18 (λ i. hasField p (fieldOf p i) || eqb (getD fs i 0) 0)
+
+-- the first of k numbers, from the i-th on, that is too large for its place
+unfoldable pub firstLarge : Parts → List ℕ → ℕ → ℕ → Blame
+firstLarge p fs zero i = blame.Length
+firstLarge p fs (suc k) i = cond (leb (getD fs i 0) (getD most i 0)) (firstLarge p fs k (i + 1)) (blame.Of (fieldOf p i))
+
+-- whom numbers blame that are no message's: the kind, one that stands where the kind has none and would make the message longer, then the
+-- first that is too large; where neither, they are a message's
+unfoldable pub misfit : List ℕ → Blame
+misfit fs =
+    cond (not (rowOf (getD fs 0 0) .known)) blame.Kind
+    (cond (not (carriedOnly (partsOf (getD fs 0 0)) fs)) blame.Length (firstLarge (partsOf (getD fs 0 0)) fs 17 1))
+
+-- 1, 2, then that
+unfoldable pub wroteMisfit : ℕ → ℕ → ℕ → List ℕ → List ℕ → Wrote
+wroteMisfit n s c out fs =
+    cond (not (setupOk n s c)) (unwritten Setup out)
+    (cond (ltb (length out) 256) (unwritten Room out) (unwritten (refusalOf (partsOf (getD fs 0 0)) (misfit fs)) out))
+
+-- what is written of numbers: the message that they are, if they are one
+unfoldable pub wroteFields : ℕ → ℕ → ℕ → List ℕ → List ℕ → Wrote
+wroteFields n s c out fs = cond (sameFields fs (fieldsOf (messageFrom fs))) (wrote n s c out (messageFrom fs)) (wroteMisfit n s c out fs)

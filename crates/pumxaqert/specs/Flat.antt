@@ -2,8 +2,8 @@
 use Prim.Native.Nat.{ℕ}
 use mathlib.Core.List.{List, [], _∷_}
 use Rattle.log.specs.declared.Answer.{Answer}
-use Rattle.log.specs.Events.{answerOwner, answerInstance, answerWritten}
+use Rattle.log.specs.Events.{answerOwner, answerInstance, answerWritten, answerOffset}
 
--- owner, number, bytes written; all 0 for a refusal
+-- owner, number, bytes written; for a refusal 0, and the offset of a bad field
 abbrev pub answerValues : Answer → List ℕ
-answerValues a = answerOwner a ∷ answerInstance a ∷ answerWritten a ∷ []
+answerValues a = answerOwner a ∷ answerInstance a ∷ answerWritten a ∷ answerOffset a ∷ []

@@ -1,12 +1,13 @@
 // Request, a received message, recover and nudge.
 use log::Answer;
 use nouns::refusal::number_of;
+use nouns::refusal::offset_in;
 ghost use mathlib.Core.Path.{_≡_};
 ghost use Rattle.log.specs.Events.{requested, received, recovered, nudged, answerNumber};
 ghost use Rattle.pumxaqert.specs.Flat.{answerValues};
 
-// The refusal's number, or 0 with the instance and the bytes written.
-fn give(a: Answer, values: &mut [usize; 3]) -> u32
+// The refusal's number with the offset of a bad field, or 0 with the instance and the bytes written.
+fn give(a: Answer, values: &mut [usize; 4]) -> u32
     ensures number { λ r. ⌜ r ≡ answerNumber a ⌝ }
     ensures values { λ _. ⌜ now (values .exit) ≡ answerValues a ⌝ }
 {
@@ -16,11 +17,11 @@ fn give(a: Answer, values: &mut [usize; 3]) -> u32
             number,
             written,
         } => {
-            *values = [owner, number, written];
+            *values = [owner, number, written, 0];
             0
         }
         Answer::Refused(why) => {
-            *values = [0, 0, 0];
+            *values = [0, 0, 0, offset_in(why)];
             number_of(why)
         }
     }
@@ -36,7 +37,7 @@ pub extern "C" fn pumxaqert_request(
     op: usize,
     key: u32,
     edit: u64,
-    values: &mut [usize; 3],
+    values: &mut [usize; 4],
 ) -> u32
     ensures number { λ r. ⌜ r ≡ answerNumber (requested n s c (now (table .entry)) (now (out .entry)) op key edit .answer) ⌝ }
     ensures values { λ _. ⌜ now (values .exit) ≡ answerValues (requested n s c (now (table .entry)) (now (out .entry)) op key edit .answer) ⌝ }
@@ -57,7 +58,7 @@ pub extern "C" fn pumxaqert_message(
     c: usize,
     out: &mut [u8],
     bytes: &[u8],
-    values: &mut [usize; 3],
+    values: &mut [usize; 4],
 ) -> u32
     ensures number { λ r. ⌜ r ≡ answerNumber (received n s c (now (table .entry)) (now (out .entry)) (now (bytes .entry)) .answer) ⌝ }
     ensures values { λ _. ⌜ now (values .exit) ≡ answerValues (received n s c (now (table .entry)) (now (out .entry)) (now (bytes .entry)) .answer) ⌝ }
@@ -79,7 +80,7 @@ pub extern "C" fn pumxaqert_recover(
     out: &mut [u8],
     owner: usize,
     number: usize,
-    values: &mut [usize; 3],
+    values: &mut [usize; 4],
 ) -> u32
     ensures number { λ r. ⌜ r ≡ answerNumber (recovered n s c (now (table .entry)) (now (out .entry)) owner number .answer) ⌝ }
     ensures values { λ _. ⌜ now (values .exit) ≡ answerValues (recovered n s c (now (table .entry)) (now (out .entry)) owner number .answer) ⌝ }
@@ -98,7 +99,7 @@ pub extern "C" fn pumxaqert_nudge(
     out: &mut [u8],
     owner: usize,
     number: usize,
-    values: &mut [usize; 3],
+    values: &mut [usize; 4],
 ) -> u32
     ensures number { λ r. ⌜ r ≡ answerNumber (nudged n s c (now (table .entry)) (now (out .entry)) owner number .answer) ⌝ }
     ensures values { λ _. ⌜ now (values .exit) ≡ answerValues (nudged n s c (now (table .entry)) (now (out .entry)) owner number .answer) ⌝ }

@@ -3,18 +3,30 @@ use codec::op_of;
 use nouns::command::op_number;
 use nouns::message::body_of;
 use nouns::message::command_in;
+use nouns::message::has_field;
 use nouns::message::joined_in;
 use nouns::message::kind_of;
 use nouns::message::row_in;
+use nouns::message::row_of;
 use nouns::message::status_in;
 use nouns::message::voted_in;
+use paper::Blame;
 use paper::Body;
 use paper::Carried;
 use paper::Command;
+use paper::Field;
 use paper::Message;
+use paper::Parts;
+use paper::Refusal;
+use wire::refusal_of;
 ghost use mathlib.Core.Path.{_≡_};
 ghost use Prim.Native.Nat.{_%_, _<_};
-ghost use Rattle.pumxaqert.specs.Fields.{otherBallot, fieldsOf, commandFrom, bodyFrom, depsFrom, messageFrom, sameFields, messageOf};
+ghost use mathlib.Core.Bool.{cond};
+ghost use lib.ListN.{getD};
+ghost use Rattle.paper.specs.Message.{partsOf};
+ghost use Rattle.paper.specs.declared.Field.the-variants as field;
+ghost use Rattle.wire.specs.Calls.{refusalOf};
+ghost use Rattle.pumxaqert.specs.Fields.{otherBallot, fieldsOf, commandFrom, bodyFrom, depsFrom, messageFrom, sameFields, fieldOf, most, carriedOnly, firstLarge, misfit};
 
 fn from8(x: u8) -> u64
     ensures { λ r. ⌜ r ≡ x ⌝ }
@@ -134,7 +146,7 @@ fn deps_from(f: &[u64; 18]) -> [u16; 7]
 }
 
 // The message of these numbers, each cut to its place.
-fn message_from(f: &[u64; 18]) -> Message
+pub fn message_from(f: &[u64; 18]) -> Message
     ensures { λ r. ⌜ r ≡ messageFrom (now (f .entry)) ⌝ }
 {
     let command = command_from(f);
@@ -158,7 +170,7 @@ fn message_from(f: &[u64; 18]) -> Message
     }
 }
 
-fn same_fields(f: &[u64; 18], g: &[u64; 18]) -> bool
+pub fn same_fields(f: &[u64; 18], g: &[u64; 18]) -> bool
     ensures { λ r. ⌜ r ≡ sameFields (now (f .entry)) (now (g .entry)) ⌝ }
 {
     let mut left = 18;
@@ -171,14 +183,107 @@ fn same_fields(f: &[u64; 18], g: &[u64; 18]) -> bool
     true
 }
 
-// The message whose fields these are; one that no copy takes where there is none.
-pub fn message_of(f: &[u64; 18]) -> Message
-    ensures { λ r. ⌜ r ≡ messageOf (now (f .entry)) ⌝ }
+fn other_field(p: Parts) -> Field
+    ensures { λ r. ⌜ r ≡ cond (p .joined) field.Joined field.Voted ⌝ }
 {
-    let m = message_from(f);
-    let g = fields_of(m);
-    if same_fields(f, &g) {
-        return m;
+    if p.joined { Field::Joined } else { Field::Voted }
+}
+
+// The field that a number stands for.
+fn field_of(p: Parts, i: usize) -> Field
+    requires { ⌜ i < 18 ⌝ }
+    ensures { λ r. ⌜ r ≡ fieldOf p i ⌝ }
+{
+    let other = other_field(p);
+    let all = [
+        Field::From,
+        Field::From,
+        Field::To,
+        Field::Owner,
+        Field::Number,
+        Field::Ballot,
+        other,
+        Field::Status,
+        Field::Op,
+        Field::Key,
+        Field::Edit,
+        Field::Entry(0),
+        Field::Entry(1),
+        Field::Entry(2),
+        Field::Entry(3),
+        Field::Entry(4),
+        Field::Entry(5),
+        Field::Entry(6),
+    ];
+    all[i]
+}
+
+// The most that can stand there.
+fn most(i: usize) -> u64
+    requires { ⌜ i < 18 ⌝ }
+    ensures { λ r. ⌜ r ≡ getD most i 0 ⌝ }
+{
+    let all = [
+        255,
+        255,
+        255,
+        255,
+        65_535,
+        4_294_967_295,
+        4_294_967_295,
+        255,
+        2,
+        4_294_967_295,
+        18_446_744_073_709_551_615,
+        65_535,
+        65_535,
+        65_535,
+        65_535,
+        65_535,
+        65_535,
+        65_535u64,
+    ];
+    all[i]
+}
+
+fn carried_only(p: Parts, f: &[u64; 18]) -> bool
+    ensures { λ r. ⌜ r ≡ carriedOnly p (now (f .entry)) ⌝ }
+{
+    let mut left = 18;
+    while 0 < left {
+        left -= 1;
+        if !has_field(p, field_of(p, left)) {
+            if f[left] != 0 {
+                return false;
+            }
+        }
     }
-    step::made::no_message()
+    true
+}
+
+fn first_large(p: Parts, f: &[u64; 18]) -> Blame
+    ensures { λ r. ⌜ r ≡ firstLarge p (now (f .entry)) 17 1 ⌝ }
+{
+    let mut i = 1;
+    while i < 18 {
+        if f[i] > most(i) {
+            return Blame::Of(field_of(p, i));
+        }
+        i += 1;
+    }
+    Blame::Length
+}
+
+// Why numbers are refused that are no message's.
+pub fn misfit(f: &[u64; 18]) -> Refusal
+    ensures { λ r. ⌜ r ≡ refusalOf (partsOf (getD (now (f .entry)) 0 0)) (misfit (now (f .entry))) ⌝ }
+{
+    let row = row_of(f[0] as usize);
+    if !row.known {
+        return Refusal::UnknownKind;
+    }
+    if !carried_only(row.parts, f) {
+        return Refusal::WrongLength;
+    }
+    refusal_of(row.parts, first_large(row.parts, f))
 }

@@ -283,7 +283,8 @@ pub fn width_of(f: Field) -> usize
     }
 }
 
-fn refusal_of(p: Parts, x: Blame) -> Refusal
+// The refusal that a blame is, in a message with these parts.
+pub fn refusal_of(p: Parts, x: Blame) -> Refusal
     ensures { λ r. ⌜ r ≡ refusalOf p x ⌝ }
 {
     match x {
