@@ -65,13 +65,13 @@ through (judging.Refused r) p rest q e = p e
 
 pub settled-plain : (n s c : ℕ) (t : List ℕ) (o j : ℕ) → settlingNumber (settled n s c t o j) ≡ 35 → ⊥
 unfolding settled settledOpen
-settled-plain n s c t o j = through (judged n s c t) (judged-plain n s c t) (settledOpen n s t o j) (open (instanceOk n s o j) (firstOpen n s (recordsIn s t) o j))
+settled-plain n s c t o j = through (judged n s c t) (judged-plain n s c t) (settledOpen n s t o j) (unjudged (instanceOk n s o j) (firstOpen n s (recordsIn s t) o j))
   where
-    open : (b : Bool) (x : First)
+    unjudged : (b : Bool) (x : First)
         → settlingNumber (cond (not b) (settling.Refused Instance) (found x (settling.Settled (recordIn s t o j .vote .command)) settling.Waits)) ≡ 35 → ⊥
-    open false x e = omega arith
-    open true Nowhere e = omega arith
-    open true (At p k) e = omega arith
+    unjudged false x e = omega arith
+    unjudged true Nowhere e = omega arith
+    unjudged true (At p k) e = omega arith
 
 pub handed-plain : (n s c : ℕ) (t list : List ℕ) → handingNumber (handed n s c t list .answer) ≡ 35 → ⊥
 unfolding handed handedOpen

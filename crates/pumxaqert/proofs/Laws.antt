@@ -1,24 +1,32 @@
 -- Answers as numbers: one law for each outcome. Assumes nothing.
-use mathlib.Core.Path.{_≡_, sym, ap, _∙_}
-use mathlib.Core.Bool.{true, false}
+use mathlib.Core.Path.{_≡_, refl, sym, ap, _∙_}
+use mathlib.Core.Bool.{true, false, cond}
 use mathlib.Core.List.{List, [], _∷_}
-use Prim.Native.Nat.{ℕ}
-use lib.ListN.{replicate}
-use Rattle.paper.specs.Message.{partsIn, votedIn, joinedIn, noMessage}
-use Rattle.paper.specs.Refusal.{numberOf}
+use Prim.Native.Nat.{ℕ, suc, _+_, _-_, _≤_, _<_}
+use native.Mathlib.Omega.{arith}
+use lib.Dec.{leb}
+use borrow.Author.Tests.{lt-ltb, le-ltb, le-leb, lt-leb}
+use lib.ListN.{length, getD, replicate}
+use Rattle.paper.specs.Setup.{setupOk}
+use Rattle.paper.specs.Message.{partsOf, partsIn, votedIn, joinedIn}
+use Rattle.paper.specs.Refusal.{numberOf, offsetIn}
 use Rattle.paper.specs.declared.Body.{Body}
 use Rattle.paper.specs.declared.Message.{Message}
+use Rattle.paper.specs.declared.Parts.{Parts}
+use Rattle.paper.specs.declared.Field.{Field}
+use Rattle.paper.specs.declared.Blame.the-variants as blame
 use Rattle.paper.specs.declared.Refusal.{Refusal}
+use Rattle.paper.specs.declared.Refusal.the-variants.{Setup, Room}
 use Rattle.wire.specs.declared.Reading.{Reading}
 use Rattle.wire.specs.declared.Reading.the-variants as reading
 use Rattle.wire.specs.declared.Received.{Received}
 use Rattle.wire.specs.declared.Writing.{Writing}
-use Rattle.wire.specs.Calls.{readingNumber, Wrote, wrote, writingNumber, writingCount}
+use Rattle.wire.specs.Calls.{refusalOf, unwritten, readingNumber, readingOffset, Wrote, wrote, writingNumber, writingCount, writingOffset}
 use Rattle.order.specs.declared.Settling.the-variants as settling
 use Rattle.paper.specs.Command.{opNumber}
 use Rattle.paper.specs.declared.Command.{Command}
 use Rattle.order.specs.Calls.{settlingValues}
-use Rattle.pumxaqert.specs.Fields.{otherBallot, fieldsOf, readValues, messageFrom, sameFields, messageOf}
+use Rattle.pumxaqert.specs.Fields.{otherBallot, fieldsOf, readValues, messageFrom, sameFields, fieldOf, most, firstLarge, misfit, wroteMisfit, wroteFields}
 
 pub other-joined : (b : Body) → partsIn b .joined ≡ true → joinedIn b ≡ otherBallot b
 unfolding otherBallot
@@ -28,48 +36,87 @@ pub other-voted : (b : Body) → partsIn b .joined ≡ false → votedIn b ≡ o
 unfolding otherBallot
 other-voted b e = rw e
 
--- what the reader ensures of its number and the fields, and the writer of its number, the count and the room
-abbrev pub Reads : Received → ℕ → List ℕ → Type 0
-Reads x r f = (r ≡ readingNumber (x .answer)) × (f ≡ readValues (x .answer) (x .message))
+-- what the reader ensures of its number, the fields and the offset, and the writer of its number, the count, the offset and the room
+abbrev pub Reads : Received → ℕ → List ℕ → ℕ → Type 0
+Reads x r f a = (r ≡ readingNumber (x .answer)) × ((f ≡ readValues (x .answer) (x .message)) × (a ≡ readingOffset (x .answer)))
 
-abbrev pub Writes : Wrote → ℕ → ℕ → List ℕ → Type 0
-Writes x r k o = (r ≡ writingNumber (x .answer)) × ((k ≡ writingCount (x .answer)) × (o ≡ x .out))
+abbrev pub Writes : Wrote → ℕ → ℕ → ℕ → List ℕ → Type 0
+Writes x r k a o = (r ≡ writingNumber (x .answer)) × ((k ≡ writingCount (x .answer)) × ((a ≡ writingOffset (x .answer)) × (o ≡ x .out)))
 
 module _ {x y : Received} (e : x ≡ y) where
   answers : x .answer ≡ y .answer
   answers = ap (λ (z : Received). z .answer) e
 
-  pub read-valid : {f : List ℕ} → x .answer ≡ reading.Valid → f ≡ fieldsOf (x .message) → Reads y 0 f
+  pub read-valid : {f : List ℕ} → x .answer ≡ reading.Valid → f ≡ fieldsOf (x .message) → Reads y 0 f 0
   read-valid v ef =
       let q : reading.Valid ≡ y .answer = sym v ∙ answers in (
         ap readingNumber q,
-        ef ∙ ap (λ (z : Received). fieldsOf (z .message)) e ∙ ap (λ (a : Reading). readValues a (y .message)) q,
+        (ef ∙ ap (λ (z : Received). fieldsOf (z .message)) e ∙ ap (λ (a : Reading). readValues a (y .message)) q, ap readingOffset q),
       )
 
-  pub read-refused : (r : Refusal) {k : ℕ} {f : List ℕ} → x .answer ≡ reading.Refused r → k ≡ numberOf r → f ≡ replicate 18 0 → Reads y k f
-  read-refused r v ek ef =
+  pub read-refused : (r : Refusal) {k : ℕ} {f : List ℕ} {a : ℕ} → x .answer ≡ reading.Refused r → k ≡ numberOf r → f ≡ replicate 18 0 → a ≡ offsetIn r → Reads y k f a
+  read-refused r v ek ef ea =
       let q : reading.Refused r ≡ y .answer = sym v ∙ answers in
-      (ek ∙ ap readingNumber q, ef ∙ ap (λ (a : Reading). readValues a (y .message)) q)
+      (ek ∙ ap readingNumber q, (ef ∙ ap (λ (a : Reading). readValues a (y .message)) q, ea ∙ ap readingOffset q))
 
--- the message whose fields these are
-pub message-is : (fs g : List ℕ) {m : Message} → m ≡ messageFrom fs → g ≡ fieldsOf m → sameFields fs g ≡ true → m ≡ messageOf fs
-unfolding messageOf
-message-is fs g em eg e =
-    let q : sameFields fs (fieldsOf (messageFrom fs)) ≡ true = ap (sameFields fs) (sym (eg ∙ ap fieldsOf em)) ∙ e in
-    em ∙ rw q
+-- numbers that are a message's, and others
+module _ (n s c : ℕ) (out fs g : List ℕ) {m : Message} (em : m ≡ messageFrom fs) (eg : g ≡ fieldsOf m) where
+  tested : sameFields fs g ≡ sameFields fs (fieldsOf (messageFrom fs))
+  tested = ap (sameFields fs) (eg ∙ ap fieldsOf em)
 
-pub message-none : (fs g : List ℕ) {m : Message} → m ≡ messageFrom fs → g ≡ fieldsOf m → sameFields fs g ≡ false → noMessage ≡ messageOf fs
-unfolding messageOf
-message-none fs g em eg e =
-    let q : sameFields fs (fieldsOf (messageFrom fs)) ≡ false = ap (sameFields fs) (sym (eg ∙ ap fieldsOf em)) ∙ e in
-    rw q
+  pub fields-message : sameFields fs g ≡ true → wrote n s c out m ≡ wroteFields n s c out fs
+  unfolding wroteFields
+  fields-message e = let q : sameFields fs (fieldsOf (messageFrom fs)) ≡ true = sym tested ∙ e in ap (wrote n s c out) em ∙ rw q
+
+  no-message : sameFields fs g ≡ false → wroteMisfit n s c out fs ≡ wroteFields n s c out fs
+  unfolding wroteFields
+  no-message e = let q : sameFields fs (fieldsOf (messageFrom fs)) ≡ false = sym tested ∙ e in rw q
+
+  pub fields-1 : sameFields fs g ≡ false → setupOk n s c ≡ false → unwritten Setup out ≡ wroteFields n s c out fs
+  unfolding wroteMisfit
+  fields-1 e p = (rw p) ∙ no-message e
+
+  pub fields-2 : sameFields fs g ≡ false → setupOk n s c ≡ true → length out < 256 → unwritten Room out ≡ wroteFields n s c out fs
+  unfolding wroteMisfit
+  fields-2 e p l = (rw (p, lt-ltb (length out) 256 l)) ∙ no-message e
+
+  pub fields-misfit : sameFields fs g ≡ false → setupOk n s c ≡ true → 256 ≤ length out → {r : Refusal} → r ≡ refusalOf (partsOf (getD fs 0 0)) (misfit fs)
+      → unwritten r out ≡ wroteFields n s c out fs
+  unfolding wroteMisfit
+  fields-misfit e p l er = ap (λ (r : Refusal). unwritten r out) er ∙ (rw (p, le-ltb (length out) 256 l)) ∙ no-message e
 
 -- a written message, as numbers
-pub wrote-as : (n s c : ℕ) (out fs : List ℕ) {m : Message} {x : Writing} {o : List ℕ} → m ≡ messageOf fs → x ≡ wrote n s c out m .answer → o ≡ wrote n s c out m .out
-    → (y : Writing) → x ≡ y → Writes (wrote n s c out (messageOf fs)) (writingNumber y) (writingCount y) o
-wrote-as n s c out fs em ex eo y e =
-    let q = sym e ∙ ex ∙ ap (λ (k : Message). wrote n s c out k .answer) em in
-    (ap writingNumber q, (ap writingCount q, eo ∙ ap (λ (k : Message). wrote n s c out k .out) em))
+pub wrote-as : {x : Writing} {o : List ℕ} {w : Wrote} → x ≡ w .answer → o ≡ w .out → (y : Writing) → x ≡ y
+    → Writes w (writingNumber y) (writingCount y) (writingOffset y) o
+wrote-as ex eo y e = let q = sym e ∙ ex in (ap writingNumber q, (ap writingCount q, (ap writingOffset q, eo)))
+
+-- what is left of the numbers, from the i-th on
+module _ (p : Parts) (fs : List ℕ) where
+  pub record Left (i : ℕ) : Type 0 where
+    pub rest : firstLarge p fs (18 - i) i ≡ firstLarge p fs 17 1
+    pub few : i ≤ 18
+
+  pub all-left : Left 1
+  all-left = record { rest = refl; few = omega arith }
+
+  one : (i : ℕ) → i < 18 → firstLarge p fs (18 - i) i ≡ cond (leb (getD fs i 0) (getD most i 0)) (firstLarge p fs (18 - (i + 1)) (i + 1)) (blame.Of (fieldOf p i))
+  unfolding firstLarge
+  one i l = let e : 18 - i ≡ suc (18 - (i + 1)) = omega arith in rw e
+
+  module _ (i : ℕ) (l : Left i) (h : i < 18) {k : ℕ} (ek : k ≡ getD most i 0) where
+    pub large : k < getD fs i 0 → {f : Field} → f ≡ fieldOf p i → blame.Of f ≡ firstLarge p fs 17 1
+    large b ef =
+        let t : leb (getD fs i 0) (getD most i 0) ≡ false = lt-leb _ _ (omega arith) in
+        ap blame.Of ef ∙ (rw t) ∙ sym (one i h) ∙ l .rest
+
+    pub fits : getD fs i 0 ≤ k → Left (i + 1)
+    fits b =
+        let t : leb (getD fs i 0) (getD most i 0) ≡ true = le-leb (getD fs i 0) (getD most i 0) (omega arith) in
+        record { rest = (rw t) ∙ sym (one i h) ∙ l .rest; few = omega arith }
+
+  pub none-large : (i : ℕ) → Left i → 18 ≤ i → blame.Length ≡ firstLarge p fs 17 1
+  unfolding firstLarge
+  none-large i l h = let e : 18 - i ≡ 0 = omega arith in (rw e) ∙ l .rest
 
 -- a settled instance's command, as numbers
 pub settled-values : (k : Command) {a b : ℕ} → a ≡ opNumber (k .op) → b ≡ k .key → (1 ∷ a ∷ b ∷ k .edit ∷ []) ≡ settlingValues (settling.Settled k)

@@ -16,7 +16,7 @@ use Rattle.paper.specs.Logic.{allBelow}
 use Rattle.paper.specs.Command.{opNumber}
 use Rattle.paper.specs.Setup.{setupOk}
 use Rattle.paper.specs.Fits.{CommandFits, DepsFit, CarriedFits, MessageFits}
-use Rattle.paper.specs.Message.{rowOf, partsIn, kindOf, noneCarried, commandCarried, joinedCarried, carriedIn, bodyOf, commandIn, votedIn, statusIn, joinedIn, noMessage}
+use Rattle.paper.specs.Message.{rowOf, partsOf, partsIn, kindOf, noneCarried, commandCarried, joinedCarried, carriedIn, bodyOf, commandIn, votedIn, statusIn, joinedIn, noMessage}
 use Rattle.paper.specs.Valid.{valid}
 use Rattle.paper.proofs.Laws.{and-true, allBelow-at}
 use Rattle.paper.proofs.Numbers.{numberOf-pos}
@@ -33,12 +33,12 @@ use Rattle.wire.specs.declared.Reading.the-variants as reading
 use Rattle.wire.specs.declared.Received.{Received}
 use Rattle.wire.specs.declared.Writing.{Writing}
 use Rattle.wire.specs.declared.Writing.the-variants as writing
-use Rattle.wire.specs.Wire.{framed, opFits, validBytes}
-use Rattle.wire.specs.Calls.{readMessage, Wrote, wrote, readingNumber, writingNumber, writingCount}
-use Rattle.wire.proofs.Laws.{framed-is}
+use Rattle.wire.specs.Wire.{messageAt, framed, opFits, validBytes}
+use Rattle.wire.specs.Calls.{unread, refusalOf, readMessage, unwritten, Wrote, wrote, readingNumber, writingNumber, writingCount}
+use Rattle.wire.proofs.Laws.{framed-is, whyRead, read-is}
 use Rattle.wire.proofs.Fits.{messageAt-fits}
 use Rattle.wire.proofs.Round.{written-read, read-written}
-use Rattle.pumxaqert.specs.Fields.{otherBallot, fieldsOf, readValues, commandFrom, bodyFrom, depsFrom, messageFrom, sameFields, messageOf}
+use Rattle.pumxaqert.specs.Fields.{otherBallot, fieldsOf, readValues, commandFrom, bodyFrom, depsFrom, messageFrom, sameFields, misfit, wroteMisfit, wroteFields}
 use Rattle.pumxaqert.proofs.Laws.{Reads, Writes}
 
 -- a number that fits its place is not cut
@@ -111,12 +111,10 @@ module _ (m : Message) (f : MessageFits m) where
         deps = deps-back i;
       }
 
-  pub fields-messageOf : messageOf (fieldsOf m) ≡ m
-  unfolding messageOf sameFields
-  fields-messageOf =
-      let q : sameFields (fieldsOf m) (fieldsOf (messageFrom (fieldsOf m))) ≡ true =
-      ap (λ (x : Message). sameFields (fieldsOf m) (fieldsOf x)) fields-message ∙ same-own 18 (fieldsOf m) in
-      rw q fields-message
+  -- and its fields are a message's
+  pub fields-same : sameFields (fieldsOf m) (fieldsOf (messageFrom (fieldsOf m))) ≡ true
+  unfolding sameFields
+  fields-same = ap (λ (x : Message). sameFields (fieldsOf m) (fieldsOf x)) fields-message ∙ same-own 18 (fieldsOf m)
 
 -- so fields tell messages apart
 pub fields-apart : (m k : Message) → MessageFits m → MessageFits k → fieldsOf m ≡ fieldsOf k → m ≡ k
@@ -132,9 +130,8 @@ sameFields-eq f g p q h =
     ext-getD 0 f g (p ∙ sym q) (λ i l. eqb-true _ _ (allBelow-at 18 (λ j. eqb (getD f j 0) (getD g j 0)) h i (omega arith)))
 
 -- eighteen numbers that are some message's are the fields of the message that they make
-pub message-fields : (fs : List ℕ) → length fs ≡ 18 → sameFields fs (fieldsOf (messageFrom fs)) ≡ true → fieldsOf (messageOf fs) ≡ fs
-unfolding messageOf
-message-fields fs l e = rw e (sym (sameFields-eq fs (fieldsOf (messageFrom fs)) l (fields-long (messageFrom fs)) e))
+pub message-fields : (fs : List ℕ) → length fs ≡ 18 → sameFields fs (fieldsOf (messageFrom fs)) ≡ true → fieldsOf (messageFrom fs) ≡ fs
+message-fields fs l e = sym (sameFields-eq fs (fieldsOf (messageFrom fs)) l (fields-long (messageFrom fs)) e)
 
 -- what is made of numbers fits, as each is cut to its place
 joined-carried : (j : ℕ) → j < 256 ^ 4 → CarriedFits (joinedCarried j)
@@ -199,34 +196,29 @@ messageFrom-fits fs h = record {
   deps = deps-fit fs;
 }
 
--- no copy takes the message that numbers of none make: it is a Prepare at ballot 0
-none-valid : (n s c : ℕ) → valid n s c noMessage ≡ true → ⊥
-unfolding rowOf
-none-valid n s c h = let r : false ≡ true = clauses-of n s c noMessage h .recovery in let z : _≡_ {A = ℕ} 0 1 = cc in omega arith
+-- a count is answered for fields of a message alone
+module _ (n s c : ℕ) (out fs : List ℕ) (k : ℕ) (e : wroteFields n s c out fs .answer ≡ writing.Bytes k) where
+  refused : {A : Type 0} (r : Refusal) → wroteFields n s c out fs ≡ unwritten r out → A
+  refused r h =
+      let x : writing.Refused r ≡ writing.Bytes k = ap (λ (w : Wrote). w .answer) (sym h) ∙ e in
+      let z : _≡_ {A = ℕ} 0 1 = cc in
+      absurd (omega arith)
 
--- a count is answered for what its receiver takes
-module _ (n s c : ℕ) (out : List ℕ) (m : Message) (k : ℕ) (e : wrote n s c out m .answer ≡ writing.Bytes k) where
-  refused : {A : Type 0} (r : Refusal) → writing.Refused r ≡ writing.Bytes k → A
-  refused r h = let z : _≡_ {A = ℕ} 0 1 = cc in absurd (omega arith)
-
-  counted : valid n s (m .to) m ≡ true
-  unfolding wrote
-  counted = go (setupOk n s c) refl (ltb (length out) 256) refl (valid n s (m .to) m) refl
+  some-message : sameFields fs (fieldsOf (messageFrom fs)) ≡ true
+  unfolding wroteFields wroteMisfit
+  some-message = go (sameFields fs (fieldsOf (messageFrom fs))) refl (setupOk n s c) refl (ltb (length out) 256) refl
     where
-      go : (a : Bool) → setupOk n s c ≡ a → (b : Bool) → ltb (length out) 256 ≡ b → (v : Bool) → valid n s (m .to) m ≡ v → valid n s (m .to) m ≡ true
-      go false p b q v r = refused why.Setup (rw p at e)
-      go true p true q v r = refused why.Room (rw (p, q) at e)
-      go true p false q false r = refused why.Message (rw (p, q, r) at e)
-      go true p false q true r = r
+      go : (b : Bool) → sameFields fs (fieldsOf (messageFrom fs)) ≡ b → (t : Bool) → setupOk n s c ≡ t → (l : Bool) → ltb (length out) 256 ≡ l
+          → sameFields fs (fieldsOf (messageFrom fs)) ≡ true
+      go true p t q l h = p
+      go false p false q l h = refused why.Setup (rw (p, q))
+      go false p true q true h = refused why.Room (rw (p, q, h))
+      go false p true q false h = refused (refusalOf (partsOf (getD fs 0 0)) (misfit fs)) (rw (p, q, h))
 
--- so it is answered for fields of a message alone
-some-message : (n s c : ℕ) (out fs : List ℕ) (k : ℕ) → wrote n s c out (messageOf fs) .answer ≡ writing.Bytes k → sameFields fs (fieldsOf (messageFrom fs)) ≡ true
-unfolding messageOf
-some-message n s c out fs k h = go (sameFields fs (fieldsOf (messageFrom fs))) refl
-  where
-    go : (b : Bool) → sameFields fs (fieldsOf (messageFrom fs)) ≡ b → sameFields fs (fieldsOf (messageFrom fs)) ≡ true
-    go true e = e
-    go false e = absurd (none-valid n s 0 (counted n s c out noMessage k (rw e at h)))
+-- fields of a message are written as that message
+as-message : (n s c : ℕ) (out fs : List ℕ) → sameFields fs (fieldsOf (messageFrom fs)) ≡ true → wroteFields n s c out fs ≡ wrote n s c out (messageFrom fs)
+unfolding wroteFields
+as-message n s c out fs e = rw e
 
 -- number 0 stands for a count, and for a message that was read
 writing-zero : (a : Writing) → 0 ≡ writingNumber a → a ≡ writing.Bytes (writingCount a)
@@ -243,34 +235,40 @@ to-is m fs e = ap (λ (l : List ℕ). getD l 2 0) e
 
 -- Written fields read back equal: where the writer answers a count, so many bytes of the room are read by the copy named in `to` as
 -- the fields that were given.
-pub written-fields-read : (n s c : ℕ) (out fs : List ℕ) (k : ℕ) (o : List ℕ) (r : ℕ) (gs : List ℕ) → length fs ≡ 18 → ((i : ℕ) → getD fs i 0 < 256 ^ 8)
-    → Writes (wrote n s c out (messageOf fs)) 0 k o → Reads (readMessage n s (getD fs 2 0) (take k o)) r gs → (r ≡ 0) × (gs ≡ fs)
-unfolding messageOf
-written-fields-read n s c out fs k o r gs l small (w0, (wk, wo)) (rn, rf) =
-    let m : Message = messageOf fs in
-    let e : wrote n s c out m .answer ≡ writing.Bytes k = writing-zero (wrote n s c out m .answer) w0 ∙ ap writing.Bytes (sym wk) in
-    let same = some-message n s c out fs k e in
-    let fits : MessageFits m = rw same (messageFrom-fits fs (small 10)) in
+pub written-fields-read : (n s c : ℕ) (out fs : List ℕ) (k a : ℕ) (o : List ℕ) (r : ℕ) (gs : List ℕ) (i : ℕ) → length fs ≡ 18 → ((i : ℕ) → getD fs i 0 < 256 ^ 8)
+    → Writes (wroteFields n s c out fs) 0 k a o → Reads (readMessage n s (getD fs 2 0) (take k o)) r gs i → (r ≡ 0) × (gs ≡ fs)
+written-fields-read n s c out fs k a o r gs i l small (w0, (wk, (wa, wo))) (rn, (rf, ra)) =
+    let m : Message = messageFrom fs in
+    let f : wroteFields n s c out fs .answer ≡ writing.Bytes k = writing-zero (wroteFields n s c out fs .answer) w0 ∙ ap writing.Bytes (sym wk) in
+    let same = some-message n s c out fs k f in
+    let told : wroteFields n s c out fs ≡ wrote n s c out m = as-message n s c out fs same in
+    let e : wrote n s c out m .answer ≡ writing.Bytes k = sym (ap (λ (w : Wrote). w .answer) told) ∙ f in
+    let fits : MessageFits m = messageFrom-fits fs (small 10) in
     let back : fieldsOf m ≡ fs = message-fields fs l same in
     let to : m .to ≡ getD fs 2 0 = to-is m fs back in
+    let room : o ≡ wrote n s c out m .out = wo ∙ ap (λ (w : Wrote). w .out) told in
     let x : readMessage n s (m .to) (take k (wrote n s c out m .out)) ≡ record { answer = reading.Valid; message = m } = written-read n s c out m k fits e in
-    let y : readMessage n s (getD fs 2 0) (take k o) ≡ record { answer = reading.Valid; message = m } = rw (← to, wo) x in
+    let y : readMessage n s (getD fs 2 0) (take k o) ≡ record { answer = reading.Valid; message = m } = rw (← to, room) x in
     (rn ∙ ap (λ (z : Received). readingNumber (z .answer)) y, rf ∙ ap (λ (z : Received). readValues (z .answer) (z .message)) y ∙ back)
 
 -- what was read fits
 read-fits : (n s c : ℕ) (b : List ℕ) → ((i : ℕ) → getD b i 0 < 256) → readMessage n s c b .answer ≡ reading.Valid → MessageFits (readMessage n s c b .message)
-unfolding readMessage validBytes
+unfolding validBytes
 read-fits n s c b byte e = go (setupOk n s c) refl (validBytes n s c b) refl
   where
-    unread : {A : Type 0} (r : Refusal) → reading.Refused r ≡ reading.Valid → A
-    unread r h = let z : _≡_ {A = ℕ} 0 1 = cc in absurd (omega arith)
+    no : {A : Type 0} (r : Refusal) → readMessage n s c b ≡ unread r → A
+    no r h =
+        let x : reading.Refused r ≡ reading.Valid = ap (λ (z : Received). z .answer) (sym h) ∙ e in
+        let z : _≡_ {A = ℕ} 0 1 = cc in
+        absurd (omega arith)
 
     go : (a : Bool) → setupOk n s c ≡ a → (v : Bool) → validBytes n s c b ≡ v → MessageFits (readMessage n s c b .message)
-    go false q v h = unread why.Setup (rw q at e)
-    go true q false h = unread why.Message (rw (q, h) at e)
+    go false q v h = no why.Setup (read-is n s c b ∙ rw q)
+    go true q false h = no (whyRead n s c b) (read-is n s c b ∙ rw (q, h))
     go true q true h =
         let p = and-true (framed b && opFits b) _ h .0 in
-        rw (q, h) (messageAt-fits b byte (framed-is b (and-true (framed b) (opFits b) p .0)))
+        let x : readMessage n s c b ≡ record { answer = reading.Valid; message = messageAt b } = read-is n s c b ∙ rw (q, h) in
+        rw x (messageAt-fits b byte (framed-is b (and-true (framed b) (opFits b) p .0)))
 
 front : (l v : List ℕ) → splice l 0 v ≡ v ++ drop (length v) l
 unfolding splice
@@ -278,15 +276,16 @@ front l v = let n : 0 + length v ≡ length v = omega arith in rw n
 
 -- Accepted bytes write back equal: given the fields that were read, the writer counts as many bytes as were read and writes them; the
 -- later ones of the room stay.
-pub accepted-bytes-written : (n s c d : ℕ) (b out fs : List ℕ) (r k : ℕ) (o : List ℕ) → ((i : ℕ) → getD b i 0 < 256) → setupOk n s d ≡ true → 256 ≤ length out
-    → Reads (readMessage n s c b) 0 fs → Writes (wrote n s d out (messageOf fs)) r k o → (r ≡ 0) × ((k ≡ length b) × (o ≡ b ++ drop (length b) out))
-accepted-bytes-written n s c d b out fs r k o byte p l (r0, rf) (wn, (wk, wo)) =
+pub accepted-bytes-written : (n s c d : ℕ) (b out fs : List ℕ) (i r k a : ℕ) (o : List ℕ) → ((i : ℕ) → getD b i 0 < 256) → setupOk n s d ≡ true → 256 ≤ length out
+    → Reads (readMessage n s c b) 0 fs i → Writes (wroteFields n s d out fs) r k a o → (r ≡ 0) × ((k ≡ length b) × (o ≡ b ++ drop (length b) out))
+accepted-bytes-written n s c d b out fs i r k a o byte p l (r0, (rf, ra)) (wn, (wk, (wa, wo))) =
     let m : Message = readMessage n s c b .message in
     let e : readMessage n s c b .answer ≡ reading.Valid = reading-zero (readMessage n s c b .answer) r0 in
     let f : fs ≡ fieldsOf m = rf ∙ ap (λ (a : Reading). readValues a m) e in
-    let q : messageOf fs ≡ m = ap messageOf f ∙ fields-messageOf m (read-fits n s c b byte e) in
-    let w : wrote n s d out (messageOf fs) ≡ record { answer = writing.Bytes (length b); out = splice out 0 b } =
-    ap (wrote n s d out) q ∙ read-written n s c d b out byte p l e in (
+    let fit = read-fits n s c b byte e in
+    let q : wroteFields n s d out (fieldsOf m) ≡ wrote n s d out m = as-message n s d out (fieldsOf m) (fields-same m fit) ∙ ap (wrote n s d out) (fields-message m fit) in
+    let w : wroteFields n s d out fs ≡ record { answer = writing.Bytes (length b); out = splice out 0 b } =
+    ap (wroteFields n s d out) f ∙ q ∙ read-written n s c d b out byte p l e in (
       wn ∙ ap (λ (z : Wrote). writingNumber (z .answer)) w,
       (wk ∙ ap (λ (z : Wrote). writingCount (z .answer)) w, wo ∙ ap (λ (z : Wrote). z .out) w ∙ front out b),
     )

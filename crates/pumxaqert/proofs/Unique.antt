@@ -2,21 +2,22 @@
 use mathlib.Core.Path.{_≡_, sym, _∙_}
 use mathlib.Core.List.{List}
 use Prim.Native.Nat.{ℕ}
-use Rattle.wire.specs.Calls.{readMessage, wrote}
+use Rattle.wire.specs.Calls.{readMessage}
 use Rattle.table.specs.Calls.{blanked, blankedTable, judged, partStart, partLength, lengthOf, blankingNumber, judgingNumber}
 use Rattle.log.specs.Events.{Outcome, requested, received, recovered, nudged, answerNumber}
 use Rattle.order.specs.Calls.{settled, Handed, handed, settlingNumber, settlingValues, handingNumber, handingCount}
-use Rattle.pumxaqert.specs.Fields.{messageOf}
+use Rattle.pumxaqert.specs.Fields.{wroteFields}
 use Rattle.pumxaqert.specs.Flat.{answerValues}
 use Rattle.pumxaqert.proofs.Laws.{Reads, Writes}
 
-pub pumxaqert-read-message-unique : (n s c : ℕ) (b : List ℕ) (r q : ℕ) (f g : List ℕ) → Reads (readMessage n s c b) r f → Reads (readMessage n s c b) q g
-    → (r ≡ q) × (f ≡ g)
-pumxaqert-read-message-unique n s c b r q f g x y = (x .0 ∙ sym (y .0), x .1 ∙ sym (y .1))
+pub pumxaqert-read-message-unique : (n s c : ℕ) (b : List ℕ) (r q : ℕ) (f g : List ℕ) (i j : ℕ) → Reads (readMessage n s c b) r f i → Reads (readMessage n s c b) q g j
+    → (r ≡ q) × (f ≡ g) × (i ≡ j)
+pumxaqert-read-message-unique n s c b r q f g i j x y = (x .0 ∙ sym (y .0), x .1 .0 ∙ sym (y .1 .0), x .1 .1 ∙ sym (y .1 .1))
 
-pub pumxaqert-write-message-unique : (n s c : ℕ) (out fs : List ℕ) (r q k l : ℕ) (o p : List ℕ) → Writes (wrote n s c out (messageOf fs)) r k o
-    → Writes (wrote n s c out (messageOf fs)) q l p → (r ≡ q) × (k ≡ l) × (o ≡ p)
-pumxaqert-write-message-unique n s c out fs r q k l o p x y = (x .0 ∙ sym (y .0), x .1 .0 ∙ sym (y .1 .0), x .1 .1 ∙ sym (y .1 .1))
+pub pumxaqert-write-message-unique : (n s c : ℕ) (out fs : List ℕ) (r q k l i j : ℕ) (o p : List ℕ) → Writes (wroteFields n s c out fs) r k i o
+    → Writes (wroteFields n s c out fs) q l j p → (r ≡ q) × (k ≡ l) × (i ≡ j) × (o ≡ p)
+pumxaqert-write-message-unique n s c out fs r q k l i j o p x y =
+    (x .0 ∙ sym (y .0), x .1 .0 ∙ sym (y .1 .0), x .1 .1 .0 ∙ sym (y .1 .1 .0), x .1 .1 .1 ∙ sym (y .1 .1 .1))
 
 -- what an event's call ensures of its number, the values, the table and the room
 abbrev Gives : Outcome → ℕ → List ℕ → List ℕ → List ℕ → Type 0

@@ -21,9 +21,11 @@ use paper::Refusal;
 use wire::refusal_of;
 ghost use mathlib.Core.Path.{_≡_};
 ghost use Prim.Native.Nat.{_%_, _<_};
-ghost use mathlib.Core.Bool.{cond};
+ghost use mathlib.Core.Bool.{_||_, cond};
+ghost use lib.Dec.{eqb};
 ghost use lib.ListN.{getD};
 ghost use Rattle.paper.specs.Message.{partsOf};
+ghost use Rattle.paper.specs.Valid.{hasField};
 ghost use Rattle.paper.specs.declared.Field.the-variants as field;
 ghost use Rattle.wire.specs.Calls.{refusalOf};
 ghost use Rattle.pumxaqert.specs.Fields.{otherBallot, fieldsOf, commandFrom, bodyFrom, depsFrom, messageFrom, sameFields, fieldOf, most, carriedOnly, firstLarge, misfit};
@@ -246,16 +248,25 @@ fn most(i: usize) -> u64
     all[i]
 }
 
+// A number is 0 where the kind carries none.
+fn carried_or_zero(p: Parts, f: &[u64; 18], i: usize) -> bool
+    requires { ⌜ i < 18 ⌝ }
+    ensures { λ r. ⌜ r ≡ (hasField p (fieldOf p i) || eqb (getD (now (f .entry)) i 0) 0) ⌝ }
+{
+    if has_field(p, field_of(p, i)) {
+        return true;
+    }
+    f[i] == 0
+}
+
 fn carried_only(p: Parts, f: &[u64; 18]) -> bool
     ensures { λ r. ⌜ r ≡ carriedOnly p (now (f .entry)) ⌝ }
 {
     let mut left = 18;
     while 0 < left {
         left -= 1;
-        if !has_field(p, field_of(p, left)) {
-            if f[left] != 0 {
-                return false;
-            }
+        if !carried_or_zero(p, f, left) {
+            return false;
         }
     }
     true

@@ -14,7 +14,7 @@ use Rattle.paper.specs.Deps.{depsOk, sameDeps, covers, joinFrom}
 use Rattle.paper.specs.Ballot.{ballotOk, lead}
 use Rattle.paper.specs.Vote.{blank, member, sameVote, noneIsBlank, voteOk, toldOk}
 use Rattle.paper.specs.Message.{noMessage, rowOf}
-use Rattle.paper.specs.Valid.{valid, firstFailing, firstOf, holdsOf}
+use Rattle.paper.specs.Valid.{valid, firstFailing, firstOf, holdsOf, entryClauses}
 use Rattle.paper.specs.declared.Op.the-variants.{Write}
 use Rattle.paper.specs.declared.Command.{Command}
 use Rattle.paper.specs.declared.Message.{Message}

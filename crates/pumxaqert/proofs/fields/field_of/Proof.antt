@@ -1,0 +1,22 @@
+use mathlib.Core.Path.{_≡_, ap}
+use lib.ListN.{getD}
+use Rattle.pumxaqert.specs.Fields.{numberFields}
+use borrow.Author.Needs.{needs}
+use Rattle.pumxaqert.proofs.fields.field_of.Statement.{statement}
+use Rattle.pumxaqert.proofs.fields.field_of.Tie as tie
+
+other-field-requires : tie.Need-other-field-requires
+other-field-requires c κs = search needs
+
+mul-result : tie.Need-mul-result
+mul-result c = search needs
+
+array-copy-out-result : tie.Need-array-copy-out-result
+array-copy-out-result c = search needs
+
+returns : tie.Need-returns
+unfolding numberFields
+returns c = rw (c .before .other-field .ensures)
+
+pub field-of-spec : {M : Type 1} → statement M
+field-of-spec = tie.close (tie.spec other-field-requires mul-result array-copy-out-result returns)
