@@ -134,9 +134,13 @@ pub fn put_hex(out: Text, room: &[u8], k: usize) -> Text {
     put_pairs(next, bytes)
 }
 
-// A space, `refused` and the paper's number of the refusal.
+// A space, `refused`, the paper's number of the refusal, and behind it the offset where a field is wrong.
 pub fn put_refused(out: Text, why: Refusal) -> Text {
-    put_number(put_bytes(out, b" refused"), wide32(number_of(why)))
+    let told = put_number(put_bytes(out, b" refused"), wide32(number_of(why)));
+    match why {
+        Refusal::WrongField(offset) => put_number(told, offset),
+        _ => told,
+    }
 }
 
 // The answer to a line that is not understood.
