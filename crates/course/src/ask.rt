@@ -24,7 +24,7 @@ fn say_settled(c: usize, o: usize, j: usize, k: Command) {
     finish(put_command(begin(b"  copy #: #.# is settled: ", c, o, j), k));
 }
 
-pub fn say_refused(c: usize, why: Refusal) {
+fn say_refused(c: usize, why: Refusal) {
     finish(put_refusal(begin(b"  copy #:", c, 0, 0), why));
 }
 

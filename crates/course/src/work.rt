@@ -1,13 +1,14 @@
 // An event's course at a copy: the library's answer, the save, the sending. A cut takes the rest.
-use crate::ask::say_refused;
 use crate::turn::Turn;
 use crate::turn::halted;
 use crate::turn::went;
 use log::Answer;
+use paper::Refusal;
 use say::held::put_part;
 use say::message::put_message;
 use say::value::begin;
 use say::value::say;
+use say::wrong::put_wrong;
 use scene::Scene;
 use scene::copies::cut_before_saving;
 use scene::copies::cut_before_sending;
@@ -97,12 +98,14 @@ fn save_and_send(
     send_all(all, w, c, room, written)
 }
 
-fn answered(all: &mut [u8], w: Scene, c: usize, answer: Answer, room: &[u8]) -> Turn {
+fn refused(w: Scene, c: usize, b: &[u8], why: Refusal) -> Turn {
+    finish(put_wrong(begin(b"  copy #:", c, 0, 0), w, c, b, why));
+    went(w)
+}
+
+fn answered(all: &mut [u8], w: Scene, c: usize, b: &[u8], answer: Answer, room: &[u8]) -> Turn {
     match answer {
-        Answer::Refused(why) => {
-            say_refused(c, why);
-            went(w)
-        }
+        Answer::Refused(why) => refused(w, c, b, why),
         Answer::Event {
             owner,
             number,
@@ -127,5 +130,5 @@ fn on_table(t: &mut [u8], w: Scene, c: usize, what: Event, b: &[u8], room: &mut 
 pub fn event(all: &mut [u8], w: Scene, c: usize, what: Event, b: &[u8]) -> Turn {
     let mut room = [0u8; 256];
     let answer = on_table(table_mut(&mut *all, w, c), w, c, what, b, &mut room);
-    answered(all, w, c, answer, &room)
+    answered(all, w, c, b, answer, &room)
 }

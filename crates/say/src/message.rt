@@ -52,14 +52,18 @@ fn put_body(out: Text, n: usize, body: Body, deps: [u16; 7]) -> Text {
 }
 
 // The kinds' names stand in the order of the paper's numbers.
+pub fn put_kind(out: Text, k: usize) -> Text {
+    put_text(
+        out,
+        b"|PreAccept|PreAcceptOK|Accept|AcceptOK|Commit|Prepare|PrepareOK|Nack",
+        k,
+    )
+}
+
 fn put_fields(out: Text, n: usize, m: Message) -> Text {
     let body = m.body;
     let deps = m.deps;
-    let name = put_text(
-        out,
-        b"|PreAccept|PreAcceptOK|Accept|AcceptOK|Commit|Prepare|PrepareOK|Nack",
-        wide8(kind_of(body)),
-    );
+    let name = put_kind(out, wide8(kind_of(body)));
     let v = [wide8(m.owner), wide16(m.number), wide32(m.ballot), 0];
     put_body(put_form(name, b" #.# ballot #", v), n, body, deps)
 }

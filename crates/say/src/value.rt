@@ -59,13 +59,13 @@ pub fn put_proposal(out: Text, n: usize, k: Command, deps: [u16; 7]) -> Text {
     put_deps(put_bytes(put_command(out, k), b" after "), n, deps)
 }
 
-// A space, `refused`, the number and what it means.
+// A space, `refused`, the number and what it means; of a message's bytes `wrong` has more to tell. No refusal is 3.
 pub fn put_refusal(out: Text, why: Refusal) -> Text {
     put_text(
         put_refused(out, why),
         b"|: the setup is not the table's\
             |: there is no room for messages\
-            |: the message is not valid\
+            |\
             |: only reads and writes are requested\
             |: all numbers of this copy are used\
             |: there is no such instance\
