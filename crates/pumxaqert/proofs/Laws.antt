@@ -1,6 +1,6 @@
 -- Answers as numbers: one law for each outcome. Assumes nothing.
 use mathlib.Core.Path.{_≡_, refl, sym, ap, _∙_}
-use mathlib.Core.Bool.{true, false, cond}
+use mathlib.Core.Bool.{Bool, true, false, cond}
 use mathlib.Core.List.{List, [], _∷_}
 use Prim.Native.Nat.{ℕ, suc, _+_, _-_, _≤_, _<_}
 use native.Mathlib.Omega.{arith}
@@ -8,15 +8,17 @@ use lib.Dec.{leb}
 use borrow.Author.Tests.{lt-ltb, le-ltb, le-leb, lt-leb}
 use lib.ListN.{length, getD, replicate}
 use Rattle.paper.specs.Setup.{setupOk}
-use Rattle.paper.specs.Message.{partsOf, partsIn, votedIn, joinedIn}
+use Rattle.paper.specs.Message.{rowOf, partsOf, partsIn, votedIn, joinedIn}
 use Rattle.paper.specs.Refusal.{numberOf, offsetIn}
 use Rattle.paper.specs.declared.Body.{Body}
 use Rattle.paper.specs.declared.Message.{Message}
 use Rattle.paper.specs.declared.Parts.{Parts}
+use Rattle.paper.specs.declared.Row.{Row}
 use Rattle.paper.specs.declared.Field.{Field}
+use Rattle.paper.specs.declared.Blame.{Blame}
 use Rattle.paper.specs.declared.Blame.the-variants as blame
 use Rattle.paper.specs.declared.Refusal.{Refusal}
-use Rattle.paper.specs.declared.Refusal.the-variants.{Setup, Room}
+use Rattle.paper.specs.declared.Refusal.the-variants.{Setup, Room, UnknownKind, WrongLength}
 use Rattle.wire.specs.declared.Reading.{Reading}
 use Rattle.wire.specs.declared.Reading.the-variants as reading
 use Rattle.wire.specs.declared.Received.{Received}
@@ -26,7 +28,7 @@ use Rattle.order.specs.declared.Settling.the-variants as settling
 use Rattle.paper.specs.Command.{opNumber}
 use Rattle.paper.specs.declared.Command.{Command}
 use Rattle.order.specs.Calls.{settlingValues}
-use Rattle.pumxaqert.specs.Fields.{otherBallot, fieldsOf, readValues, messageFrom, sameFields, fieldOf, most, firstLarge, misfit, wroteMisfit, wroteFields}
+use Rattle.pumxaqert.specs.Fields.{otherBallot, fieldsOf, readValues, messageFrom, sameFields, fieldOf, most, carriedOnly, firstLarge, misfit, wroteMisfit, wroteFields}
 
 pub other-joined : (b : Body) → partsIn b .joined ≡ true → joinedIn b ≡ otherBallot b
 unfolding otherBallot
@@ -85,6 +87,30 @@ module _ (n s c : ℕ) (out fs g : List ℕ) {m : Message} (em : m ≡ messageFr
   unfolding wroteMisfit
   fields-misfit e p l er = ap (λ (r : Refusal). unwritten r out) er ∙ (rw (p, le-ltb (length out) 256 l)) ∙ no-message e
 
+-- numbers that are no message's, outcome by outcome
+module _ (fs : List ℕ) {r : Row} (row : r ≡ rowOf (getD fs 0 0)) where
+  pub misfit-kind : r .known ≡ false → UnknownKind ≡ refusalOf (partsOf (getD fs 0 0)) (misfit fs)
+  unfolding misfit
+  misfit-kind h = let k : rowOf (getD fs 0 0) .known ≡ false = sym (ap (λ (w : Row). w .known) row) ∙ h in rw k
+
+  module _ (h : r .known ≡ true) {t : Bool} (e : t ≡ carriedOnly (r .parts) fs) where
+    known : rowOf (getD fs 0 0) .known ≡ true
+    known = sym (ap (λ (w : Row). w .known) row) ∙ h
+
+    only : t ≡ carriedOnly (partsOf (getD fs 0 0)) fs
+    only = e ∙ ap (λ (w : Row). carriedOnly (w .parts) fs) row
+
+    pub misfit-length : t ≡ false → WrongLength ≡ refusalOf (partsOf (getD fs 0 0)) (misfit fs)
+    unfolding misfit
+    misfit-length f = let c : carriedOnly (partsOf (getD fs 0 0)) fs ≡ false = sym only ∙ f in rw (known, c)
+
+    pub misfit-rest : t ≡ true → {x : Blame} → x ≡ firstLarge (r .parts) fs 17 1 → refusalOf (r .parts) x ≡ refusalOf (partsOf (getD fs 0 0)) (misfit fs)
+    unfolding misfit
+    misfit-rest f ex =
+        let c : carriedOnly (partsOf (getD fs 0 0)) fs ≡ true = sym only ∙ f in
+        let q : r .parts ≡ partsOf (getD fs 0 0) = ap (λ (w : Row). w .parts) row in
+        rw (ex, q, known, c)
+
 -- a written message, as numbers
 pub wrote-as : {x : Writing} {o : List ℕ} {w : Wrote} → x ≡ w .answer → o ≡ w .out → (y : Writing) → x ≡ y
     → Writes w (writingNumber y) (writingCount y) (writingOffset y) o
@@ -106,7 +132,7 @@ module _ (p : Parts) (fs : List ℕ) where
   module _ (i : ℕ) (l : Left i) (h : i < 18) {k : ℕ} (ek : k ≡ getD most i 0) where
     pub large : k < getD fs i 0 → {f : Field} → f ≡ fieldOf p i → blame.Of f ≡ firstLarge p fs 17 1
     large b ef =
-        let t : leb (getD fs i 0) (getD most i 0) ≡ false = lt-leb _ _ (omega arith) in
+        let t : leb (getD fs i 0) (getD most i 0) ≡ false = lt-leb (getD fs i 0) (getD most i 0) (omega arith) in
         ap blame.Of ef ∙ (rw t) ∙ sym (one i h) ∙ l .rest
 
     pub fits : getD fs i 0 ≤ k → Left (i + 1)

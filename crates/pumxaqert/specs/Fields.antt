@@ -67,14 +67,17 @@ messageFrom fs =
 unfoldable pub sameFields : List ℕ → List ℕ → Bool
 sameFields f g = allBelow 18 (λ i. eqb (getD f i 0) (getD g i 0))
 
--- the fields by their place among the numbers; the first is the kind, and counts as none
-unfoldable pub numberFields : Parts → List Field
-numberFields p =
-    field.From ∷ field.From ∷ field.To ∷ field.Owner ∷ field.Number ∷ field.Ballot ∷ cond (p .joined) field.Joined field.Voted ∷ field.Status ∷ field.Op
-    ∷ field.Key ∷ field.Edit ∷ field.Entry 0 ∷ field.Entry 1 ∷ field.Entry 2 ∷ field.Entry 3 ∷ field.Entry 4 ∷ field.Entry 5 ∷ field.Entry 6 ∷ []
+-- the fields by their place among the numbers, with this other ballot; the first is the kind, and counts as none
+unfoldable pub numberFields : Field → List Field
+numberFields other =
+    field.From ∷ field.From ∷ field.To ∷ field.Owner ∷ field.Number ∷ field.Ballot ∷ other ∷ field.Status ∷ field.Op ∷ field.Key ∷ field.Edit
+    ∷ field.Entry 0 ∷ field.Entry 1 ∷ field.Entry 2 ∷ field.Entry 3 ∷ field.Entry 4 ∷ field.Entry 5 ∷ field.Entry 6 ∷ []
+
+abbrev pub otherField : Parts → Field
+otherField p = cond (p .joined) field.Joined field.Voted
 
 abbrev pub fieldOf : Parts → ℕ → Field
-fieldOf p i = getD (numberFields p) i field.From
+fieldOf p i = getD (numberFields (otherField p)) i field.From
 
 -- the most that can stand in each place
 unfoldable pub most : List ℕ

@@ -21,14 +21,13 @@ use paper::Refusal;
 use wire::refusal_of;
 ghost use mathlib.Core.Path.{_≡_};
 ghost use Prim.Native.Nat.{_%_, _<_};
-ghost use mathlib.Core.Bool.{_||_, cond};
+ghost use mathlib.Core.Bool.{_||_};
 ghost use lib.Dec.{eqb};
 ghost use lib.ListN.{getD};
 ghost use Rattle.paper.specs.Message.{partsOf};
 ghost use Rattle.paper.specs.Valid.{hasField};
-ghost use Rattle.paper.specs.declared.Field.the-variants as field;
 ghost use Rattle.wire.specs.Calls.{refusalOf};
-ghost use Rattle.pumxaqert.specs.Fields.{otherBallot, fieldsOf, commandFrom, bodyFrom, depsFrom, messageFrom, sameFields, fieldOf, most, carriedOnly, firstLarge, misfit};
+ghost use Rattle.pumxaqert.specs.Fields.{otherBallot, fieldsOf, commandFrom, bodyFrom, depsFrom, messageFrom, sameFields, otherField, fieldOf, most, carriedOnly, firstLarge, misfit};
 
 fn from8(x: u8) -> u64
     ensures { λ r. ⌜ r ≡ x ⌝ }
@@ -186,7 +185,7 @@ pub fn same_fields(f: &[u64; 18], g: &[u64; 18]) -> bool
 }
 
 fn other_field(p: Parts) -> Field
-    ensures { λ r. ⌜ r ≡ cond (p .joined) field.Joined field.Voted ⌝ }
+    ensures { λ r. ⌜ r ≡ otherField p ⌝ }
 {
     if p.joined { Field::Joined } else { Field::Voted }
 }

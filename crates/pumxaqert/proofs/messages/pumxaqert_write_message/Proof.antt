@@ -1,47 +1,40 @@
+use mathlib.Core.Path.{_∙_}
+use Rattle.pumxaqert.proofs.Laws.{wrote-as}
 use borrow.Author.Needs.{needs}
 use Rattle.pumxaqert.proofs.messages.pumxaqert_write_message.Statement.{statement}
 use Rattle.pumxaqert.proofs.messages.pumxaqert_write_message.Tie as tie
-use Rattle.pumxaqert.proofs.messages.pumxaqert_write_message.Reads as reads
-use Rattle.pumxaqert.proofs.messages.pumxaqert_write_message.Lts as lts
-use Rattle.nouns.proofs.refusal.number_of.Reads as number-of-reads
-use Rattle.nouns.proofs.refusal.offset_in.Reads as offset-in-reads
-use Rattle.pumxaqert.proofs.messages.write_fields.Reads as write-fields-reads
 
--- src/messages.rt:80:9
 write-fields-requires : tie.Need-write-fields-requires
 write-fields-requires c κs = search needs
 
--- src/messages.rt:82:24
 enum-known-x : tie.Need-enum-known-x
 enum-known-x c = search needs
 
--- src/messages.rt:87:26
 enum-known-x-2 : tie.Need-enum-known-x-2
 enum-known-x-2 c = search needs
 
--- src/messages.rt:89:23
 offset-in-requires : tie.Need-offset-in-requires
 offset-in-requires c κs = search needs
 
--- src/messages.rt:90:13
 number-of-requires : tie.Need-number-of-requires
 number-of-requires c κs = search needs
 
--- src/messages.rt:65:1
 same-length : tie.Need-same-length
 same-length c = search needs
 
--- src/messages.rt:65:1
 returns : tie.Need-returns
-returns c = ?
+returns c =
+    let w = c .before .before .before .before .before .write-fields .ensures in
+    wrote-as (w .0) (w .1) _ (c .before .x .given .1)
 
--- src/messages.rt:65:1
 same-length-2 : tie.Need-same-length-2
 same-length-2 c = search needs
 
--- src/messages.rt:65:1
 returns-2 : tie.Need-returns-2
-returns-2 c = ?
+returns-2 c =
+    let w = c .before .before .before .before .before .before .before .write-fields .ensures in
+    let r = wrote-as (w .0) (w .1) _ (c .before .before .before .x2 .given .1) in
+    (c .number-of .ensures ∙ r .0, (r .1 .0, (c .before .offset-in .ensures ∙ r .1 .1 .0, r .1 .1 .1)))
 
 pub pumxaqert-write-message-spec : {M : Type 1} → statement M
 pumxaqert-write-message-spec =
