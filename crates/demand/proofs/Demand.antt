@@ -29,7 +29,7 @@ use Rattle.rules.specs.Events.{requestNumber}
 use Rattle.rules.specs.Order.{found, firstOpen}
 use Rattle.paper.specs.Message.{partsOf}
 use Rattle.wire.specs.Wire.{kindAt, messageAt, validBytes, verdictAt, framed, opFits}
-use Rattle.wire.proofs.Laws.{whyRead, why-not-10}
+use Rattle.wire.proofs.Laws.{whyRead, why-other}
 use Rattle.table.specs.Table.{recordIn, Kept}
 use Rattle.seen.specs.Records.{recordsIn}
 use Rattle.closed.proofs.Laws.{by-cond, tf}
@@ -110,9 +110,11 @@ module _ (n s : ℕ) (setup : Setup n s) where
       rw (gate-is n s c t out (asked n s c t out v) k) (or-else (ltb (length out) 256) why.Room t out _ refl (asked-fine c t out v))
   open-fine c t out k (receive b) =
       let r : Record = recordIn s t (messageAt b .owner) (messageAt b .number) in
+      let other : (k : ℕ) → k < 31 → eqb (numberOf (whyRead n s c b)) k ≡ false = why-other (partsOf (kindAt b)) (verdictAt n s c b) in
+      let ungated : (eqb (numberOf (whyRead n s c b)) 1 || eqb (numberOf (whyRead n s c b)) 11) ≡ false = rw (other 1 (omega arith), other 11 (omega arith)) in
       rw (gate-is n s c t out (receiveOpen n s c t out b) k, receive-open n s c t out b (setup-of n s c t (k .setup)))
       (or-else (ltb (length out) 256) why.Room t out _ refl
-      (or-else (not (validBytes n s c b)) (whyRead n s c b) t out _ refl (or-else (refused10 r (messageAt b)) why.OtherCommit t out _ refl (done t out _ _ _))))
+      (or-else (not (validBytes n s c b)) (whyRead n s c b) t out _ ungated (or-else (refused10 r (messageAt b)) why.OtherCommit t out _ refl (done t out _ _ _))))
   open-fine c t out k (recover o j) =
       let r : Record = recordIn s t o j in
       rw (gate-is n s c t out (recoverOpen n s c t out o j) k)
@@ -166,7 +168,7 @@ module _ (n s : ℕ) (setup : Setup n s) where
       rw (← record-is x y t c (m .owner) (m .number) (valid-instance n s c m g)) (rules-proved.lasting n s setup .unrefused y₀ y st r c m (t .sent b i .among) g) in
       rw (gate-is n s c v out (receiveOpen n s c v out b) (t .copies c .kept l), receive-open n s c v out b (setup-of n s c v (t .copies c .kept l .setup)))
       (by-cond Agrees (ltb (length out) 256) (λ e. ten 2 refl)
-      (λ e. by-cond Agrees (not (validBytes n s c b)) (λ f. why-not-10 (partsOf (kindAt b)) (verdictAt n s c b))
+      (λ e. by-cond Agrees (not (validBytes n s c b)) (λ f. ten _ (why-other (partsOf (kindAt b)) (verdictAt n s c b) 10 (omega arith)))
       (λ f. by-cond Agrees (refused10 (recordIn s v (m .owner) (m .number)) m) (λ g. tf _ g (same (not-false _ f))) (λ g. ten 0 refl))))
 
   -- the table in memory is sound

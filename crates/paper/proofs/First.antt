@@ -19,7 +19,6 @@ use Rattle.paper.specs.declared.Field.the-variants as field
 use Rattle.paper.specs.declared.Blame.{Blame}
 use Rattle.paper.specs.declared.Blame.the-variants as blame
 use Rattle.paper.specs.declared.Verdict.the-variants as verdict
-use Rattle.paper.specs.declared.Parts.{Parts}
 use Rattle.paper.specs.declared.Message.{Message}
 use Rattle.paper.proofs.Laws.{and-true, allBelow-at}
 use Rattle.paper.proofs.Bodies.{untold-voted, untold-status, no-command, unjoined, stale}
@@ -90,9 +89,9 @@ module _ (counts : Clause → Bool) (place : Clause → ℕ) where
             listed = inl (sym e);
             fails = rw (← e) p;
             before = λ c z m d l.
-            let ct : t ≡ true = sym q ∙ ap counts e ∙ c in
-            let r2 : rising (place y) ys ≡ true = and-true (leb k (place y)) _ (rw ct at r) .1 in
-            ⊎-elim (λ (s : z ≡ y). let w : place z ≡ place x = ap place (s ∙ e) in absurd (omega arith)) (λ (n : In z ys). late (place y) (place x) f ys (let w : place y ≡ place x = ap place e in omega arith) r2 z n d l) m;
+                let ct : t ≡ true = sym q ∙ ap counts e ∙ c in
+                let r2 : rising (place y) ys ≡ true = and-true (leb k (place y)) _ (rw ct at r) .1 in
+                ⊎-elim (λ (s : z ≡ y). let w : place z ≡ place x = ap place (s ∙ e) in absurd (omega arith)) (λ (n : In z ys). late (place y) (place x) f ys (let w : place y ≡ place x = ap place e in omega arith) r2 z n d l) m;
           }
 
 -- the order in which the blamed are tried

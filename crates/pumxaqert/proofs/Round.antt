@@ -16,11 +16,9 @@ use Rattle.paper.specs.Logic.{allBelow}
 use Rattle.paper.specs.Command.{opNumber}
 use Rattle.paper.specs.Setup.{setupOk}
 use Rattle.paper.specs.Fits.{CommandFits, DepsFit, CarriedFits, MessageFits}
-use Rattle.paper.specs.Message.{rowOf, partsOf, partsIn, kindOf, noneCarried, commandCarried, joinedCarried, carriedIn, bodyOf, commandIn, votedIn, statusIn, joinedIn, noMessage}
-use Rattle.paper.specs.Valid.{valid}
+use Rattle.paper.specs.Message.{rowOf, partsOf, partsIn, kindOf, noneCarried, commandCarried, joinedCarried, carriedIn, bodyOf, commandIn, votedIn, statusIn, joinedIn}
 use Rattle.paper.proofs.Laws.{and-true, allBelow-at}
 use Rattle.paper.proofs.Numbers.{numberOf-pos}
-use Rattle.paper.proofs.Valid.{clauses-of}
 use Rattle.paper.specs.declared.Command.{Command}
 use Rattle.paper.specs.declared.Body.{Body}
 use Rattle.paper.specs.declared.Body.the-variants.{PreAccept, PreAcceptOk, Accept, AcceptOk, Commit, Prepare, PrepareOk, Nack}

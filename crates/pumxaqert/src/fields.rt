@@ -187,7 +187,11 @@ pub fn same_fields(f: &[u64; 18], g: &[u64; 18]) -> bool
 fn other_field(p: Parts) -> Field
     ensures { λ r. ⌜ r ≡ otherField p ⌝ }
 {
-    if p.joined { Field::Joined } else { Field::Voted }
+    if p.joined {
+        Field::Joined
+    } else {
+        Field::Voted
+    }
 }
 
 // The field that a number stands for.

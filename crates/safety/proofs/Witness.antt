@@ -260,7 +260,7 @@ pub record Larger : Type 0 where
 pub shown : Shown × Larger
 unfolding fast slow out lost saved-edit told five-waits five-fast five-slow five-perhaps five-asks five-afresh seven-waits seven-fast seven-two seven-slow
     seven-perhaps seven-asks seven-afresh write deps put requestNumber lowestBlank isBlank sameVote sameCommand sameDeps allBelow onRequest
-    Rattle.rules.specs.Request.request afresh others absent bitsBelow messagesFrom member valid firstFailing firstOf holdsOf rowOf ballotOk lead commandOk
+    Rattle.rules.specs.Request.request afresh others absent bitsBelow messagesFrom member valid firstFailing firstOf holdsOf entryClauses rowOf ballotOk lead commandOk
     depsOk voteOk toldOk noneIsBlank instanceOk conflict differs onMessage byKind preAccept seenFrom seenEntry highest met interfere joinFrom
     onPreAcceptOk awaited collect preAcceptedBy fastEnough slowEnough someEnough matching different committing acceptingJoin accepting joinAll
     accept onAcceptOk acceptedBy commit prepare onPrepareOk preparedBy quorum decide acceptedFrom afreshCommand topVoted maybeFast lowestFrom

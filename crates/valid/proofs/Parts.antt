@@ -1,22 +1,19 @@
 -- The verdict is that of the groups, one after the other. Assumes nothing.
 use Prim.Native.Nat.{ℕ, zero, suc, _+_, _≤_, _<_}
 use mathlib.Core.Path.{_≡_, refl, sym, ap, ap₂, _∙_}
-use mathlib.Core.Bool.{Bool, true, false, _&&_, _||_, not, cond}
+use mathlib.Core.Bool.{Bool, true, false, _&&_, cond}
 use mathlib.Core.List.{List, [], _∷_, _++_}
 use native.Mathlib.Omega.{arith}
 use lib.Dec.{leb, ltb, eqb}
 use lib.ListN.{getD, getD-replicate}
 use borrow.Author.Tests.{eqb-true, le-leb, leb-true, eq-eqb}
 use Rattle.paper.specs.Logic.{implies}
-use Rattle.paper.specs.Command.{noop, isNoop, keyOk, editOk}
+use Rattle.paper.specs.Command.{keyOk, editOk}
 use Rattle.paper.specs.Ballot.{ballotOk}
 use Rattle.paper.specs.Deps.{entryLimit, entryOk, sameDeps, noDeps}
 use Rattle.paper.specs.Vote.{votedOk, statusOk, votedBelow, noneVoted, noneOp}
-use Rattle.paper.specs.Message.{rowOf, rowIn, kindOf, partsIn, carriedIn, voteIn, joinedIn, isFresh, kept}
-use Rattle.paper.specs.Valid.{toHere, fromAnother, fromLead, toLead, joinedRange, depsCarried, opRange, freshOp, toldEntry, Clause, DepsCarried, EntryRange, ToldEntry, FreshOp, ToldOp, KeyRange, EditRange, Failing, none, first, holdsOf, holds, headClauses, wayClauses, toldClauses, commandClauses, entryClauses, depsClauses, joinedClauses, clauses, firstOf, firstFailing, blameOf, verdictOf, verdictOn}
-use Rattle.paper.specs.declared.Command.{Command}
-use Rattle.paper.specs.declared.Carried.{Carried}
-use Rattle.paper.specs.declared.Body.{Body}
+use Rattle.paper.specs.Message.{rowIn, partsIn, voteIn, joinedIn, isFresh}
+use Rattle.paper.specs.Valid.{toHere, fromAnother, fromLead, toLead, joinedRange, depsCarried, opRange, freshOp, toldEntry, Clause, DepsCarried, EntryRange, ToldEntry, first, holdsOf, holds, headClauses, wayClauses, toldClauses, commandClauses, entryClauses, depsClauses, joinedClauses, clauses, firstOf, firstFailing, blameOf, verdictOf, verdictOn}
 use Rattle.paper.specs.declared.Vote.{Vote}
 use Rattle.paper.specs.declared.Row.{Row}
 use Rattle.paper.specs.declared.Message.{Message}

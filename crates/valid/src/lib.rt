@@ -253,7 +253,11 @@ fn highest(s: usize, w: Row, v: Vote) -> usize
     ensures { λ r. ⌜ r ≡ highest s w v ⌝ }
 {
     let parts = w.parts;
-    if both(parts.told, equal(wide8(v.status), 0)) { 0 } else { s }
+    if both(parts.told, equal(wide8(v.status), 0)) {
+        0
+    } else {
+        s
+    }
 }
 
 // The first entry that is too large; most messages have none, which is asked at once.

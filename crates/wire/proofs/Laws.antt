@@ -1,6 +1,6 @@
 -- The places of the parts, lengths of messages, and the outcomes of the two calls, one law each. Assumes nothing.
 use mathlib.Core.Path.{_≡_, refl, sym, ap, _∙_}
-use mathlib.Core.Bool.{Bool, true, false, _&&_, _||_, not, cond, and-eq-true-iff}
+use mathlib.Core.Bool.{Bool, true, false, _||_, not, cond, and-eq-true-iff}
 use mathlib.Core.List.{List, [], _∷_, _++_}
 use Prim.Native.Nat.{ℕ, _+_, _≤_, _<_}
 use native.Mathlib.Omega.{arith}
@@ -229,24 +229,23 @@ module _ (n s c : ℕ) (b : List ℕ) where
       go true p false q = rw (p, q)
       go true p true q = rw (p, q) (valid-verdict n s c (opAt (partsOf (kindAt b)) b) (messageAt b))
 
--- the refusal of a verdict that blames
+-- the refusal of a verdict that blames; of one that does not it is never asked
 pub whyOf : Parts → Verdict → Refusal
-whyOf p verdict.Valid = Setup
+whyOf p verdict.Valid = why.UnknownKind
 whyOf p (verdict.Blamed x) = refusalOf p x
 
 -- it is 31 to 35
-pub why-number : (p : Parts) (x : Blame) → (31 ≤ numberOf (whyOf p (verdict.Blamed x))) × (numberOf (whyOf p (verdict.Blamed x)) ≤ 35)
+pub why-number : (p : Parts) (v : Verdict) → (31 ≤ numberOf (whyOf p v)) × (numberOf (whyOf p v) ≤ 35)
 unfolding whyOf
-why-number p blame.Kind = (omega arith, omega arith)
-why-number p blame.Length = (omega arith, omega arith)
-why-number p blame.Way = (omega arith, omega arith)
-why-number p blame.Lead = (omega arith, omega arith)
-why-number p (blame.Of f) = (omega arith, omega arith)
+why-number p verdict.Valid = (omega arith, omega arith)
+why-number p (verdict.Blamed blame.Kind) = (omega arith, omega arith)
+why-number p (verdict.Blamed blame.Length) = (omega arith, omega arith)
+why-number p (verdict.Blamed blame.Way) = (omega arith, omega arith)
+why-number p (verdict.Blamed blame.Lead) = (omega arith, omega arith)
+why-number p (verdict.Blamed (blame.Of f)) = (omega arith, omega arith)
 
-pub why-not-10 : (p : Parts) (v : Verdict) → numberOf (whyOf p v) ≡ 10 → ⊥
-unfolding whyOf
-why-not-10 p verdict.Valid e = omega arith
-why-not-10 p (verdict.Blamed x) e = omega (arith, e, why-number p x .0)
+pub why-other : (p : Parts) (v : Verdict) (k : ℕ) → k < 31 → eqb (numberOf (whyOf p v)) k ≡ false
+why-other p v k l = ne-eqb _ k (λ e. omega (arith, e, why-number p v .0))
 
 abbrev pub whyRead : ℕ → ℕ → ℕ → List ℕ → Refusal
 whyRead n s c b = whyOf (partsOf (kindAt b)) (verdictAt n s c b)

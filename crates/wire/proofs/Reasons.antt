@@ -1,18 +1,17 @@
 -- 1/12: the offset of a bad field is that of its first byte, within the message, and it is the first: every field that stands before
 -- is in range, and every rule among those holds. Assumes nothing.
-use Prim.Native.Nat.{ℕ, _+_, _*_, _≤_, _<_}
+use Prim.Native.Nat.{ℕ, _+_, _≤_, _<_}
 use mathlib.Core.Path.{_≡_, refl, sym, ap, _∙_}
-use mathlib.Core.Bool.{Bool, true, false, _&&_, cond}
+use mathlib.Core.Bool.{Bool, true, false}
 use mathlib.Core.List.{List}
 use native.Mathlib.Omega.{arith}
 use lib.Dec.{eqb}
 use lib.ListN.{length}
-use borrow.Author.Tests.{eqb-true, ltb-true}
+use borrow.Author.Tests.{ltb-true}
 use Rattle.paper.specs.Setup.{setupOk}
-use Rattle.paper.specs.Message.{rowOf, rowIn, partsOf, partsIn}
-use Rattle.paper.specs.Valid.{depsCarried, Clause, DepsCarried, holds, entryClauses, clauses, first, firstFailing, blameOf, verdictOn, hasField}
+use Rattle.paper.specs.Message.{rowOf, partsOf, partsIn}
+use Rattle.paper.specs.Valid.{Clause, holds, entryClauses, clauses, firstFailing, blameOf, verdictOn, hasField}
 use Rattle.paper.specs.declared.Parts.{Parts}
-use Rattle.paper.specs.declared.Row.{Row}
 use Rattle.paper.specs.declared.Field.{Field}
 use Rattle.paper.specs.declared.Field.the-variants as field
 use Rattle.paper.specs.declared.Blame.{Blame}
@@ -27,8 +26,8 @@ use Rattle.paper.proofs.First.{In, rising, first-of, named, named-carried, blam
 use Rattle.wire.specs.declared.Reading.{Reading}
 use Rattle.wire.specs.declared.Reading.the-variants as reading
 use Rattle.wire.specs.declared.Received.{Received}
-use Rattle.wire.specs.Wire.{headSize, past, commandStart, depsStart, joinedStart, restEnd, lengthOf, kindAt, carriedAt, messageAt, framed, opAt, offsetOf, widthOf, verdictAt}
-use Rattle.wire.specs.Calls.{unread, refusalOf, unlessBlamed, readMessage}
+use Rattle.wire.specs.Wire.{headSize, past, restEnd, lengthOf, kindAt, carriedAt, messageAt, framed, opAt, offsetOf, widthOf, verdictAt}
+use Rattle.wire.specs.Calls.{unread, unlessBlamed, readMessage}
 use Rattle.wire.proofs.Laws.{begins, told-room, command-room, deps-room, joined-room, framed-is}
 
 -- a field stands within a message that has it
@@ -116,7 +115,7 @@ module _ (n s c : ℕ) (b : List ℕ) (h : framed b ≡ true) where
         offset = refl;
         within = omega (arith, field-room p g has, framed-is b h .exact);
         before = λ y i q eq hq l.
-        r .before counts y i (ap (aboutField p) eq ∙ hq) (let z : offsetIn p (blameOf y) ≡ offsetOf p q = ap (offsetIn p) eq in omega arith);
+            r .before counts y i (ap (aboutField p) eq ∙ hq) (let z : offsetIn p (blameOf y) ≡ offsetOf p q = ap (offsetIn p) eq in omega arith);
       }
 
   by-blame : (v : Verdict) → verdictOn n s c (opAt p b) (messageAt b) ≡ v → (a : ℕ) → unlessBlamed p v (messageAt b) .answer ≡ reading.Refused (why.WrongField a)

@@ -1,4 +1,4 @@
-use mathlib.Core.Path.{_≡_, refl, ap₂, _∙_}
+use mathlib.Core.Path.{_≡_, refl, _∙_}
 use mathlib.Core.Bool.{_&&_}
 use Rattle.paper.specs.Logic.{implies}
 use Rattle.paper.specs.Vote.{noneOp}

@@ -1,4 +1,4 @@
-use mathlib.Core.Path.{sym, ap, ap₂, _∙_}
+use mathlib.Core.Path.{sym, ap₂, _∙_}
 use Prim.Native.Nat.{ℕ}
 use Rattle.paper.specs.declared.Vote.{Vote}
 use Rattle.valid.specs.Groups.{bodyVerdict}

@@ -1,4 +1,4 @@
-use mathlib.Core.Path.{_≡_, refl, ap₂, _∙_}
+use mathlib.Core.Path.{refl, ap₂, _∙_}
 use mathlib.Core.Bool.{_&&_}
 use Rattle.paper.specs.declared.Blame.the-variants as blame
 use Rattle.valid.specs.Groups.{wayVerdict}

@@ -1,7 +1,6 @@
 use mathlib.Core.Path.{_≡_, sym, ap, _∙_}
 use mathlib.Core.Bool.{true, false}
 use Rattle.paper.specs.Valid.{hasField}
-use Rattle.paper.specs.declared.Field.{Field}
 use Rattle.pumxaqert.specs.Fields.{fieldOf}
 use borrow.Author.Needs.{needs}
 use Rattle.pumxaqert.proofs.fields.carried_or_zero.Statement.{statement}

@@ -1,4 +1,4 @@
-use mathlib.Core.Path.{sym, ap, ap₂, _∙_}
+use mathlib.Core.Path.{_∙_}
 use borrow.Author.Tests.{not-true, not-false}
 use Rattle.pumxaqert.proofs.Laws.{misfit-kind, misfit-length, misfit-rest}
 use borrow.Author.Needs.{needs}
