@@ -28,7 +28,7 @@ ghost use Rattle.codec.specs.Parts.{commandAt, commandBytes, depsBytes};
 ghost use Rattle.paper.specs.Command.{noop};
 ghost use Rattle.paper.specs.Message.{bodyOf, noMessage};
 ghost use Rattle.wire.specs.Wire.{headSize, commandStart, depsStart, joinedStart, restEnd, lengthOf, kindAt, carriedAt, besideAt, messageAt, OfKind, opAt, offsetOf, widthOf, toldBytes, joinedBytes, part, headBytes, restBytes, messageBytes};
-ghost use Rattle.wire.specs.Calls.{unread, refusalOf, unlessBlamed, readMessage, wrote};
+ghost use Rattle.wire.specs.Calls.{unread, refusalOf, readMessage, wrote};
 
 // How many bytes the head takes, and each part of the rest.
 const HEAD: usize = 10;
@@ -296,18 +296,6 @@ pub fn refusal_of(p: Parts, x: Blame) -> Refusal
     }
 }
 
-fn unless_blamed(p: Parts, x: Verdict, m: Message) -> Received
-    ensures { λ r. ⌜ r ≡ unlessBlamed p x m ⌝ }
-{
-    match x {
-        Verdict::Valid => Received {
-            answer: Reading::Valid,
-            message: m,
-        },
-        Verdict::Blamed(why) => unread(refusal_of(p, why)),
-    }
-}
-
 // Reads a message of any bytes, as received by copy c under the setup n, s.
 pub fn read_message(n: usize, s: usize, c: usize, b: &[u8]) -> Received
     ensures { λ r. ⌜ r ≡ readMessage n s c (now (b .entry)) ⌝ }
@@ -325,7 +313,13 @@ pub fn read_message(n: usize, s: usize, c: usize, b: &[u8]) -> Received
     }
     let op = op_at(row.parts, b);
     let m = message_at(k, row.parts, b);
-    unless_blamed(row.parts, verdict_on(n, s, c, row, op, m), m)
+    match verdict_on(n, s, c, row, op, m) {
+        Verdict::Valid => Received {
+            answer: Reading::Valid,
+            message: m,
+        },
+        Verdict::Blamed(why) => unread(refusal_of(row.parts, why)),
+    }
 }
 
 fn write_head(out: &mut [u8], at: usize, m: Message)

@@ -2,6 +2,7 @@ use mathlib.Core.Path.{sym, ap, _∙_}
 use borrow.Author.Tests.{not-true, not-false}
 use Rattle.paper.specs.Message.{rowIn}
 use Rattle.paper.specs.declared.Message.{Message}
+use Rattle.wire.specs.Calls.{unread}
 use Rattle.wire.proofs.Laws.{of-kind, row-held, received-1, not-known, not-exact, is-framed, judged-read}
 use borrow.Author.Needs.{needs}
 use Rattle.wire.proofs.read_message.Statement.{statement}
@@ -46,11 +47,23 @@ message-at-requires c κs = of-kind _ _ _ (c .before .before .before .before .be
 verdict-on-requires : tie.Need-verdict-on-requires
 verdict-on-requires c κs = row-held _ _ _ (c .before .before .before .before .before .before .before .kind-at .ensures) (c .before .before .before .before .before .before .row-of .ensures) (is-framed _ (c .before .before .before .before .before .before .before .kind-at .ensures) (c .before .before .before .before .before .before .row-of .ensures) (not-false _ (c .before .before .before .before .if2 .left)) (c .before .before .before .rest-end .ensures) (c .before .before .if3 .left)) ∙ ap (λ (m : Message). rowIn (m .body)) (sym (c .message-at .ensures))
 
-unless-blamed-requires : tie.Need-unless-blamed-requires
-unless-blamed-requires c κs = search needs
+enum-told : tie.Need-enum-told
+enum-told c = search needs
+
+enum-known-why : tie.Need-enum-known-why
+enum-known-why c = search needs
+
+refusal-of-requires : tie.Need-refusal-of-requires
+refusal-of-requires c κs = search needs
+
+unread-requires-4 : tie.Need-unread-requires-4
+unread-requires-4 c κs = search needs
 
 returns-4 : tie.Need-returns-4
-returns-4 c = c .unless-blamed .ensures ∙ judged-read _ _ _ _ (sym (c .before .before .before .before .before .before .before .before .before .before .before .setup-ok .ensures) ∙ not-false _ (c .before .before .before .before .before .before .before .before .before .before .if1 .left)) (c .before .before .before .before .before .before .before .before .before .kind-at .ensures) (c .before .before .before .before .before .before .before .before .row-of .ensures) (is-framed _ (c .before .before .before .before .before .before .before .before .before .kind-at .ensures) (c .before .before .before .before .before .before .before .before .row-of .ensures) (not-false _ (c .before .before .before .before .before .before .if2 .left)) (c .before .before .before .before .before .rest-end .ensures) (c .before .before .before .before .if3 .left)) (c .before .before .before .op-at .ensures) (c .before .before .message-at .ensures) (c .before .verdict-on .ensures)
+returns-4 c = judged-read _ _ _ _ (sym (c .before .before .before .before .before .before .before .before .before .before .before .before .setup-ok .ensures) ∙ not-false _ (c .before .before .before .before .before .before .before .before .before .before .before .if1 .left)) (c .before .before .before .before .before .before .before .before .before .before .kind-at .ensures) (c .before .before .before .before .before .before .before .before .before .row-of .ensures) (is-framed _ (c .before .before .before .before .before .before .before .before .before .before .kind-at .ensures) (c .before .before .before .before .before .before .before .before .before .row-of .ensures) (not-false _ (c .before .before .before .before .before .before .before .if2 .left)) (c .before .before .before .before .before .before .rest-end .ensures) (c .before .before .before .before .before .if3 .left)) (c .before .before .before .before .op-at .ensures) (c .before .before .before .message-at .ensures) (sym (c .enum-told .given .1) ∙ c .before .before .verdict-on .ensures)
+
+returns-5 : tie.Need-returns-5
+returns-5 c = c .unread4 .ensures ∙ ap unread (c .before .refusal-of .ensures) ∙ judged-read _ _ _ _ (sym (c .before .before .before .before .before .before .before .before .before .before .before .before .before .before .before .setup-ok .ensures) ∙ not-false _ (c .before .before .before .before .before .before .before .before .before .before .before .before .before .before .if1 .left)) (c .before .before .before .before .before .before .before .before .before .before .before .before .before .kind-at .ensures) (c .before .before .before .before .before .before .before .before .before .before .before .before .row-of .ensures) (is-framed _ (c .before .before .before .before .before .before .before .before .before .before .before .before .before .kind-at .ensures) (c .before .before .before .before .before .before .before .before .before .before .before .before .row-of .ensures) (not-false _ (c .before .before .before .before .before .before .before .before .before .before .if2 .left)) (c .before .before .before .before .before .before .before .before .before .rest-end .ensures) (c .before .before .before .before .before .before .before .before .if3 .left)) (c .before .before .before .before .before .before .before .op-at .ensures) (c .before .before .before .before .before .before .message-at .ensures) (sym (c .before .before .before .why .given .1) ∙ c .before .before .before .before .before .verdict-on .ensures)
 
 pub read-message-spec : {M : Type 1} → statement M
 read-message-spec =
@@ -69,5 +82,9 @@ read-message-spec =
     op-at-requires
     message-at-requires
     verdict-on-requires
-    unless-blamed-requires
-    returns-4)
+    enum-told
+    enum-known-why
+    refusal-of-requires
+    unread-requires-4
+    returns-4
+    returns-5)
