@@ -23,7 +23,7 @@ joined-fields = refl
 
 -- numbers that are no message's: the kind, a number where the kind has none, then the first that is too large
 abbrev fields : ℕ → ℕ → ℕ → ℕ → ℕ → ℕ → List ℕ
-fields kd from other status op key = kd ∷ from ∷ 2 ∷ 1 ∷ 3 ∷ 0 ∷ other ∷ status ∷ op ∷ key ∷ 0 ∷ replicate 7 0
+fields k from other status op key = k ∷ from ∷ 2 ∷ 1 ∷ 3 ∷ 0 ∷ other ∷ status ∷ op ∷ key ∷ 0 ∷ replicate 7 0
 
 pub misfits : (misfit (fields 9 300 0 0 0 0) ≡ blame.Kind)
     × (misfit (fields 4 300 0 1 0 0) ≡ blame.Length)
