@@ -1,6 +1,5 @@
-// What a message is found to be, by value: a function for each clause of the paper, under the clause's name. Whether all hold is
-// asked at once; where one does not, the groups of clauses are tried in their order for the first that fails, but for those whose part the
-// kind does not have.
+// What a message is found to be, by value: a function for each clause of the paper, under the clause's name, and one for each
+// group of them, which tries them in their order. A group whose part the kind does not have is passed over.
 use nouns::ballot::ballot_ok;
 use nouns::ballot::lead;
 use nouns::command::edit_ok;
@@ -24,8 +23,6 @@ use nouns::message::is_reply;
 use nouns::message::is_word;
 use nouns::message::joined_in;
 use nouns::message::vote_in;
-use nouns::vote::none_is_blank;
-use nouns::vote::vote_ok;
 use paper::Blame;
 use paper::Field;
 use paper::Message;
@@ -50,14 +47,11 @@ ghost use Rattle.paper.specs.Valid.{
   opRange,
   freshOp,
   joinedRange,
-  joinedAbove,
   depsCarried,
-  valid,
   verdictOn,
 };
 ghost use Rattle.paper.specs.declared.Blame.the-variants as blame;
 ghost use Rattle.paper.specs.declared.Verdict.the-variants as verdict;
-ghost use Rattle.valid.specs.Whole.{headOk, wayOk, toldAll, bodyOk};
 ghost use Rattle.valid.specs.Groups.{isBlamed, headVerdict, wayVerdict, toldVerdict, commandVerdict, highest, entriesVerdict, depsVerdict, joinedVerdict, bodyVerdict};
 
 fn lead_of(m: Message) -> usize
@@ -176,58 +170,6 @@ fn deps_carried(w: Row, m: Message) -> bool
     }
     let deps = m.deps;
     same_deps(deps, no_deps())
-}
-
-fn told_all(w: Row, m: Message, v: Vote) -> bool
-    ensures { λ r. ⌜ r ≡ toldAll w m v ⌝ }
-{
-    let parts = w.parts;
-    if !parts.told {
-        return true;
-    }
-    both(below(wide32(v.voted), wide32(m.ballot)), none_is_blank(v))
-}
-
-fn joined_above(w: Row, m: Message, j: u32) -> bool
-    ensures { λ r. ⌜ r ≡ joinedAbove w m j ⌝ }
-{
-    let parts = w.parts;
-    implies(parts.joined, below(wide32(m.ballot), wide32(j)))
-}
-
-fn head_ok(n: usize, s: usize, w: Row, m: Message) -> bool
-    ensures { λ r. ⌜ r ≡ headOk n s w m ⌝ }
-{
-    let ends = both(from_range(n, m), to_range(n, m));
-    let instance = both(both(ends, owner_range(n, m)), number_range(s, m));
-    both(both(instance, ballot_range(n, m)), recovery_ballot(w, m))
-}
-
-fn way_ok(c: usize, w: Row, m: Message) -> bool
-    ensures { λ r. ⌜ r ≡ wayOk c w m ⌝ }
-{
-    let here = both(to_here(c, m), from_another(c, m));
-    both(both(here, from_lead(w, m)), to_lead(w, m))
-}
-
-fn body_ok(n: usize, s: usize, w: Row, m: Message, v: Vote, j: u32) -> bool
-    ensures { λ r. ⌜ r ≡ bodyOk n s w m v j ⌝ }
-{
-    let vote = both(vote_ok(n, s, 3, v), told_all(w, m, v));
-    let joined = both(both(vote, fresh_op(w, m, v)), joined_range(n, j));
-    both(both(joined, joined_above(w, m, j)), deps_carried(w, m))
-}
-
-// All clauses at once, cheapest first: most messages are valid, and no reason has to be found for them.
-fn valid_message(n: usize, s: usize, c: usize, w: Row, m: Message) -> bool
-    requires { ⌜ w ≡ rowIn (m .body) ⌝ }
-    ensures { λ r. ⌜ r ≡ valid n s c m ⌝ }
-{
-    if !both(head_ok(n, s, w, m), way_ok(c, w, m)) {
-        return false;
-    }
-    let body = m.body;
-    body_ok(n, s, w, m, vote_in(m), joined_in(body))
 }
 
 fn of(field: Field) -> Verdict
@@ -390,8 +332,9 @@ fn body_verdict(n: usize, s: usize, w: Row, o: usize, m: Message, v: Vote, j: u3
     joined_verdict(n, w, m, j)
 }
 
-// The first clause that fails, group by group.
-fn first_failing(n: usize, s: usize, c: usize, w: Row, o: usize, m: Message) -> Verdict
+// What the message m, as received by copy c, is found to be; w is the row of its kind, which a reader or writer has already, and o
+// the op's number as it stands in the bytes.
+pub fn verdict_on(n: usize, s: usize, c: usize, w: Row, o: usize, m: Message) -> Verdict
     requires { ⌜ w ≡ rowIn (m .body) ⌝ }
     ensures { λ r. ⌜ r ≡ verdictOn n s c o m ⌝ }
 {
@@ -405,16 +348,4 @@ fn first_failing(n: usize, s: usize, c: usize, w: Row, o: usize, m: Message) -> 
     }
     let body = m.body;
     body_verdict(n, s, w, o, m, vote_in(m), joined_in(body))
-}
-
-// What the message m, as received by copy c, is found to be; w is the row of its kind, which a reader or writer has already, and o
-// the op's number as it stands in the bytes.
-pub fn verdict_on(n: usize, s: usize, c: usize, w: Row, o: usize, m: Message) -> Verdict
-    requires { ⌜ w ≡ rowIn (m .body) ⌝ }
-    ensures { λ r. ⌜ r ≡ verdictOn n s c o m ⌝ }
-{
-    if both(op_range(o), valid_message(n, s, c, w, m)) {
-        return Verdict::Valid;
-    }
-    first_failing(n, s, c, w, o, m)
 }
