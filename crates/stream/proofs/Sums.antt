@@ -1,0 +1,146 @@
+-- Numbers of bytes that whole messages can have together: the table of the small ones is right, every larger number is one, and a
+-- message more leads to another. Assumes nothing.
+use mathlib.Core.Path.{_≡_, refl, sym, _∙_}
+use mathlib.Core.Bool.{Bool, true, false, _&&_, _||_, not}
+use mathlib.Core.List.{List, [], _∷_}
+use Prim.Native.Nat.{ℕ, zero, suc, _+_, _-_, _≤_, _<_}
+use native.Mathlib.Omega.{arith}
+use borrow.Author.Tests.{eqb-true, eqb-false, le-leb, leb-true, leb-false, not-true}
+use lib.Dec.{eqb, leb}
+use lib.ListN.{length, getD, List·getD-eq-default}
+use Rattle.paper.specs.Logic.{allBelow}
+use Rattle.paper.specs.Message.{unknown, rows, rowOf, kindOf}
+use Rattle.paper.specs.declared.Body.the-variants.{AcceptOk}
+use Rattle.paper.proofs.Bodies.{kind-known}
+use Rattle.paper.proofs.Laws.{and-true, allBelow-at}
+use Rattle.wire.specs.Wire.{lengthOf, past}
+use Rattle.wire.proofs.Laws.{ten}
+use Rattle.stream.specs.Place.{someKind, sums, isSum}
+
+-- either test
+either-true : (a b : Bool) {A : Type 0} → (a || b) ≡ true → (a ≡ true → A) → (b ≡ true → A) → A
+either-true true b e f g = f refl
+either-true false b e f g = g e
+
+or-left : (a b : Bool) → a ≡ true → (a || b) ≡ true
+or-left true b e = refl
+or-left false b e = let z : _≡_ {A = ℕ} 0 1 = cc in absurd (omega arith)
+
+or-right : (a b : Bool) → b ≡ true → (a || b) ≡ true
+or-right true b e = refl
+or-right false b e = e
+
+-- a kind below m that passes
+some-of : (m : ℕ) (f : ℕ → Bool) (k : ℕ) → k < m → rowOf k .known ≡ true → f k ≡ true → someKind m f ≡ true
+some-of zero f k l known p = absurd (omega arith)
+some-of (suc m) f k l known p = go (eqb k m) refl (λ e. some-of m f k e known p)
+  where
+    go : (a : Bool) → eqb k m ≡ a → (k < m → someKind m f ≡ true) → someKind (suc m) f ≡ true
+    go true e h =
+        let q : k ≡ m = eqb-true k m e in
+        or-left (rowOf m .known && f m) (someKind m f) (rw (← q, known, p))
+    go false e h = or-right (rowOf m .known && f m) (someKind m f) (h (omega (arith, eqb-false k m e)))
+
+some-more : (m : ℕ) (f g : ℕ → Bool) → ((k : ℕ) → f k ≡ true → g k ≡ true) → someKind m f ≡ true → someKind m g ≡ true
+some-more zero f g h e = e
+some-more (suc m) f g h e =
+    either-true (rowOf m .known && f m) (someKind m f) e
+    (λ a. let (x, y) = and-true (rowOf m .known) (f m) a in or-left (rowOf m .known && g m) (someKind m g) (rw (x, h m y)))
+    (λ b. or-right (rowOf m .known && g m) (someKind m g) (some-more m f g h b))
+
+-- more messages allow no fewer sums
+more : (f x : ℕ) → sums f x ≡ true → sums (suc f) x ≡ true
+unfolding sums
+more zero x e = or-left (eqb x 0) _ e
+more (suc f) x e =
+    either-true (eqb x 0) _ e (λ a. or-left (eqb x 0) _ a)
+    (λ b. or-right (eqb x 0) _ (some-more (suc (length rows)) (λ k. leb (lengthOf k) x && sums f (x - lengthOf k)) (λ k. leb (lengthOf k) x && sums (suc f) (x - lengthOf k))
+    (λ k a. let (l, r) = and-true (leb (lengthOf k) x) (sums f (x - lengthOf k)) a in rw (l, more f (x - lengthOf k) r)) b))
+
+much-more : (d f g x : ℕ) → d + f ≡ g → sums f x ≡ true → sums g x ≡ true
+much-more zero f g x q e = let z : f ≡ g = omega arith in rw (← z, e)
+much-more (suc d) f zero x q e = absurd (omega arith)
+much-more (suc d) f (suc g) x q e = more g x (much-more d f g x (omega arith) e)
+
+-- a known kind is in the table of bodies
+below : (k : ℕ) → rowOf k .known ≡ true → k < suc (length rows)
+unfolding rowOf
+below k e = go (leb (suc (length rows)) k) refl
+  where
+    go : (a : Bool) → leb (suc (length rows)) k ≡ a → k < suc (length rows)
+    go true l =
+        let z : getD (unknown ∷ rows) k unknown ≡ unknown = List·getD-eq-default (unknown ∷ rows) unknown (leb-true (suc (length rows)) k l) in
+        let y : _≡_ {A = ℕ} 0 1 = cc in absurd (omega arith)
+    go false l = leb-false (suc (length rows)) k l
+
+-- a message more
+another : (x k g : ℕ) → rowOf k .known ≡ true → sums x x ≡ true → suc g ≡ x + lengthOf k → sums (suc g) (suc g) ≡ true
+unfolding sums
+another x k g known e q =
+    let t = ten k in
+    let l : leb (lengthOf k) (suc g) ≡ true = le-leb (lengthOf k) (suc g) (omega arith) in
+    let d : suc g - lengthOf k ≡ x = omega arith in
+    let m : sums g x ≡ true = much-more (g - x) x g x (omega arith) e in
+    or-right (eqb (suc g) 0) _ (some-of (suc (length rows)) (λ k. leb (lengthOf k) (suc g) && sums g (suc g - lengthOf k)) k (below k known) known (rw (l, d, m)))
+
+pub and-another : (x k : ℕ) → rowOf k .known ≡ true → isSum x ≡ true → isSum (x + lengthOf k) ≡ true
+unfolding isSum
+and-another x k known e =
+    let t = ten k in
+    let q : x + lengthOf k ≡ suc (x + lengthOf k - 1) = omega arith in
+    rw q (another x k (x + lengthOf k - 1) known e (sym q))
+
+-- ten numbers one after another are sums, and so is each that is ten more
+first-ten : allBelow 10 (λ i. isSum (84 + i)) ≡ true
+unfolding allBelow isSum sums rowOf lengthOf past
+first-ten = refl
+
+ten-more : lengthOf (kindOf AcceptOk) ≡ 10
+unfolding lengthOf past rowOf
+ten-more = refl
+
+large-below : (n x : ℕ) → x < n → 84 ≤ x → isSum x ≡ true
+large-below zero x a l = absurd (omega arith)
+large-below (suc n) x a l = at (leb 94 x) refl (λ m. large-below n (x - 10) (omega arith) (omega arith))
+  where
+    at : (b : Bool) → leb 94 x ≡ b → (94 ≤ x → isSum (x - 10) ≡ true) → isSum x ≡ true
+    at true m h =
+        let lt = leb-true 94 x m in
+        let q : x - 10 + lengthOf (kindOf AcceptOk) ≡ x = omega (arith, ten-more) in
+        rw q at (and-another (x - 10) (kindOf AcceptOk) (kind-known AcceptOk) (h lt))
+    at false m h =
+        let lt = leb-false 94 x m in
+        let q : 84 + (x - 84) ≡ x = omega arith in
+        rw q at (allBelow-at 10 (λ i. isSum (84 + i)) first-ten (x - 84) (omega arith))
+
+pub large : (x : ℕ) → 84 ≤ x → isSum x ≡ true
+large x l = large-below (suc x) x (omega arith) l
+
+-- the table of those below 84: ten digits to a row
+abbrev pub small : List ℕ
+small =
+    49 ∷ 48 ∷ 48 ∷ 48 ∷ 48 ∷ 48 ∷ 48 ∷ 48 ∷ 48 ∷ 48
+    ∷ 49 ∷ 48 ∷ 48 ∷ 48 ∷ 49 ∷ 48 ∷ 48 ∷ 48 ∷ 48 ∷ 48
+    ∷ 49 ∷ 48 ∷ 48 ∷ 48 ∷ 49 ∷ 48 ∷ 48 ∷ 48 ∷ 49 ∷ 48
+    ∷ 49 ∷ 48 ∷ 48 ∷ 48 ∷ 49 ∷ 48 ∷ 48 ∷ 49 ∷ 49 ∷ 48
+    ∷ 49 ∷ 48 ∷ 49 ∷ 48 ∷ 49 ∷ 48 ∷ 48 ∷ 49 ∷ 49 ∷ 48
+    ∷ 49 ∷ 49 ∷ 49 ∷ 48 ∷ 49 ∷ 48 ∷ 49 ∷ 49 ∷ 49 ∷ 48
+    ∷ 49 ∷ 49 ∷ 49 ∷ 48 ∷ 49 ∷ 49 ∷ 49 ∷ 49 ∷ 49 ∷ 48
+    ∷ 49 ∷ 49 ∷ 49 ∷ 48 ∷ 49 ∷ 49 ∷ 49 ∷ 49 ∷ 49 ∷ 49
+    ∷ 49 ∷ 49 ∷ 49 ∷ 48
+    ∷ []
+
+abbrev same : Bool → Bool → Bool
+same true b = b
+same false b = not b
+
+same-eq : (a b : Bool) → same a b ≡ true → a ≡ b
+same-eq true b e = sym e
+same-eq false b e = sym (not-true b e)
+
+every-small : allBelow 84 (λ x. same (eqb (getD small x 0) 49) (isSum x)) ≡ true
+unfolding allBelow isSum sums rowOf lengthOf past
+every-small = refl
+
+pub small-is : (x : ℕ) → x < 84 → eqb (getD small x 0) 49 ≡ isSum x
+small-is x l = same-eq (eqb (getD small x 0) 49) (isSum x) (allBelow-at 84 (λ x. same (eqb (getD small x 0) 49) (isSum x)) every-small x l)

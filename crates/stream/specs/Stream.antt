@@ -1,0 +1,92 @@
+-- 2/12: what taking bytes and yielding a message answer, and the buffer and the place after it. Assumes nothing.
+use Prim.Native.Nat.{ℕ, _+_, _-_}
+use mathlib.Core.Bool.{Bool, _&&_, not, cond}
+use mathlib.Core.List.{List, []}
+use lib.Dec.{eqb, leb}
+use lib.ListN.{length, take}
+use Prim.Native.Nat.{min}
+use Rattle.numbers.specs.Num.{splice}
+use Rattle.paper.specs.Message.{rowOf}
+use Rattle.paper.specs.declared.Refusal.{Refusal}
+use Rattle.wire.specs.Wire.{lengthOf, kindAt}
+use Rattle.stream.specs.declared.place.Place.{Place}
+use Rattle.stream.specs.declared.place.Gate.{Gate}
+use Rattle.stream.specs.declared.place.Gate.the-variants.{Open, Shut}
+use Rattle.stream.specs.declared.taking.Took.{Took}
+use Rattle.stream.specs.declared.taking.Took.the-variants as took
+use Rattle.stream.specs.declared.yielding.Found.{Found}
+use Rattle.stream.specs.declared.yielding.Found.the-variants as found
+use Rattle.stream.specs.declared.taking.Taken.{Taken}
+use Rattle.stream.specs.declared.yielding.Yielded.{Yielded}
+use Rattle.stream.specs.Place.{held, gateOf}
+
+-- bytes that begin with no known kind: the stream stands still there, for good
+unfoldable pub isStopped : List ℕ → Bool
+isStopped h = not (eqb (length h) 0) && not (rowOf (kindAt h) .known)
+
+-- a whole message stands in front: the kind byte alone gives its length
+unfoldable pub isWhole : List ℕ → Bool
+isWhole h = rowOf (kindAt h) .known && leb (lengthOf (kindAt h)) (length h)
+
+-- the length of the message in front, 0 where none is whole
+unfoldable pub wholeLength : List ℕ → ℕ
+wholeLength h = cond (isWhole h) (lengthOf (kindAt h)) 0
+
+-- the answer of a call that takes bytes, the place and the buffer after it
+pub record Filled : Type 0 where
+  pub told : Taken
+  pub buffer : List ℕ
+
+abbrev pub unchanged : Place → List ℕ → Took → Filled
+unchanged p b a = record { told = record { answer = a; place = p }; buffer = b }
+
+-- as many of x bytes as a buffer of l bytes has room for beside h held ones, and as the stream's offsets can count
+unfoldable pub roomFor : ℕ → Place → ℕ → ℕ
+roomFor l p x = min x (min (l - (p .end - p .at)) (18446744073709551615 - (p .offset + (p .end - p .at))))
+
+-- what is held goes to the front, the first k of the next bytes follow it; later bytes of the buffer keep their contents
+abbrev pub fill : List ℕ → Place → List ℕ → ℕ → Filled
+fill b p x k =
+    record {
+      told = record { answer = took.Bytes k; place = record { at = 0; end = (p .end - p .at) + k; offset = p .offset } };
+      buffer = splice (splice b 0 (held b p)) (p .end - p .at) (take k x);
+    }
+
+-- a stream that stands still takes nothing
+unfoldable pub takenOpen : List ℕ → Place → List ℕ → Filled
+takenOpen b p x = cond (isStopped (held b p)) (unchanged p b (took.Stopped (p .offset))) (fill b p x (roomFor (length b) p (length x)))
+
+abbrev pub takenIn : Gate → List ℕ → Place → List ℕ → Filled
+takenIn (Shut r) b p x = unchanged p b (took.Refused r)
+takenIn Open b p x = takenOpen b p x
+
+unfoldable pub taken : List ℕ → Place → List ℕ → Filled
+taken b p x = takenIn (gateOf (length b) p) b p x
+
+-- the place behind n bytes more
+unfoldable pub behind : Place → ℕ → Place
+behind p n = record { at = p .at + n; end = p .end; offset = p .offset + n }
+
+abbrev pub stay : Place → Found → Yielded
+stay p a = record { answer = a; place = p }
+
+-- the message in front, of what is held; the stop; or nothing yet
+unfoldable pub yieldedOpen : List ℕ → Place → Yielded
+yieldedOpen h p =
+    cond (isStopped h) (stay p (found.Stop (p .offset)))
+    (cond (isWhole h) (record { answer = found.Message (lengthOf (kindAt h)); place = behind p (lengthOf (kindAt h)) }) (stay p found.Nothing))
+
+abbrev pub yieldedIn : Gate → List ℕ → Place → Yielded
+yieldedIn (Shut r) h p = stay p (found.Refused r)
+yieldedIn Open h p = yieldedOpen h p
+
+unfoldable pub yielded : List ℕ → Place → Yielded
+yielded b p = yieldedIn (gateOf (length b) p) (held b p) p
+
+abbrev pub messageThrough : Gate → List ℕ → List ℕ
+messageThrough (Shut r) h = []
+messageThrough Open h = take (wholeLength h) h
+
+-- its bytes, as they stand in the buffer; none where no message is yielded
+unfoldable pub messageIn : List ℕ → Place → List ℕ
+messageIn b p = messageThrough (gateOf (length b) p) (held b p)
