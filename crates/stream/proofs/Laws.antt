@@ -1,16 +1,19 @@
 -- What the calls' proofs cite of places and of what is held. Assumes nothing.
 use mathlib.Core.Path.{_≡_, refl, sym, ap, _∙_}
-use mathlib.Core.Bool.{Bool, true, false, _&&_, not}
-use mathlib.Core.List.{List}
-use Prim.Native.Nat.{ℕ, _+_, _-_, _≤_, _<_}
+use mathlib.Core.Bool.{Bool, true, false, _&&_, not, cond}
+use mathlib.Core.List.{List, []}
+use Prim.Native.Nat.{ℕ, _+_, _-_, _≤_, _<_, min}
+use native.Mathlib.Nat.{min-le-left, min-le-right, le-trans}
 use native.Mathlib.Omega.{arith}
 use borrow.Author.Tests.{ltb-true, ltb-false, leb-true, le-leb, lt-leb, le-ltb, lt-ltb, eq-eqb, ne-eqb, not-true}
 use lib.Dec.{leb, ltb, eqb}
 use lib.ListN.{length, getD, take, drop, length-drop}
-use lib.Seq.{length-take-le}
+use lib.Seq.{length-take-le, take-take}
+use Rattle.numbers.specs.Num.{splice}
 use Rattle.numbers.proofs.Laws.{numAt-part}
 use Rattle.paper.specs.Message.{rowOf}
 use Rattle.paper.specs.declared.Row.{Row}
+use Rattle.paper.specs.declared.Refusal.{Refusal}
 use Rattle.paper.specs.declared.Refusal.the-variants.{Unsound, Room}
 use Rattle.paper.proofs.Laws.{and-true}
 use Rattle.wire.specs.Wire.{lengthOf, kindAt}
@@ -18,9 +21,11 @@ use Rattle.wire.proofs.Laws.{ten}
 use Rattle.stream.specs.declared.place.Place.{Place}
 use Rattle.stream.specs.declared.place.Gate.{Gate}
 use Rattle.stream.specs.declared.place.Gate.the-variants.{Open, Shut}
-use Rattle.stream.specs.declared.yielding.Found.the-variants.{Message, Nothing, Stop}
+use Rattle.stream.specs.declared.taking.Took.the-variants as took
+use Rattle.stream.specs.declared.taking.Taken.{Taken}
+use Rattle.stream.specs.declared.yielding.Found.the-variants.{Message, Nothing, Stop, Refused}
 use Rattle.stream.specs.Place.{isSum, placeOk, held, gateOf, Within}
-use Rattle.stream.specs.Stream.{isStopped, isWhole, wholeLength, behind, stay, yieldedOpen}
+use Rattle.stream.specs.Stream.{isStopped, isWhole, wholeLength, roomFor, unchanged, fill, takenOpen, taken, behind, stay, yieldedOpen, yielded, messageIn}
 
 -- the tests of a place, in their order
 module _ (l : ℕ) (p : Place) where
@@ -97,8 +102,8 @@ open-ok l p g = go (placeOk l p) (ltb l 64) refl refl
     go true true e f = let z : _≡_ {A = ℕ} 0 1 = cc (shut-2 l p e (ltb-true l 64 f)) in absurd (omega arith)
     go true false e f = (ok-of l p e, ltb-false l 64 f)
 
-pub open-within : (l : ℕ) (p : Place) {g : Gate} → g ≡ gateOf l p → g ≡ Open → Within l p
-open-within l p e f = open-ok l p (sym e ∙ f) .0 .within
+pub open-within : (l : ℕ) (p : Place) → Open ≡ gateOf l p → Within l p
+open-within l p e = open-ok l p (sym e) .0 .within
 
 -- what is held
 module _ (b : List ℕ) (p : Place) (w : Within (length b) p) where
@@ -124,7 +129,7 @@ module _ (b : List ℕ) (p : Place) (w : Within (length b) p) where
       let f : leb (lengthOf (kindAt (held b p))) (length (held b p)) ≡ false = lt-leb (lengthOf (kindAt (held b p))) (length (held b p)) (omega (arith, ten (kindAt (held b p)))) in
       go (rowOf (kindAt (held b p)) .known) f
     where
-      go : (k : Bool) {f : Bool} → f ≡ false → 0 ≡ mathlib.Core.Bool.cond (k && f) (lengthOf (kindAt (held b p))) 0
+      go : (k : Bool) {f : Bool} → f ≡ false → 0 ≡ cond (k && f) (lengthOf (kindAt (held b p))) 0
       go true e = rw e
       go false e = refl
 
@@ -215,3 +220,92 @@ front-within b p w {n} e lt =
     let o = w .ordered in
     let k = w .counted in
     (omega arith, omega arith)
+
+-- the length of a message in front, if there is one, is within what is held
+whole-fits : (h : List ℕ) → wholeLength h ≤ length h
+unfolding wholeLength
+whole-fits h = go (isWhole h) refl
+  where
+    go : (a : Bool) → isWhole h ≡ a → cond (isWhole h) (lengthOf (kindAt h)) 0 ≤ length h
+    go true e = rw e (front-is h e .fits)
+    go false e = rw e (omega arith)
+
+pub whole-within : (b : List ℕ) (p : Place) → Within (length b) p → {n : ℕ} → n ≡ wholeLength (held b p) → p .at + n ≤ p .end
+whole-within b p w {n} e =
+    let f = whole-fits (held b p) in
+    let l : length (held b p) ≡ p .end - p .at = held-length b p w in
+    let o = w .ordered in
+    omega arith
+
+-- that message is a part of the buffer
+pub message-part : (b : List ℕ) (p : Place) {n : ℕ} → Open ≡ gateOf (length b) p → n ≡ wholeLength (held b p) → take (p .at + n - p .at) (drop (p .at) b) ≡ messageIn b p
+unfolding messageIn held
+message-part b p {n} g e =
+    let w = open-within (length b) p g in
+    let f : p .at + n ≤ p .end = whole-within b p w e in
+    let k : p .at + n - p .at ≡ n = omega arith in
+    rw (← g, ← e, k) (sym (take-take n (p .end - p .at) (drop (p .at) b) (omega arith)))
+
+-- what is taken fits, and is offered
+module _ (l : ℕ) (p : Place) (x : ℕ) (w : Within l p) where
+  pub room-offered : roomFor l p x ≤ x
+  unfolding roomFor
+  room-offered = min-le-left x _
+
+  pub room-fits : p .end - p .at + roomFor l p x ≤ l
+  unfolding roomFor
+  room-fits =
+      let i = w .inside in
+      let a : l - (p .end - p .at) ≤ l = omega arith in
+      let m : roomFor l p x ≤ l - (p .end - p .at) =
+      le-trans (min-le-right x (min (l - (p .end - p .at)) (18446744073709551615 - (p .offset + (p .end - p .at))))) (min-le-left (l - (p .end - p .at)) (18446744073709551615 - (p .offset + (p .end - p .at)))) in
+      omega arith
+
+  pub room-counts : p .offset + (p .end - p .at + roomFor l p x) < 18446744073709551616
+  unfolding roomFor
+  room-counts =
+      let k = w .counted in
+      let m : roomFor l p x ≤ 18446744073709551615 - (p .offset + (p .end - p .at)) =
+      le-trans (min-le-right x (min (l - (p .end - p .at)) (18446744073709551615 - (p .offset + (p .end - p .at))))) (min-le-right (l - (p .end - p .at)) (18446744073709551615 - (p .offset + (p .end - p .at)))) in
+      omega arith
+
+-- the calls, by gate and stop
+module _ (b : List ℕ) (p : Place) where
+  pub taken-shut : (x : List ℕ) {r : Refusal} → Shut r ≡ gateOf (length b) p → taken b p x ≡ unchanged p b (took.Refused r)
+  unfolding taken
+  taken-shut x e = rw (← e)
+
+  pub taken-stopped : (x : List ℕ) → Open ≡ gateOf (length b) p → isStopped (held b p) ≡ true → taken b p x ≡ unchanged p b (took.Stopped (p .offset))
+  unfolding taken takenOpen
+  taken-stopped x e s = rw (← e, s)
+
+  pub taken-fills : (x : List ℕ) → Open ≡ gateOf (length b) p → isStopped (held b p) ≡ false → taken b p x ≡ fill b p x (roomFor (length b) p (length x))
+  unfolding taken takenOpen
+  taken-fills x e s = rw (← e, s)
+
+  pub yielded-shut : {r : Refusal} → Shut r ≡ gateOf (length b) p → yielded b p ≡ stay p (Refused r)
+  unfolding yielded
+  yielded-shut e = rw (← e)
+
+  pub yielded-open : Open ≡ gateOf (length b) p → yielded b p ≡ yieldedOpen (held b p) p
+  unfolding yielded
+  yielded-open e = rw (← e)
+
+  pub message-shut : {r : Refusal} → Shut r ≡ gateOf (length b) p → messageIn b p ≡ []
+  unfolding messageIn
+  message-shut e = rw (← e)
+
+-- so many bytes are put behind what is held
+pub put-ok : (l : ℕ) (p : Place) (x : ℕ) → Within l p → {n m : ℕ} → n ≡ roomFor l p x → m ≡ l → (p .end - p .at + n ≤ m) × (n ≤ x)
+put-ok l p x w e f = (omega (arith, room-fits l p x w), omega (arith, room-offered l p x w))
+
+pub end-fits : (l : ℕ) (p : Place) (x : ℕ) → Within l p → {n : ℕ} → n ≡ roomFor l p x → p .end - p .at + n < 18446744073709551616
+end-fits l p x w e = omega (arith, room-counts l p x w)
+
+-- what was held to the front, what was taken behind it
+pub filled : (b : List ℕ) (p : Place) (x : List ℕ) {n : ℕ} {b₁ b₂ : List ℕ} → n ≡ roomFor (length b) p (length x) → b₁ ≡ splice b 0 (take (p .end - p .at) (drop (p .at) b))
+    → b₂ ≡ splice b₁ (p .end - p .at) (take n x)
+    → (_≡_ {A = Taken} (record { answer = took.Bytes n; place = record { at = 0; end = p .end - p .at + n; offset = p .offset } }) (fill b p x (roomFor (length b) p (length x)) .told))
+    × (b₂ ≡ fill b p x (roomFor (length b) p (length x)) .buffer)
+unfolding held
+filled b p x e f g = (rw e, rw (g, f, e))

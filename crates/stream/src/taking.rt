@@ -61,7 +61,8 @@ fn put(buf: &mut [u8], at: usize, bytes: &[u8], count: usize)
     requires { ⌜ (at + count ≤ length (now buf)) × (count ≤ length (now bytes)) ⌝ }
     ensures { λ _. ⌜ now (buf .exit) ≡ splice (now (buf .entry)) at (take count (now (bytes .entry))) ⌝ }
 {
-    bytes::copy(&bytes[..count], &mut buf[at..]);
+    let end = at + count;
+    bytes::copy(&bytes[..count], &mut buf[at..end]);
 }
 
 fn take_open(buf: &mut [u8], p: Place, bytes: &[u8]) -> Taken

@@ -1,53 +1,44 @@
+use Prim.Native.Nat.{_-_}
+use native.Mathlib.Omega.{arith}
+use Rattle.stream.proofs.Moves.{Moving, moving-none, moving-one, moved, in-front}
 use Rattle.stream.proofs.taking.shift.Statement.{statement}
 use Rattle.stream.proofs.taking.shift.Tie as tie
-use Rattle.stream.proofs.taking.shift.Reads as reads
-use Rattle.stream.proofs.taking.shift.Lts as lts
 
 abbrev Inv-loop : tie.InvT-loop
-Inv-loop buf₀ at count i₀ buf i = ?
+Inv-loop buf₀ at count i₀ buf i = Moving buf₀ at count buf i
 
 abbrev μ-loop : tie.MeasureT-loop
-μ-loop buf₀ at count i₀ buf i = ?
+μ-loop buf₀ at count i₀ buf i = count - i
 
--- src/taking.rt:50:9
 returns : tie.Need-returns Inv-loop μ-loop
-returns c = ?
+returns c = in-front _ _ _ (c .if1 .taken) (c .before .pre)
 
--- src/taking.rt:53:5
 loop-holds : tie.Need-loop-holds Inv-loop μ-loop
-loop-holds c = ?
+loop-holds c = moving-none _ _ _ (c .before .pre)
 
--- src/taking.rt:54:22
 add-buf : tie.Need-add-buf Inv-loop μ-loop
-add-buf c = ?
+add-buf c = omega (arith, c .before .loop .inv .short, c .before .loop .inv .long)
 
--- src/taking.rt:54:18
 slice-read-buf : tie.Need-slice-read-buf Inv-loop μ-loop
-slice-read-buf c = ?
+slice-read-buf c = omega (arith, (c .before .before .loop .inv) .short, (c .before .before .loop .inv) .long)
 
--- src/taking.rt:54:9
 slice-write-buf : tie.Need-slice-write-buf Inv-loop μ-loop
-slice-write-buf c = ?
+slice-write-buf c = omega (arith, (c .before .before .loop .inv) .short, (c .before .before .loop .inv) .long)
 
--- src/taking.rt:55:9
 add-i : tie.Need-add-i Inv-loop μ-loop
-add-i c = ?
+add-i c = omega arith
 
--- src/taking.rt:53:5
 loop-less : tie.Need-loop-less Inv-loop μ-loop
-loop-less c = ?
+loop-less c = omega arith
 
--- src/taking.rt:53:5
 loop-again : tie.Need-loop-again Inv-loop μ-loop
-loop-again c = ?
+loop-again c = moving-one _ _ _ (c .before .before .before .before .pre) _ _ (c .before .before .loop .inv) (c .before .loop-test .taken)
 
--- src/taking.rt:45:1
 same-length : tie.Need-same-length Inv-loop μ-loop
-same-length c = ?
+same-length c = c .before .loop .inv .long
 
--- src/taking.rt:45:1
 returns-2 : tie.Need-returns-2 Inv-loop μ-loop
-returns-2 c = ?
+returns-2 c = moved _ _ _ (c .before .before .before .pre) _ _ (c .before .loop .inv) (c .loop-test .left)
 
 pub shift-spec : {M : Type 1} → statement M
 shift-spec =

@@ -1,34 +1,26 @@
+use mathlib.Core.Path.{sym, _∙_}
+use Rattle.stream.proofs.Laws.{open-within, yielded-shut, yielded-open}
 use borrow.Author.Needs.{needs}
 use Rattle.stream.proofs.yielding.next.Statement.{statement}
 use Rattle.stream.proofs.yielding.next.Tie as tie
-use Rattle.stream.proofs.yielding.next.Reads as reads
-use Rattle.stream.proofs.yielding.next.Lts as lts
-use Rattle.stream.proofs.place.gate_of.Reads as gate-of-reads
-use Rattle.stream.proofs.yielding.next_open.Reads as next-open-reads
 
--- src/yielding.rt:97:11
 gate-of-requires : tie.Need-gate-of-requires
 gate-of-requires c κs = search needs
 
--- src/yielding.rt:98:20
 enum-known-why : tie.Need-enum-known-why
 enum-known-why c = search needs
 
--- src/yielding.rt:102:23
 enum-told : tie.Need-enum-told
 enum-told c = search needs
 
--- src/yielding.rt:102:23
 next-open-requires : tie.Need-next-open-requires
-next-open-requires c κs = ?
+next-open-requires c κs = open-within _ _ (sym (c .enum-told .given .1) ∙ c .before .before .gate-of .ensures)
 
--- src/yielding.rt:94:1
 returns : tie.Need-returns
-returns c = ?
+returns c = sym (yielded-shut _ _ (sym (c .before .why .given .1) ∙ c .before .before .before .gate-of .ensures))
 
--- src/yielding.rt:94:1
 returns-2 : tie.Need-returns-2
-returns-2 c = ?
+returns-2 c = c .next-open .ensures ∙ sym (yielded-open _ _ (sym (c .before .enum-told .given .1) ∙ c .before .before .before .gate-of .ensures))
 
 pub next-spec : {M : Type 1} → statement M
 next-spec =

@@ -1,0 +1,65 @@
+use mathlib.Core.Path.{sym, ap, _∙_}
+use Rattle.stream.specs.Stream.{Filled}
+use Rattle.stream.proofs.Laws.{open-within, taken-shut, taken-stopped, taken-fills}
+use borrow.Author.Needs.{needs}
+use Rattle.stream.proofs.taking.take.Statement.{statement}
+use Rattle.stream.proofs.taking.take.Tie as tie
+
+gate-of-requires : tie.Need-gate-of-requires
+gate-of-requires c κs = search needs
+
+enum-known-why : tie.Need-enum-known-why
+enum-known-why c = search needs
+
+unchanged-requires : tie.Need-unchanged-requires
+unchanged-requires c κs = search needs
+
+enum-told : tie.Need-enum-told
+enum-told c = search needs
+
+is-stopped-requires : tie.Need-is-stopped-requires
+is-stopped-requires c κs = open-within _ _ (sym (c .before .enum-told .given .1) ∙ c .before .before .before .gate-of .ensures)
+
+unchanged-requires-2 : tie.Need-unchanged-requires-2
+unchanged-requires-2 c κs = search needs
+
+same-length : tie.Need-same-length
+same-length c = search needs
+
+returns : tie.Need-returns
+returns c =
+    let e = taken-stopped _ _ _ (sym (c .before .before .before .before .enum-told .given .1) ∙ c .before .before .before .before .before .before .gate-of .ensures) (sym (c .before .before .is-stopped .ensures) ∙ c .before .if1 .taken) in
+    (c .unchanged2 .ensures ∙ ap (λ (y : Filled). y .told) (sym e), ap (λ (y : Filled). y .buffer) (sym e))
+
+take-open-requires : tie.Need-take-open-requires
+take-open-requires c κs = open-within _ _ (sym (c .before .before .before .before .enum-told .given .1) ∙ c .before .before .before .before .before .before .gate-of .ensures)
+
+returns-2 : tie.Need-returns-2
+returns-2 c =
+    let e = taken-shut _ _ _ (sym (c .before .before .why .given .1) ∙ c .before .before .before .before .gate-of .ensures) in
+    (c .unchanged .ensures ∙ ap (λ (y : Filled). y .told) (sym e), ap (λ (y : Filled). y .buffer) (sym e))
+
+same-length-2 : tie.Need-same-length-2
+same-length-2 c = search needs
+
+returns-3 : tie.Need-returns-3
+returns-3 c =
+    let e = taken-fills _ _ _ (sym (c .before .before .before .before .before .before .before .enum-told .given .1) ∙ c .before .before .before .before .before .before .before .before .before .gate-of .ensures) (sym (c .before .before .before .before .before .is-stopped .ensures) ∙ c .before .before .before .before .if1 .left) in
+    (c .before .before .take-open .ensures .0 ∙ ap (λ (y : Filled). y .told) (sym e), c .before .before .take-open .ensures .1 ∙ ap (λ (y : Filled). y .buffer) (sym e))
+
+pub take-spec : {M : Type 1} → statement M
+take-spec =
+    tie.close
+    (tie.spec
+    gate-of-requires
+    enum-known-why
+    unchanged-requires
+    enum-told
+    is-stopped-requires
+    unchanged-requires-2
+    same-length
+    returns
+    take-open-requires
+    returns-2
+    same-length-2
+    returns-3)

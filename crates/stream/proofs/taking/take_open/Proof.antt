@@ -1,0 +1,31 @@
+use native.Mathlib.Omega.{arith}
+use Rattle.stream.proofs.Laws.{put-ok, end-fits, filled}
+use borrow.Author.Needs.{needs}
+use Rattle.stream.proofs.taking.take_open.Statement.{statement}
+use Rattle.stream.proofs.taking.take_open.Tie as tie
+
+sub-held : tie.Need-sub-held
+sub-held c = search needs
+
+room-for-requires : tie.Need-room-for-requires
+room-for-requires c κs = search needs
+
+shift-requires : tie.Need-shift-requires
+shift-requires c κs = search needs
+
+put-requires : tie.Need-put-requires
+put-requires c κs = put-ok _ _ _ (c .before .before .before .before .before .before .before .before .before .pre) (c .before .before .before .before .before .room-for .ensures) (c .before .before .buf .given)
+
+add-t6 : tie.Need-add-t6
+add-t6 c = let f = end-fits _ _ _ (c .before .before .before .before .before .before .before .before .before .before .before .before .pre) (c .before .before .before .before .before .before .before .before .room-for .ensures) in omega arith
+
+same-length : tie.Need-same-length
+same-length c = search needs
+
+returns : tie.Need-returns
+returns c = filled _ _ _ (c .before .before .before .before .before .before .before .before .room-for .ensures) (c .before .before .before .before .before .before .shift .ensures) (c .before .before .put .ensures)
+
+pub take-open-spec : {M : Type 1} → statement M
+take-open-spec =
+    tie.close
+    (tie.spec sub-held room-for-requires shift-requires put-requires add-t6 same-length returns)
