@@ -204,6 +204,10 @@ module _ (h : List ℕ) where
   unfolding yieldedOpen
   yields p {n} {q} e lt at = let f = whole-front e lt in rw (front-running f, front-whole f, at, ← f .exact)
 
+  pub yields-front : (p : Place) → isStopped h ≡ false → isWhole h ≡ true → yieldedOpen h p ≡ record { answer = Message (lengthOf (kindAt h)); place = behind p (lengthOf (kindAt h)) }
+  unfolding yieldedOpen
+  yields-front p e f = rw (e, f)
+
   pub stops : (p : Place) → isStopped h ≡ true → stay p (Stop (p .offset)) ≡ yieldedOpen h p
   unfolding yieldedOpen
   stops p e = rw e
@@ -245,6 +249,10 @@ message-part b p {n} g e =
     let f : p .at + n ≤ p .end = whole-within b p w e in
     let k : p .at + n - p .at ≡ n = omega arith in
     rw (← g, ← e, k) (sym (take-take n (p .end - p .at) (drop (p .at) b) (omega arith)))
+
+pub message-front : (b : List ℕ) (p : Place) → Open ≡ gateOf (length b) p → isWhole (held b p) ≡ true → messageIn b p ≡ take (lengthOf (kindAt (held b p))) (held b p)
+unfolding messageIn wholeLength
+message-front b p g e = rw (← g, e)
 
 -- what is taken fits, and is offered
 module _ (l : ℕ) (p : Place) (x : ℕ) (w : Within l p) where

@@ -2,3 +2,5 @@ pub mod Laws
 pub mod Moves
 pub mod Sums
 pub mod Cutting
+pub mod Kept
+pub mod Walk

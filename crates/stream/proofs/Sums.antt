@@ -90,6 +90,36 @@ and-another x k known e =
     let q : x + lengthOf k ≡ suc (x + lengthOf k - 1) = omega arith in
     rw q (another x k (x + lengthOf k - 1) known e (sym q))
 
+-- a kind that passed
+some-is : (m : ℕ) (f : ℕ → Bool) {A : Type 0} → someKind m f ≡ true → ((k : ℕ) → rowOf k .known ≡ true → f k ≡ true → A) → A
+some-is zero f e h = let z : _≡_ {A = ℕ} 0 1 = cc in absurd (omega arith)
+some-is (suc m) f e h =
+    either-true (rowOf m .known && f m) (someKind m f) e
+    (λ a. let (x, y) = and-true (rowOf m .known) (f m) a in h m x y)
+    (λ b. some-is m f b h)
+
+-- messages and messages
+sums-add : (f x y : ℕ) → sums f x ≡ true → isSum y ≡ true → isSum (x + y) ≡ true
+unfolding sums
+sums-add zero x y e h = let z : x ≡ 0 = eqb-true x 0 e in let q : x + y ≡ y = omega arith in rw (q, h)
+sums-add (suc f) x y e h =
+    either-true (eqb x 0) _ e
+    (λ a. let z : x ≡ 0 = eqb-true x 0 a in let q : x + y ≡ y = omega arith in rw (q, h))
+    (λ b. some-is (suc (length rows)) (λ k. leb (lengthOf k) x && sums f (x - lengthOf k)) b
+    (λ k known p.
+    let (l, r) = and-true (leb (lengthOf k) x) (sums f (x - lengthOf k)) p in
+    let le : lengthOf k ≤ x = leb-true (lengthOf k) x l in
+    let q : x - lengthOf k + y + lengthOf k ≡ x + y = omega arith in
+    rw q at (and-another (x - lengthOf k + y) k known (sums-add f (x - lengthOf k) y r h))))
+
+pub sum-add : (x y : ℕ) → isSum x ≡ true → isSum y ≡ true → isSum (x + y) ≡ true
+unfolding isSum
+sum-add x y e h = sums-add x x y e h
+
+pub sum-none : isSum 0 ≡ true
+unfolding isSum sums
+sum-none = refl
+
 -- ten numbers one after another are sums, and so is each that is ten more
 first-ten : allBelow 10 (λ i. isSum (84 + i)) ≡ true
 unfolding allBelow isSum sums rowOf lengthOf past

@@ -94,7 +94,7 @@ after s ask =
       buffer = s .buffer;
       place = yielded (s .buffer) (s .place) .place;
       taken = s .taken;
-      yielded = s .yielded ++ cond (isMessage (answer s)) (messageIn (s .buffer) (s .place) ∷ []) [];
+      yielded = s .yielded ++ cond (isMessage (yielded (s .buffer) (s .place) .answer)) (messageIn (s .buffer) (s .place) ∷ []) [];
     }
 
 abbrev pub run : State → List Call → State
