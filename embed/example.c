@@ -1,4 +1,5 @@
-/* One edit, committed: copy 0 of three takes "write, key 7, edit 100" and hears one answer (W1 and W2 of the paper).
+/* One edit, committed: copy 0 of three takes "write, key 7, edit 100" and hears one answer (W1 and W2 of the paper),
+ * which a link hands over in two pieces.
  *
  *     gcc -std=c11 -I include embed/example.c target/staticlib/libpumxaqert.a -o example && ./example */
 #include "pumxaqert.h"
@@ -23,6 +24,22 @@ static void save(const size_t values[4]) {
     size_t length;
     size_t start = pumxaqert_part(table, table_len, N, S, C, values[0], values[1], &length);
     printf("save %zu.%zu: %zu bytes of the table from byte %zu\n", values[0], values[1], length, start);
+}
+
+/* Copy 1's link. What the bytes that came in leave of a message waits in the buffer for those that follow. */
+static uint8_t link_buf[64];
+static size_t link_place[3];
+
+/* There is room for these few bytes; a host reads what is whole and offers again what was not taken. values says what
+ * has come, as pumxaqert_stream_next does. */
+static uint32_t arrive(const uint8_t *bytes, size_t length, size_t values[3]) {
+    static const char *const words[] = {"no message is whole", "a message is whole", "the stream stops"};
+    uint32_t refusal = pumxaqert_stream_take(link_buf, sizeof link_buf, link_place, bytes, length, values);
+    if (!refusal)
+        refusal = pumxaqert_stream_next(link_buf, sizeof link_buf, link_place, values);
+    if (!refusal)
+        printf("bytes came in, %zu: %s\n", length, words[values[0]]);
+    return refusal;
 }
 
 int main(void) {
@@ -50,7 +67,13 @@ int main(void) {
     if (refusal)
         return (int)refusal;
     show("copy 1 answers", answer, length);
-    refusal = pumxaqert_message(table, table_len, N, S, C, out, ROOM, answer, length, values);
+    size_t came[3];
+    refusal = pumxaqert_stream_begin(link_buf, sizeof link_buf, link_place);
+    refusal |= arrive(answer, 9, came);
+    refusal |= arrive(answer + 9, length - 9, came);
+    if (refusal)
+        return (int)refusal;
+    refusal = pumxaqert_message(table, table_len, N, S, C, out, ROOM, link_buf + came[1], came[2], values);
     if (refusal)
         return (int)refusal;
     save(values);
@@ -70,6 +93,11 @@ int main(void) {
     answer[length - 2] = 1;
     uint32_t wrong = pumxaqert_message(table, table_len, N, S, C, out, ROOM, answer, length, values);
     printf("damaged: refusal %u, byte %zu\n", (unsigned)wrong, values[3]);
+
+    /* No message begins with a 0: it stops the link's stream, at the byte after the answer. */
+    const uint8_t stray[1] = {0};
+    refusal |= arrive(stray, 1, came);
+    printf("the link is dropped at byte %zu\n", came[1]);
 
     /* NULL with length 0 is an empty area: no room at all is refusal 2. */
     printf("no room: refusal %u\n", (unsigned)pumxaqert_nudge(table, table_len, N, S, C, NULL, 0, 0, 1, values));

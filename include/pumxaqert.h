@@ -10,8 +10,9 @@
  *
  * Lent areas. A pointer comes with its length, in elements, and is aligned as its type asks. No lent area overlaps
  * another, the values included. NULL may be given with length 0 and means an empty area; the values (values, fields,
- * length, codes, written, offset) may not be NULL, and need not be set before. What a call does not say it writes keeps its
- * contents: bytes of out after the written ones, places of the list after the filled ones, all other bytes of the table.
+ * length, codes, written, offset) may not be NULL, and need not be set before; place may not be NULL either. What a call
+ * does not say it writes keeps its contents: bytes of out after the written ones, bytes of buf after the taken ones,
+ * places of the list after the filled ones, all other bytes of the table.
  *
  * No call keeps a pointer, allocates, or calls the host; calls on different areas may run at the same time. The library
  * is for x86-64, where size_t has 64 bits. */
@@ -28,8 +29,8 @@ extern "C" {
 /* Refusals, in the order in which they are tried: the first that holds counts. */
 enum {
     PUMXAQERT_SETUP = 1,             /* n, s, c or the table's length is wrong */
-    PUMXAQERT_UNSOUND = 11,          /* the table is not sound */
-    PUMXAQERT_ROOM = 2,              /* room for outgoing bytes is under 256 */
+    PUMXAQERT_UNSOUND = 11,          /* the table is not sound, or no calls leave such a place in a stream */
+    PUMXAQERT_ROOM = 2,              /* room for outgoing bytes is under 256, or a stream's buffer under 64 */
     PUMXAQERT_UNKNOWN_KIND = 31,     /* a message of no known kind, or no bytes at all */
     PUMXAQERT_WRONG_LENGTH = 32,     /* a message that is not as long as its kind */
     PUMXAQERT_WRONG_WAY = 33,        /* a message that is not for this copy, or is from it */
@@ -96,6 +97,31 @@ uint32_t pumxaqert_read_message(size_t n, size_t s, size_t c, const uint8_t *byt
  * field before all others. c is the copy that writes; it need not be the message's `from`. */
 uint32_t pumxaqert_write_message(size_t n, size_t s, size_t c, uint8_t *out, size_t out_len, const uint64_t fields[18],
                                  size_t *written, size_t *offset);
+
+/* Messages off a stream. A link hands bytes over cut anywhere; the reader gives whole messages back, and what is left
+ * of one waits for the next bytes. The kind, a message's first byte, alone says how long it is; nothing else is judged
+ * here. A byte of no known kind where a message should begin stops the stream for good: nothing more is taken, and each
+ * call says the same stop.
+ *
+ * buf is the reader's buffer, at least 64 bytes; between the calls its contents are the library's. place says where the
+ * reader stands: it is the caller's to keep, beside buf, and the library's to change. The bytes held are those of buf
+ * from place[0] up to, not including, place[1], and the first of them is byte place[2] of the stream, counted from its
+ * start. A refusal leaves it as it was.
+ *
+ * take and next refuse 11, if no calls on a buffer of this length leave such a place behind, and then 2. */
+
+/* Begins a stream: place becomes 0, 0, 0, and need not be set before. Refuses 2. */
+uint32_t pumxaqert_stream_begin(const uint8_t *buf, size_t buf_len, size_t place[3]);
+
+/* Takes the next bytes of the stream, from the first on, as many as there is room for: what is held moves to the front
+ * of buf, and they follow it. Where next has said that there is nothing, at least one byte is taken if one is offered.
+ * values: how many bytes were taken; 1 if the stream has stopped, else 0; the offset of the stop, else 0. */
+uint32_t pumxaqert_stream_take(uint8_t *buf, size_t buf_len, size_t place[3], const uint8_t *bytes, size_t bytes_len,
+                               size_t values[3]);
+
+/* The next whole message, which stays in buf until the next take. values: 0, 0, 0 if none is held; 1, where in buf the
+ * message starts, its length; 2, the offset of the stop, 0. */
+uint32_t pumxaqert_stream_next(const uint8_t *buf, size_t buf_len, size_t place[3], size_t values[3]);
 
 #ifdef __cplusplus
 }

@@ -160,3 +160,45 @@ fn event(setup: Setup, call: Option<Call>, areas: &mut Areas) -> u32 {
         }
     }
 }
+
+/// What a call on a stream is lent, and where it puts its answer.
+pub struct StreamAreas {
+    pub buf: Area<u8>,
+    pub place: Area<usize>,
+    pub bytes: Area<u8>,
+    pub values: Area<usize>,
+}
+
+impl StreamAreas {
+    pub fn guards_hold(&self) -> bool {
+        self.buf.guards_hold()
+            && self.place.guards_hold()
+            && self.bytes.guards_hold()
+            && self.values.guards_hold()
+    }
+}
+
+#[derive(Clone, Copy, Debug, PartialEq, Eq)]
+pub enum StreamCall {
+    Begin,
+    /// The bytes stand in their area.
+    Take,
+    Next,
+}
+
+/// The number that the C call returns.
+pub fn c_stream(call: StreamCall, areas: &mut StreamAreas) -> u32 {
+    let (buf, buf_len) = areas.buf.lend();
+    let (bytes, bytes_len) = areas.bytes.lend();
+    let (place, values) = (areas.place.lend().0.cast(), areas.values.lend().0.cast());
+    // SAFETY: as above; place and values have three places each.
+    unsafe {
+        match call {
+            StreamCall::Begin => pumxaqert_stream_begin(buf, buf_len, place),
+            StreamCall::Take => {
+                pumxaqert_stream_take(buf, buf_len, place, bytes, bytes_len, values)
+            }
+            StreamCall::Next => pumxaqert_stream_next(buf, buf_len, place, values),
+        }
+    }
+}

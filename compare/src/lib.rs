@@ -16,6 +16,7 @@ pub mod random;
 pub mod reasons;
 pub mod shapes;
 pub mod stack;
+pub mod streams;
 pub mod sweeps;
 pub mod threads;
 pub mod world;

@@ -1,11 +1,13 @@
 //! host FOLDER [SEED]: three copies in files of the folder take edits of two cells over a bad network, are cut off at
 //! every bad moment, and go on. In the end all must have handed out the edits of each cell in the same order.
 
+mod end;
 mod network;
 mod site;
 mod store;
 
-use network::Network;
+use end::End;
+use network::{Link, Network};
 use pumxaqert::{Command, Instance, Op, Refusal, Settling, Setup};
 use site::{Moment, Outcome, Site};
 use std::io::{Error, ErrorKind, Result};
@@ -36,6 +38,8 @@ struct Host {
     wanted: Vec<Command>,
     /// The instance that each taken edit was given.
     taken: Vec<(Instance, Command)>,
+    /// How many messages came to a copy.
+    heard: usize,
     cuts: usize,
 }
 
@@ -68,6 +72,7 @@ fn run(folder: PathBuf, seed: u64) -> Result<bool> {
         network: Network::new(seed),
         wanted: (1..=EDITS).rev().map(edit).collect(),
         taken: Vec::new(),
+        heard: 0,
         cuts: 0,
     };
     println!("{COPIES} copies, {EDITS} edits of cells {CELLS:?}, seed {seed}");
@@ -80,8 +85,8 @@ fn run(folder: PathBuf, seed: u64) -> Result<bool> {
             break;
         }
     }
-    let Network { delivered, lost, .. } = host.network;
-    println!("{delivered} messages delivered, {lost} lost, {} cuts", host.cuts);
+    let Host { heard, cuts, network: Network { pieces, lost, .. }, .. } = host;
+    println!("{heard} messages heard in {pieces} pieces, {lost} lost, {cuts} cuts");
     host.judge()
 }
 
@@ -92,7 +97,7 @@ impl Host {
             0 | 1 if !self.wanted.is_empty() => self.request(copy),
             2 => self.hand_out(copy),
             _ => match self.network.deliver() {
-                Some((to, message)) => self.hear(to, &message),
+                Some((link, piece)) => self.arrive(link, &piece),
                 None => self.push(copy),
             },
         }
@@ -110,7 +115,7 @@ impl Host {
                     command.edit, command.key
                 );
                 self.taken.push((event.instance, command));
-                self.network.send(&bytes);
+                self.network.send(copy, &bytes);
             }
             Outcome::Refused(Refusal::NoBlank) => self.wanted.push(command),
             Outcome::Refused(refusal) => println!("edit {} is refused: {refusal}", command.edit),
@@ -153,11 +158,39 @@ impl Host {
         }
     }
 
+    /// Bytes came in on a link: each message that they complete is an event, in its order. A stop leaves nothing to be
+    /// read from the link, so that it is dropped; the messages lost with it are lost as any may be.
+    fn arrive(&mut self, link: Link, piece: &[u8]) -> Result<()> {
+        let (from, to) = link;
+        let (messages, stop) = self.sites[to].ends[from].arrive(piece);
+        let cuts = self.cuts;
+        for message in messages {
+            self.hear(to, &message)?;
+            if self.cuts > cuts {
+                // Its memory is gone, and with it the messages that it had not come to.
+                return Ok(());
+            }
+        }
+        if let Some(stop) = stop {
+            println!("copy {to} drops the link from copy {from}: {stop}");
+            self.drop_link(link);
+        }
+        Ok(())
+    }
+
     fn hear(&mut self, copy: usize, message: &[u8]) -> Result<()> {
+        self.heard += 1;
         let moment = self.sites[copy].cut;
         let outcome = self.sites[copy].event(|s, table, out| s.message(table, out, message))?;
         self.after(copy, moment, outcome);
         Ok(())
+    }
+
+    /// What is on the link is lost, and its receiving end begins with the new one's first byte.
+    fn drop_link(&mut self, link: Link) {
+        let (from, to) = link;
+        self.network.drop_link(link);
+        self.sites[to].ends[from] = End::begin();
     }
 
     /// Nothing is in flight: the first taken edit that is not settled here is pushed on.
@@ -191,7 +224,7 @@ impl Host {
 
     fn after(&mut self, copy: usize, moment: Option<Moment>, outcome: Outcome) {
         match outcome {
-            Outcome::Answered(_, bytes) => self.network.send(&bytes),
+            Outcome::Answered(_, bytes) => self.network.send(copy, &bytes),
             Outcome::Refused(refusal) => println!("copy {copy} refuses: {refusal}"),
             Outcome::Cut => self.account(copy, moment),
         }
@@ -215,6 +248,10 @@ impl Host {
             None => "unasked",
         };
         println!("copy {copy} is cut off {words}, and starts again from its files");
+        for other in 0..COPIES {
+            self.drop_link((copy, other));
+            self.drop_link((other, copy));
+        }
     }
 
     fn settled_everywhere(&self, at: Instance) -> bool {

@@ -1,18 +1,28 @@
-//! Messages in flight: lost, repeated and reordered as a seed has it.
+//! Links between the copies. On its way to its link a message is lost, repeated or overtaken as a seed has it; a link
+//! hands its bytes over in order, cut anywhere.
+
+use pumxaqert::{Stream, ROOM};
+use std::collections::BTreeMap;
+
+/// From one copy to another.
+pub type Link = (usize, usize);
 
 pub struct Network {
     state: u64,
-    flying: Vec<Vec<u8>>,
+    flying: Vec<(Link, Vec<u8>)>,
+    /// Bytes on each link that has some.
+    wires: BTreeMap<Link, Vec<u8>>,
     pub lost: usize,
-    pub delivered: usize,
+    pub pieces: usize,
 }
 
-/// The length of each kind of message; kind 0 is none.
-const LENGTHS: [usize; 9] = [0, 37, 24, 37, 10, 37, 10, 42, 14];
+/// No message begins with it.
+const STRAY: u8 = 0;
 
 impl Network {
     pub fn new(seed: u64) -> Network {
-        Network { state: seed, flying: Vec::new(), lost: 0, delivered: 0 }
+        let (flying, wires) = (Vec::new(), BTreeMap::new());
+        Network { state: seed, flying, wires, lost: 0, pieces: 0 }
     }
 
     /// splitmix64: the same numbers on every run.
@@ -24,30 +34,57 @@ impl Network {
         (z ^ (z >> 31)) % n
     }
 
-    /// Takes the messages of one event; one in five is lost.
-    pub fn send(&mut self, mut bytes: &[u8]) {
-        while let Some(&kind) = bytes.first() {
-            let (message, rest) = bytes.split_at(LENGTHS[kind as usize]);
+    /// Takes the messages of one event of this copy; one in five is lost. What an event wrote is a short stream too, so
+    /// that the library says where its messages end; the third byte of each is its destination.
+    pub fn send(&mut self, from: usize, bytes: &[u8]) {
+        let mut buf = [0; ROOM];
+        let mut stream = Stream::begin(&mut buf).expect("room enough");
+        stream.take(bytes).expect("a stream has no stop before its first byte");
+        for message in stream.messages() {
             if self.below(5) == 0 {
                 self.lost += 1;
             } else {
-                self.flying.push(message.to_vec());
+                self.flying.push(((from, message[2] as usize), message.to_vec()));
             }
-            bytes = rest;
         }
     }
 
-    /// One of those in flight, and the copy that it is for; one in ten arrives again later.
-    pub fn deliver(&mut self) -> Option<(usize, Vec<u8>)> {
+    /// One of those in flight gets onto its link; one in ten will do so again later. Now and then a byte that nobody sent
+    /// gets there before it.
+    fn load(&mut self) {
         if self.flying.is_empty() {
-            return None;
+            return;
         }
         let at = self.below(self.flying.len() as u64) as usize;
-        let message = match self.below(10) {
+        let (link, message) = match self.below(10) {
             0 => self.flying[at].clone(),
             _ => self.flying.swap_remove(at),
         };
-        self.delivered += 1;
-        Some((message[2] as usize, message))
+        let stray = self.below(60) == 0;
+        let wire = self.wires.entry(link).or_default();
+        wire.extend(stray.then_some(STRAY));
+        wire.extend(message);
+    }
+
+    /// The next bytes of some link.
+    pub fn deliver(&mut self) -> Option<(Link, Vec<u8>)> {
+        self.load();
+        if self.wires.is_empty() {
+            return None;
+        }
+        let at = self.below(self.wires.len() as u64) as usize;
+        let &link = self.wires.keys().nth(at).expect("one of them");
+        let mut piece = self.wires.remove(&link).expect("it has bytes");
+        let rest = piece.split_off(1 + self.below(piece.len() as u64) as usize);
+        if !rest.is_empty() {
+            self.wires.insert(link, rest);
+        }
+        self.pieces += 1;
+        Some((link, piece))
+    }
+
+    /// The link is gone, with what is on it. Another begins where it was.
+    pub fn drop_link(&mut self, link: Link) {
+        self.wires.remove(&link);
     }
 }

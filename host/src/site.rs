@@ -1,5 +1,6 @@
 //! One site with its copy: hands events in, saves what changed, and only then lets messages go.
 
+use crate::end::End;
 use crate::store::Store;
 use pumxaqert::{Event, Instance, Refusal, Settling, Setup, ROOM};
 use std::io::Result;
@@ -29,6 +30,8 @@ pub struct Site {
     table: Vec<u8>,
     /// How many codes the order file holds.
     handed: usize,
+    /// The link from each copy. What they hold of a message is in no file: after a cut their streams begin anew.
+    pub ends: Vec<End>,
     /// The next event that comes to this moment is cut off there.
     pub cut: Option<Moment>,
 }
@@ -49,7 +52,8 @@ impl Site {
             setup.hand_out(&mut table.clone(), &mut next).map_err(|_| Store::bad("no hand-out"))?;
         let unmarked = count > 0 && order.last() == Some(&next[0]);
         let handed = order.len() - unmarked as usize;
-        Ok(Site { setup, folder: folder.to_path_buf(), store, table, handed, cut: None })
+        let ends = (0..setup.n).map(|_| End::begin()).collect();
+        Ok(Site { setup, folder: folder.to_path_buf(), store, table, handed, ends, cut: None })
     }
 
     fn is_cut(&mut self, moment: Moment) -> Result<bool> {

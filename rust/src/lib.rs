@@ -7,9 +7,11 @@
 mod message;
 pub mod raw;
 mod refusal;
+mod stream;
 
 pub use message::{Body, Command, Deps, Fields, Message, Op};
 pub use refusal::{Field, Refusal};
+pub use stream::{Messages, Place, Stop, Stream, STREAM_ROOM};
 
 /// Room that every event, and the writer, asks for.
 pub const ROOM: usize = 256;
@@ -53,12 +55,14 @@ pub enum Settling {
 /// Only the calls on a message name a field of one, and no message is of this kind.
 const NO_MESSAGE: u8 = 0;
 
+#[inline]
 fn refused(number: u32) -> Result<(), Refusal> {
     refused_at(number, NO_MESSAGE, 0)
 }
 
 /// The answer about a message of this kind. What is not the paper's cannot come from the proved library: something else
 /// was linked.
+#[inline]
 fn refused_at(number: u32, kind: u8, offset: usize) -> Result<(), Refusal> {
     match number {
         0 => Ok(()),

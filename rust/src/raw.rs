@@ -129,4 +129,22 @@ extern "C" {
         written: *mut usize,
         offset: *mut usize,
     ) -> u32;
+
+    pub fn pumxaqert_stream_begin(buf: *const u8, buf_len: usize, place: *mut [usize; 3]) -> u32;
+
+    pub fn pumxaqert_stream_take(
+        buf: *mut u8,
+        buf_len: usize,
+        place: *mut [usize; 3],
+        bytes: *const u8,
+        bytes_len: usize,
+        values: *mut [usize; 3],
+    ) -> u32;
+
+    pub fn pumxaqert_stream_next(
+        buf: *const u8,
+        buf_len: usize,
+        place: *mut [usize; 3],
+        values: *mut [usize; 3],
+    ) -> u32;
 }

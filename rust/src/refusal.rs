@@ -7,7 +7,7 @@ use core::fmt;
 pub enum Refusal {
     /// A wrong N, S or copy, or a table of another length.
     Setup,
-    /// Room for outgoing bytes is under 256.
+    /// Room for outgoing bytes is under 256, or a stream's buffer under 64.
     Room,
     /// A request's op is not a read or a write.
     Op,
@@ -23,7 +23,7 @@ pub enum Refusal {
     NudgeIdle,
     /// A Commit differs from the stored one.
     OtherCommit,
-    /// The table is not sound.
+    /// The table is not sound, or no calls leave such a place in a stream.
     Unsound,
     /// A message of no known kind, or no bytes at all.
     UnknownKind,
@@ -84,7 +84,7 @@ impl Refusal {
     fn words(self) -> &'static str {
         match self {
             Refusal::Setup => "a wrong setup, copy or table length",
-            Refusal::Room => "room for outgoing bytes is under 256",
+            Refusal::Room => "room for outgoing bytes is under 256, or a stream's buffer under 64",
             Refusal::Op => "the op of a request is not a read or a write",
             Refusal::NoBlank => "no blank own record is left",
             Refusal::Instance => "no such instance",
@@ -92,7 +92,7 @@ impl Refusal {
             Refusal::RecoverCommitted => "what is to be recovered is committed",
             Refusal::NudgeIdle => "nothing is under way to be nudged",
             Refusal::OtherCommit => "a Commit differs from the stored one",
-            Refusal::Unsound => "the table is not sound",
+            Refusal::Unsound => "the table, or the place in a stream, is not sound",
             Refusal::UnknownKind => "a message of unknown kind, or an empty one",
             Refusal::WrongLength => "a message that is not as long as its kind",
             Refusal::WrongWay => "a message to another copy, or from this one",

@@ -16,6 +16,7 @@ pub mod order;
 pub mod refusal;
 pub mod rules;
 pub mod setup;
+pub mod stream;
 pub mod table;
 
 pub use events::{message, nudge, recover, request, Event};

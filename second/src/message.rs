@@ -18,7 +18,7 @@ pub const PREPARE_OK: u8 = 7;
 pub const NACK: u8 = 8;
 
 /// The length of each kind; kind 0 is none.
-const LENGTHS: [usize; 9] = [0, 37, 24, 37, 10, 37, 10, 42, 14];
+pub(crate) const LENGTHS: [usize; 9] = [0, 37, 24, 37, 10, 37, 10, 42, 14];
 pub(crate) const LONGEST: usize = 42;
 
 // Where the fields begin; a body by itself begins after the ten bytes of the head.
@@ -71,12 +71,18 @@ fn known(kind: u8) -> bool {
     (PRE_ACCEPT..=NACK).contains(&kind)
 }
 
+/// How long a message of this kind is; none where there is no such kind.
+#[inline(always)]
+pub fn length_of(kind: u8) -> Option<usize> {
+    known(kind).then(|| LENGTHS[kind as usize])
+}
+
 /// The fields as they stand; only kind and length are judged.
 #[inline(always)]
 pub fn decode(bytes: &[u8]) -> Result<Message, Refusal> {
     let kind = *bytes.first().ok_or(UNKNOWN_KIND)?;
-    ask(known(kind), UNKNOWN_KIND)?;
-    ask(bytes.len() == LENGTHS[kind as usize], WRONG_LENGTH)?;
+    let length = length_of(kind).ok_or(UNKNOWN_KIND)?;
+    ask(bytes.len() == length, WRONG_LENGTH)?;
     let head = Message {
         kind,
         from: bytes[FROM],

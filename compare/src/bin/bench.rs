@@ -1,14 +1,16 @@
-//! bench [quick | messages | orders]: the library beside the second program, as Markdown for docs/BENCH.md. Every figure of a line was
+//! bench [quick | messages | streams | orders]: the library beside the second program, as Markdown for docs/BENCH.md. Every figure of a line was
 //! measured in the same rounds, turn and turn about; times are medians.
 
 use compare::both::{library_side, second_side, Call, Lent, LIST, OUT};
 use compare::cases::{self, Case};
+use compare::guarded::StreamCall;
 use compare::measure::Rounds;
 use compare::stack::Stack;
-use compare::{linear, make, shapes, sweeps, UNTOUCHED, UNTOUCHED_CODE};
-use pumxaqert::{raw, Setup};
-use second::fields;
+use compare::{linear, make, shapes, streams, sweeps, UNTOUCHED, UNTOUCHED_CODE};
+use pumxaqert::{raw, Setup, Stream};
+use second::stream::{self, Next, Place, Took};
 use second::table::RECORD_LEN;
+use second::{broken, fields};
 use std::hint::black_box;
 use std::time::Duration;
 
@@ -23,6 +25,7 @@ fn main() {
     };
     match &word[..] {
         "messages" => return messages(&rounds),
+        "streams" => return streams(&rounds),
         "orders" => return orders(&rounds),
         _ => {}
     }
@@ -31,6 +34,7 @@ fn main() {
     sizes(&rounds, false);
     sizes(&rounds, true);
     messages(&rounds);
+    streams(&rounds);
     orders(&rounds);
     growth(&rounds);
     stack();
@@ -292,6 +296,139 @@ fn message(rounds: &Rounds, m: &second::Message) -> [[f64; 4]; 2] {
         &mut || keep(LARGEST.write_message(black_box(&mut *wrapper_out), black_box(&wrapped))),
     ]);
     [[times[0], times[1], times[2], times[3]], [times[4], times[5], times[6], times[7]]]
+}
+
+/// All eight kinds in turn; the end cuts a message.
+fn eight_kinds(length: usize) -> Vec<u8> {
+    let mut all = Vec::new();
+    for kind in (1..=8).cycle() {
+        if all.len() >= length {
+            break;
+        }
+        let mut bytes = [0; 42];
+        let whole = second::message::encode(&broken::valid(7, 0, kind, 3), &mut bytes);
+        all.extend(&bytes[..whole]);
+    }
+    all.truncate(length);
+    all
+}
+
+fn streams(rounds: &Rounds) {
+    let bytes = eight_kinds(65_536);
+    println!(
+        "\n## A stream of {} bytes, all eight kinds, every message read after each take\n",
+        bytes.len()
+    );
+    let seconds =
+        "second, its own struct | ratio (at most 1.1) | second, called as the library is | ratio";
+    println!("| buffer | pieces | library | {seconds} | plain copy | library by the copy |");
+    println!("|---|---|---|---|---|---|---|---|---|");
+    for room in [64, 65_536] {
+        for piece in [1, 16, 1460, 65_536] {
+            let [library, own, second, copy] = stream(rounds, &bytes, room, piece);
+            println!(
+                "| {room} | {piece} | {} | {} | {:.2} | {} | {:.2} | {} | {:.2} |",
+                time(library),
+                time(own),
+                library / own,
+                time(second),
+                library / second,
+                time(copy),
+                library / copy
+            );
+        }
+    }
+}
+
+/// Library, the second program by its own struct and called as the library is, and a plain copy of the pieces into the
+/// buffer.
+fn stream(rounds: &Rounds, bytes: &[u8], room: usize, piece: usize) -> [f64; 4] {
+    let mut bufs = vec![vec![0; room]; 4];
+    let [theirs, own, ours, copied] = &mut bufs[..] else { unreachable!("four buffers") };
+    let times = rounds.medians(&mut [
+        &mut || {
+            let mut stream = Stream::begin(theirs).expect("room enough");
+            hand_over(bytes, piece, |piece| {
+                let count = stream.take(piece).expect("no stop");
+                stream.messages().for_each(keep);
+                count
+            });
+        },
+        &mut || {
+            let mut stream = stream::Stream::begin(own).expect("room enough");
+            hand_over(bytes, piece, |piece| {
+                let Took::Bytes(count) = stream.take(piece) else { unreachable!("no stop") };
+                while let Next::Message(message) = stream.next_message() {
+                    keep(message);
+                }
+                count
+            });
+        },
+        &mut || second_by_calls(bytes, piece, ours),
+        &mut || {
+            hand_over(bytes, piece, |piece| {
+                let count = piece.len().min(room);
+                copied[..count].copy_from_slice(&piece[..count]);
+                keep(&mut *copied);
+                count
+            });
+        },
+    ]);
+    [times[0], times[1], times[2], times[3]]
+}
+
+fn second_by_calls(bytes: &[u8], piece: usize, buf: &mut [u8]) {
+    let (mut place, mut values) = ([0; 3], [0; 3]);
+    hand_over(bytes, piece, |piece| {
+        keep(second_take(buf, &mut place, piece, &mut values));
+        let count = values[0];
+        while second_next(buf, &mut place, &mut values) == 0 && values[0] == 1 {
+            let [_, start, length] = values;
+            keep(&buf[start..start + length]);
+        }
+        count
+    });
+}
+
+#[inline(never)]
+fn second_take(
+    buf: &mut [u8],
+    place: &mut [usize; 3],
+    bytes: &[u8],
+    values: &mut [usize; 3],
+) -> u32 {
+    on_numbers(StreamCall::Take, buf, place, bytes, values)
+}
+
+#[inline(never)]
+fn second_next(buf: &mut [u8], place: &mut [usize; 3], values: &mut [usize; 3]) -> u32 {
+    on_numbers(StreamCall::Next, buf, place, &[], values)
+}
+
+/// Judges the place, and goes to and from the C call's numbers.
+#[inline(always)]
+fn on_numbers(
+    call: StreamCall,
+    buf: &mut [u8],
+    place: &mut [usize; 3],
+    bytes: &[u8],
+    values: &mut [usize; 3],
+) -> u32 {
+    let [at, end, offset] = *place;
+    let mut moved = Place { at, end, offset };
+    let (number, told) = streams::second_side(call, buf, &mut moved, bytes).told();
+    (*place, *values) = (streams::lent(moved), told);
+    number
+}
+
+/// Hands the bytes over in pieces of this length; what was not taken is offered again.
+#[inline(always)]
+fn hand_over(bytes: &[u8], length: usize, mut take: impl FnMut(&[u8]) -> usize) {
+    for mut piece in black_box(bytes).chunks(length) {
+        while !piece.is_empty() {
+            piece = &piece[take(piece)..];
+        }
+    }
 }
 
 fn orders(rounds: &Rounds) {

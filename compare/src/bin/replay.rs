@@ -1,18 +1,20 @@
 //! replay DIR_OR_FILES: recorded runs through the public C calls and through the second program: every answer, every
-//! outgoing byte and every list as recorded, and every table byte the same on both sides.
+//! outgoing byte and every list as recorded, and every byte of tables and streams' buffers the same on both sides.
 
 use compare::both::{Answer, Both, Call, Pair, LIST};
 use compare::make;
+use compare::streams::{self, Readers};
 use pumxaqert::{Setup, ROOM};
 use std::path::{Path, PathBuf};
 use std::process::ExitCode;
 
-/// The copies of one run.
+/// The copies of one run, and the stream that was opened last.
 struct Run {
     n: usize,
     s: usize,
     tables: Vec<Pair>,
     both: Both,
+    readers: Readers,
 }
 
 impl Run {
@@ -28,10 +30,41 @@ impl Run {
                 other => return Err(format!("no blank table: {other:?}")),
             }
         }
-        Ok(Run { n, s, tables, both })
+        Ok(Run { n, s, tables, both, readers: Readers::default() })
     }
 
-    /// The answer as the recorded runs write it.
+    /// The answer as the recorded runs write it. A stream belongs to no copy.
+    fn line(&mut self, words: &[&str]) -> Result<String, String> {
+        match *words {
+            ["stream", _] => match self.readers.begin(number(words, 1)?)? {
+                streams::Answer::Begun => Ok("opened".into()),
+                streams::Answer::Refused(refusal) => Ok(format!("refused {refusal}")),
+                other => Err(format!("{other:?}")),
+            },
+            ["take", bytes] => self.take(&from_hex(bytes)?),
+            _ => self.call(words),
+        }
+    }
+
+    /// One take, and then every whole message.
+    fn take(&mut self, bytes: &[u8]) -> Result<String, String> {
+        let count = match self.readers.take(bytes)? {
+            streams::Answer::Took(count) => count,
+            streams::Answer::Stopped(_) => 0,
+            other => return Err(format!("{other:?}")),
+        };
+        let mut told = format!("took {count} messages");
+        loop {
+            match self.readers.next_message()? {
+                streams::Answer::Message(start, length) => {
+                    told += &format!(" {}", to_hex(self.readers.message(start, length)));
+                }
+                streams::Answer::Stop(offset) => return Ok(told + &format!(" stop {offset}")),
+                _ => return Ok(told),
+            }
+        }
+    }
+
     fn call(&mut self, words: &[&str]) -> Result<String, String> {
         let copy: usize = number(words, 0)?;
         let bytes;
@@ -111,7 +144,7 @@ fn replay(path: &Path) -> Result<(usize, usize), String> {
             continue;
         }
         let wanted = lines.next().and_then(|(_, answer)| answer.strip_prefix('=')).map(str::trim);
-        let got = run.as_mut().map_err(|wrong| wrong.clone()).and_then(|run| run.call(&words));
+        let got = run.as_mut().map_err(|wrong| wrong.clone()).and_then(|run| run.line(&words));
         calls += 1;
         if got.as_deref().ok() != wanted || wanted.is_none() {
             mismatches += 1;

@@ -4,6 +4,7 @@
 #![allow(clippy::missing_safety_doc, clippy::too_many_arguments)]
 
 mod planted;
+mod stream;
 
 use planted::Planted;
 use second::fields::{self, Fields};

@@ -39,11 +39,27 @@ pub enum Planted {
     EarlierBlamed,
     /// The writer blames all dependencies for one.
     EntriesAsOne,
+    /// A stream's refill drops what is left of a message.
+    RestDropped,
+    /// A message that the end of the buffer cuts is taken for whole.
+    CutTakenForWhole,
+    /// A take goes on after a stop.
+    StopForgotten,
+    /// The offset of a stop is counted from the buffer's start.
+    OffsetInBuffer,
+    /// Kind 8 is a byte shorter.
+    LengthOffByOne,
+    /// A place is accepted though what went before the buffer is no whole messages.
+    UnsoundAccepted,
+    /// A byte of the buffer after the taken ones is touched.
+    BufferTouched,
+    /// A refusal begins the stream again.
+    PlaceForgotten,
 }
 
 use Planted::*;
 
-const ALL: [Planted; 16] = [
+const ALL: [Planted; 24] = [
     Nothing,
     JoinedAsVoted,
     WorkedOutAnew,
@@ -60,6 +76,14 @@ const ALL: [Planted; 16] = [
     WayBeforeRanges,
     EarlierBlamed,
     EntriesAsOne,
+    RestDropped,
+    CutTakenForWhole,
+    StopForgotten,
+    OffsetInBuffer,
+    LengthOffByOne,
+    UnsoundAccepted,
+    BufferTouched,
+    PlaceForgotten,
 ];
 
 impl Planted {

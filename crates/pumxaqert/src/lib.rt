@@ -3,4 +3,5 @@ pub mod events;
 pub mod fields;
 pub mod messages;
 pub mod ordering;
+pub mod streams;
 pub mod tables;

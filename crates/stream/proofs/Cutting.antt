@@ -60,7 +60,7 @@ module _ (m r : List ℕ) (e : Exact m) where
   unfolding restIn
   first-rest f = rw (exact-whole, exact-drop)
 
-no-bytes : (x : List ℕ) → length x ≡ 0 → isWhole x ≡ false
+pub no-bytes : (x : List ℕ) → length x ≡ 0 → isWhole x ≡ false
 unfolding isWhole
 no-bytes x z = go (rowOf (kindAt x) .known) (lt-leb (lengthOf (kindAt x)) (length x) (omega (arith, ten (kindAt x))))
   where

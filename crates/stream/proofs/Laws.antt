@@ -25,7 +25,7 @@ use Rattle.stream.specs.declared.taking.Took.the-variants as took
 use Rattle.stream.specs.declared.taking.Taken.{Taken}
 use Rattle.stream.specs.declared.yielding.Found.the-variants.{Message, Nothing, Stop, Refused}
 use Rattle.stream.specs.Place.{isSum, placeOk, held, gateOf, Within}
-use Rattle.stream.specs.Stream.{isStopped, isWhole, wholeLength, roomFor, unchanged, fill, takenOpen, taken, behind, stay, yieldedOpen, yielded, messageIn}
+use Rattle.stream.specs.Stream.{isStopped, isWhole, wholeLength, roomFor, Filled, unchanged, fill, takenOpen, taken, behind, stay, yieldedOpen, yielded, messageIn}
 
 -- the tests of a place, in their order
 module _ (l : ℕ) (p : Place) where
@@ -276,6 +276,10 @@ module _ (l : ℕ) (p : Place) (x : ℕ) (w : Within l p) where
       let m : roomFor l p x ≤ 18446744073709551615 - (p .offset + (p .end - p .at)) =
       le-trans (min-le-right x (min (l - (p .end - p .at)) (18446744073709551615 - (p .offset + (p .end - p .at))))) (min-le-right (l - (p .end - p .at)) (18446744073709551615 - (p .offset + (p .end - p .at)))) in
       omega arith
+
+-- an answer and a buffer that are known by what the call is
+pub both : {y z : Filled} {a : Taken} {b : List ℕ} → y ≡ z → a ≡ z .told → b ≡ z .buffer → (a ≡ y .told) × (b ≡ y .buffer)
+both e f g = (f ∙ ap (λ (x : Filled). x .told) (sym e), g ∙ ap (λ (x : Filled). x .buffer) (sym e))
 
 -- the calls, by gate and stop
 module _ (b : List ℕ) (p : Place) where

@@ -3,4 +3,5 @@ pub mod Moves
 pub mod Sums
 pub mod Cutting
 pub mod Kept
+pub mod Written
 pub mod Walk

@@ -5,7 +5,12 @@ use mathlib.Core.Path.{_≡_}
 use mathlib.Core.Bool.{Bool, true, false, cond}
 use mathlib.Core.List.{List, [], _∷_, _++_}
 use lib.ListN.{length, take, drop}
+use Rattle.paper.specs.Fits.{MessageFits}
+use Rattle.paper.specs.declared.Message.{Message}
 use Rattle.wire.specs.Wire.{lengthOf, kindAt}
+use Rattle.wire.specs.declared.Reading.the-variants as reading
+use Rattle.wire.specs.declared.Writing.the-variants as writing
+use Rattle.wire.specs.Calls.{readMessage, wrote}
 use Rattle.stream.specs.declared.place.Place.{Place}
 use Rattle.stream.specs.declared.taking.Took.{Took}
 use Rattle.stream.specs.declared.taking.Took.the-variants as took
@@ -132,3 +137,22 @@ abbrev pub Progress : Type 0
 Progress = (b : List ℕ) → 64 ≤ length b → (cs : List Call) (x : List ℕ) → answer (run (opened b) cs) ≡ found.Nothing → 0 < length x
     → length (run (opened b) cs .taken) + 1 < 18446744073709551616
     → 0 < countIn (taken (run (opened b) cs .buffer) (run (opened b) cs .place) x .told .answer)
+
+-- messages that the writer took, and the bytes that it wrote for each
+pub data Written (n s c : ℕ) : List Message → List (List ℕ) → Type 0 where
+  none : Written n s c [] []
+  more : {ms : List Message} {bs : List (List ℕ)} (m : Message) (out : List ℕ) (k : ℕ) → MessageFits m → wrote n s c out m .answer ≡ writing.Bytes k → Written n s c ms bs
+      → Written n s c (m ∷ ms) (take k (wrote n s c out m .out) ∷ bs)
+
+-- each is read as its message by the copy named in `to`
+abbrev pub EachRead : ℕ → ℕ → List Message → List (List ℕ) → Type 0
+EachRead n s [] [] = Unit {0}
+EachRead n s [] (b ∷ bs) = ⊥
+EachRead n s (m ∷ ms) [] = ⊥
+EachRead n s (m ∷ ms) (b ∷ bs) = (readMessage n s (m .to) b ≡ record { answer = reading.Valid; message = m }) × EachRead n s ms bs
+
+-- written messages one after another come out as they were through any cutting, and each reads back equal
+abbrev pub WrittenThrough : Type 0
+WrittenThrough = (n s c : ℕ) (ms : List Message) (bs : List (List ℕ)) → Written n s c ms bs → (b : List ℕ) → 64 ≤ length b → (cs : List Call) → Drained (run (opened b) cs)
+    → run (opened b) cs .taken ≡ joined bs
+    → (shown (run (opened b) cs) ≡ record { messages = bs; rest = length (joined bs); stopped = false }) × EachRead n s ms bs

@@ -1,15 +1,18 @@
 -- 2/12: what taking bytes and yielding a message answer, and the buffer and the place after it. Assumes nothing.
 use Prim.Native.Nat.{ℕ, _+_, _-_}
 use mathlib.Core.Bool.{Bool, _&&_, not, cond}
-use mathlib.Core.List.{List, []}
+use mathlib.Core.List.{List, [], _∷_}
 use lib.Dec.{eqb, leb}
 use lib.ListN.{length, take}
 use Prim.Native.Nat.{min}
 use Rattle.numbers.specs.Num.{splice}
 use Rattle.paper.specs.Message.{rowOf}
+use Rattle.paper.specs.Refusal.{numberOf}
 use Rattle.paper.specs.declared.Refusal.{Refusal}
 use Rattle.wire.specs.Wire.{lengthOf, kindAt}
 use Rattle.stream.specs.declared.place.Place.{Place}
+use Rattle.stream.specs.declared.place.Begun.{Begun}
+use Rattle.stream.specs.declared.place.Begun.the-variants as begin
 use Rattle.stream.specs.declared.place.Gate.{Gate}
 use Rattle.stream.specs.declared.place.Gate.the-variants.{Open, Shut}
 use Rattle.stream.specs.declared.taking.Took.{Took}
@@ -90,3 +93,32 @@ messageThrough Open h = take (wholeLength h) h
 -- its bytes, as they stand in the buffer; none where no message is yielded
 unfoldable pub messageIn : List ℕ → Place → List ℕ
 messageIn b p = messageThrough (gateOf (length b) p) (held b p)
+
+-- the paper's number of an answer, 0 for none
+abbrev pub begunNumber : Begun → ℕ
+begunNumber (begin.At p) = 0
+begunNumber (begin.Refused r) = numberOf r
+
+abbrev pub tookNumber : Took → ℕ
+tookNumber (took.Bytes k) = 0
+tookNumber (took.Stopped o) = 0
+tookNumber (took.Refused r) = numberOf r
+
+abbrev pub foundNumber : Found → ℕ
+foundNumber (found.Message n) = 0
+foundNumber found.Nothing = 0
+foundNumber (found.Stop o) = 0
+foundNumber (found.Refused r) = numberOf r
+
+-- and its values: how many bytes were taken, whether the stream has stopped, and where
+abbrev pub tookValues : Took → List ℕ
+tookValues (took.Bytes k) = k ∷ 0 ∷ 0 ∷ []
+tookValues (took.Stopped o) = 0 ∷ 1 ∷ o ∷ []
+tookValues (took.Refused r) = 0 ∷ 0 ∷ 0 ∷ []
+
+-- 1, where in the buffer a message begins and its length; 2 and the offset of the stop; 0 for nothing
+abbrev pub foundValues : ℕ → Found → List ℕ
+foundValues at (found.Message n) = 1 ∷ at ∷ n ∷ []
+foundValues at found.Nothing = 0 ∷ 0 ∷ 0 ∷ []
+foundValues at (found.Stop o) = 2 ∷ o ∷ 0 ∷ []
+foundValues at (found.Refused r) = 0 ∷ 0 ∷ 0 ∷ []

@@ -1,7 +1,10 @@
 //! Prints runs whose calls have bad arguments or bad tables, each call followed
 //! by the answer that this library gives, for the proved program `runs` to
 //! play. Answers end with checksums of the table and of the room after the call.
+//! Then streams, in a run that is not watched.
 
+use second::message::length_of;
+use second::stream::Stream;
 use second::table::RECORD_LEN;
 use second::{
     blank_table, hand_out, message, nudge, recover, request, settled, table_len, Event, Refusal,
@@ -308,6 +311,103 @@ fn unsound(run: &mut Run, n: usize, s: usize) {
     }
 }
 
+/// A stream over a buffer of this room, its bytes handed over in these pieces.
+fn stream<'a>(text: &mut String, room: usize, pieces: impl IntoIterator<Item = &'a [u8]>) {
+    let mut buf = vec![UNTOUCHED; room];
+    let Some(mut stream) = open(text, &mut buf) else { return };
+    pieces.into_iter().for_each(|piece| take(text, &mut stream, piece));
+}
+
+/// The same, with as much of the rest as a line holds handed over each time, until all was taken.
+fn greedy_stream(text: &mut String, room: usize, bytes: &[u8]) {
+    let mut buf = vec![UNTOUCHED; room];
+    let Some(mut stream) = open(text, &mut buf) else { return };
+    let mut taken = 0;
+    while taken < bytes.len() {
+        let end = bytes.len().min(taken + LONGEST_LINE);
+        take(text, &mut stream, &bytes[taken..end]);
+        let place = stream.place();
+        taken = place.offset + place.end - place.at;
+    }
+}
+
+/// The bytes that a line of the proved program can have.
+const LONGEST_LINE: usize = 300;
+
+fn open<'a>(text: &mut String, buf: &'a mut [u8]) -> Option<Stream<'a>> {
+    writeln!(text, "stream {}", buf.len()).unwrap();
+    match Stream::begin(buf) {
+        Ok(stream) => {
+            writeln!(text, "= opened").unwrap();
+            Some(stream)
+        }
+        Err(r) => {
+            writeln!(text, "= refused {r}").unwrap();
+            None
+        }
+    }
+}
+
+fn take(text: &mut String, stream: &mut Stream, bytes: &[u8]) {
+    write!(text, "take {}\n= ", to_hex(bytes)).unwrap();
+    stream.play(bytes, text).unwrap();
+    writeln!(text).unwrap();
+}
+
+/// A message of each kind, all its bytes different.
+fn all_kinds() -> Vec<u8> {
+    let mut bytes = Vec::new();
+    for kind in 1..=8 {
+        let length = length_of(kind).expect("a known kind");
+        bytes.push(kind);
+        bytes.extend((1..length).map(|at| (16 * kind as usize + at) as u8));
+    }
+    bytes
+}
+
+/// Buffers too small and just large enough, pieces of none, one and many bytes, and more than there is room for.
+fn pieces(text: &mut String, all: &[u8]) {
+    for room in [0, 1, 37, 63, 64] {
+        stream(text, room, []);
+    }
+    stream(text, 64, [&[] as &[u8], &all[..1], &[], &all[1..37], &[], &[], &all[37..61], &[]]);
+    for length in [1, 2, 7, 23, 36, 37, 38, 63, 64] {
+        stream(text, 64, all.chunks(length));
+    }
+    let thrice = [all, all, all].concat();
+    for room in [64, 65, 73, 100, 128, 210, 211, 212, 300] {
+        stream(text, room, all.chunks(42));
+        greedy_stream(text, room, &thrice);
+    }
+}
+
+/// A byte of no kind stops the stream where a kind is due, and nowhere else; whatever is handed over then.
+fn stops(text: &mut String, all: &[u8]) {
+    let nothing: &[u8] = &[];
+    for unknown in [0, 9, 128, 255] {
+        stream(text, 64, [&[unknown][..], &[unknown], nothing, &all[..37]]);
+        stream(text, 64, [&[unknown, 4, 6, 8][..], all, nothing]);
+        for room in [64, 85, 300] {
+            for (before, length) in [(37, 37), (61, 5), (61, 61), (98, 98), (211, 64), (211, 212)] {
+                let stopped = [&all[..before], &[unknown], all].concat();
+                stream(text, room, stopped.chunks(length));
+            }
+        }
+    }
+    for at in 0..37 {
+        let mut inside = all[..61].to_vec();
+        inside[at] = 9;
+        stream(text, 64, inside.chunks(31));
+    }
+}
+
+fn streams(run: &mut Run) {
+    run.say("run 3 1".into());
+    let all = all_kinds();
+    pieces(&mut run.text, &all);
+    stops(&mut run.text, &all);
+}
+
 fn main() {
     let mut run = Run::new();
     for (n, s) in [(3, 1), (3, 4), (5, 2), (7, 3), (7, 64)] {
@@ -326,5 +426,6 @@ fn main() {
         lists(&mut run);
         unsound(&mut run, n, s);
     }
+    streams(&mut run);
     print!("{}", run.text);
 }

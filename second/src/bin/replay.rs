@@ -1,6 +1,7 @@
 //! Replays recorded runs from blank tables and compares every answer, every
 //! outgoing byte and every list; also that nothing else was touched.
 
+use second::stream::{self, Place, Stream};
 use second::{
     blank_table, hand_out, judge_table, message, nudge, record_part, recover, request, settled,
     table_len, Event, Refusal, Settled,
@@ -12,11 +13,12 @@ use std::process::ExitCode;
 const UNTOUCHED: u8 = 0xa5;
 const ROOM: usize = 256;
 
-/// The copies of one run.
+/// The copies of one run, and the stream that was opened last: its buffer and its place.
 struct Run {
     n: usize,
     s: usize,
     tables: Vec<Vec<u8>>,
+    stream: (Vec<u8>, Place),
 }
 
 impl Run {
@@ -27,7 +29,40 @@ impl Run {
             blank_table(&mut t, n, s, copy).map_err(|r| format!("no blank table: refused {r}"))?;
             tables.push(t);
         }
-        Ok(Run { n, s, tables })
+        Ok(Run { n, s, tables, stream: Default::default() })
+    }
+
+    /// A stream belongs to no copy.
+    fn line(&mut self, words: &[&str]) -> Result<String, String> {
+        match *words {
+            ["stream", room] => self.open(number(&[room], 0)?),
+            ["take", bytes] => self.take(&from_hex(bytes)?),
+            _ => self.call(words),
+        }
+    }
+
+    fn open(&mut self, room: usize) -> Result<String, String> {
+        let buf = vec![UNTOUCHED; room];
+        match stream::begin(&buf) {
+            Ok(place) => {
+                self.stream = (buf, place);
+                Ok("opened".into())
+            }
+            Err(r) => Ok(format!("refused {r}")),
+        }
+    }
+
+    fn take(&mut self, bytes: &[u8]) -> Result<String, String> {
+        let (buf, place) = &mut self.stream;
+        let before = buf.clone();
+        let mut stream = Stream::again(buf, *place).map_err(|r| format!("refused {r}"))?;
+        let mut told = String::new();
+        stream.play(bytes, &mut told).expect("a text takes all");
+        *place = stream.place();
+        if buf[place.end..] != before[place.end..] {
+            return Err("the buffer changed after what is held".into());
+        }
+        Ok(told)
     }
 
     /// The answer as the vectors write it, or what the call did wrong besides.
@@ -175,7 +210,7 @@ fn replay(path: &Path) -> Result<(usize, usize), String> {
         }
         let wanted = lines.next().and_then(|(_, answer)| answer.strip_prefix('=')).map(str::trim);
         let got = match &mut run {
-            Some(run) => run.call(&words),
+            Some(run) => run.line(&words),
             None => Err("no run was started".into()),
         };
         calls += 1;

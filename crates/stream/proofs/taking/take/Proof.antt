@@ -1,6 +1,5 @@
-use mathlib.Core.Path.{sym, ap, _∙_}
-use Rattle.stream.specs.Stream.{Filled}
-use Rattle.stream.proofs.Laws.{open-within, taken-shut, taken-stopped, taken-fills}
+use mathlib.Core.Path.{refl, sym, _∙_}
+use Rattle.stream.proofs.Laws.{open-within, both, taken-shut, taken-stopped, taken-fills}
 use borrow.Author.Needs.{needs}
 use Rattle.stream.proofs.taking.take.Statement.{statement}
 use Rattle.stream.proofs.taking.take.Tie as tie
@@ -27,25 +26,19 @@ same-length : tie.Need-same-length
 same-length c = search needs
 
 returns : tie.Need-returns
-returns c =
-    let e = taken-stopped _ _ _ (sym (c .before .before .before .before .enum-told .given .1) ∙ c .before .before .before .before .before .before .gate-of .ensures) (sym (c .before .before .is-stopped .ensures) ∙ c .before .if1 .taken) in
-    (c .unchanged2 .ensures ∙ ap (λ (y : Filled). y .told) (sym e), ap (λ (y : Filled). y .buffer) (sym e))
+returns c = both (taken-stopped _ _ _ (sym (c .before .before .before .before .enum-told .given .1) ∙ c .before .before .before .before .before .before .gate-of .ensures) (sym (c .before .before .is-stopped .ensures) ∙ c .before .if1 .taken)) (c .unchanged2 .ensures) refl
 
 take-open-requires : tie.Need-take-open-requires
 take-open-requires c κs = open-within _ _ (sym (c .before .before .before .before .enum-told .given .1) ∙ c .before .before .before .before .before .before .gate-of .ensures)
 
 returns-2 : tie.Need-returns-2
-returns-2 c =
-    let e = taken-shut _ _ _ (sym (c .before .before .why .given .1) ∙ c .before .before .before .before .gate-of .ensures) in
-    (c .unchanged .ensures ∙ ap (λ (y : Filled). y .told) (sym e), ap (λ (y : Filled). y .buffer) (sym e))
+returns-2 c = both (taken-shut _ _ _ (sym (c .before .before .why .given .1) ∙ c .before .before .before .before .gate-of .ensures)) (c .unchanged .ensures) refl
 
 same-length-2 : tie.Need-same-length-2
 same-length-2 c = search needs
 
 returns-3 : tie.Need-returns-3
-returns-3 c =
-    let e = taken-fills _ _ _ (sym (c .before .before .before .before .before .before .before .enum-told .given .1) ∙ c .before .before .before .before .before .before .before .before .before .gate-of .ensures) (sym (c .before .before .before .before .before .is-stopped .ensures) ∙ c .before .before .before .before .if1 .left) in
-    (c .before .before .take-open .ensures .0 ∙ ap (λ (y : Filled). y .told) (sym e), c .before .before .take-open .ensures .1 ∙ ap (λ (y : Filled). y .buffer) (sym e))
+returns-3 c = both (taken-fills _ _ _ (sym (c .before .before .before .before .before .before .before .enum-told .given .1) ∙ c .before .before .before .before .before .before .before .before .before .gate-of .ensures) (sym (c .before .before .before .before .before .is-stopped .ensures) ∙ c .before .before .before .before .if1 .left)) (c .before .before .take-open .ensures .0) (c .before .before .take-open .ensures .1)
 
 pub take-spec : {M : Type 1} → statement M
 take-spec =
