@@ -1,9 +1,9 @@
--- Numbers of bytes that whole messages can have together: the table of the small ones is right, every larger number is one, and a
--- message more leads to another. Assumes nothing.
+-- Numbers of bytes that whole messages can have together: a message more leads to another, every large number is one, and which they are
+-- is told by the least with each last digit. Assumes nothing.
 use mathlib.Core.Path.{_≡_, refl, sym, _∙_}
 use mathlib.Core.Bool.{Bool, true, false, _&&_, _||_, not}
 use mathlib.Core.List.{List, [], _∷_}
-use Prim.Native.Nat.{ℕ, zero, suc, _+_, _-_, _≤_, _<_}
+use Prim.Native.Nat.{ℕ, zero, suc, _+_, _-_, _%_, _≤_, _<_}
 use native.Mathlib.Omega.{arith}
 use borrow.Author.Tests.{eqb-true, eqb-false, le-leb, leb-true, leb-false, not-true}
 use lib.Dec.{eqb, leb}
@@ -15,7 +15,7 @@ use Rattle.paper.proofs.Bodies.{kind-known}
 use Rattle.paper.proofs.Laws.{and-true, allBelow-at}
 use Rattle.wire.specs.Wire.{lengthOf, past}
 use Rattle.wire.proofs.Laws.{ten}
-use Rattle.stream.specs.Place.{someKind, sums, isSum}
+use Rattle.stream.specs.Place.{someKind, sums, isSum, least}
 
 -- either test
 either-true : (a b : Bool) {A : Type 0} → (a || b) ≡ true → (a ≡ true → A) → (b ≡ true → A) → A
@@ -146,20 +146,6 @@ large-below (suc n) x a l = at (leb 94 x) refl (λ m. large-below n (x - 10) (om
 pub large : (x : ℕ) → 84 ≤ x → isSum x ≡ true
 large x l = large-below (suc x) x (omega arith) l
 
--- the table of those below 84: ten digits to a row
-abbrev pub small : List ℕ
-small =
-    49 ∷ 48 ∷ 48 ∷ 48 ∷ 48 ∷ 48 ∷ 48 ∷ 48 ∷ 48 ∷ 48
-    ∷ 49 ∷ 48 ∷ 48 ∷ 48 ∷ 49 ∷ 48 ∷ 48 ∷ 48 ∷ 48 ∷ 48
-    ∷ 49 ∷ 48 ∷ 48 ∷ 48 ∷ 49 ∷ 48 ∷ 48 ∷ 48 ∷ 49 ∷ 48
-    ∷ 49 ∷ 48 ∷ 48 ∷ 48 ∷ 49 ∷ 48 ∷ 48 ∷ 49 ∷ 49 ∷ 48
-    ∷ 49 ∷ 48 ∷ 49 ∷ 48 ∷ 49 ∷ 48 ∷ 48 ∷ 49 ∷ 49 ∷ 48
-    ∷ 49 ∷ 49 ∷ 49 ∷ 48 ∷ 49 ∷ 48 ∷ 49 ∷ 49 ∷ 49 ∷ 48
-    ∷ 49 ∷ 49 ∷ 49 ∷ 48 ∷ 49 ∷ 49 ∷ 49 ∷ 49 ∷ 49 ∷ 48
-    ∷ 49 ∷ 49 ∷ 49 ∷ 48 ∷ 49 ∷ 49 ∷ 49 ∷ 49 ∷ 49 ∷ 49
-    ∷ 49 ∷ 49 ∷ 49 ∷ 48
-    ∷ []
-
 abbrev same : Bool → Bool → Bool
 same true b = b
 same false b = not b
@@ -168,9 +154,33 @@ same-eq : (a b : Bool) → same a b ≡ true → a ≡ b
 same-eq true b e = sym e
 same-eq false b e = sym (not-true b e)
 
-every-small : allBelow 84 (λ x. same (eqb (getD small x 0) 49) (isSum x)) ≡ true
+-- none of them is above 93
+least-small : (d : ℕ) → least d ≤ 93
+least-small d = go (0 ∷ 51 ∷ 42 ∷ 93 ∷ 14 ∷ 65 ∷ 56 ∷ 37 ∷ 28 ∷ []) (omega arith, (omega arith, (omega arith, (omega arith, (omega arith, (omega arith, (omega arith, (omega arith, (omega arith, tt))))))))) d
+  where
+    Small : List ℕ → Type 0
+    Small [] = Unit {0}
+    Small (x ∷ xs) = (x ≤ 93) × Small xs
+
+    go : (l : List ℕ) → Small l → (d : ℕ) → getD l d 79 ≤ 93
+    go [] s d = omega arith
+    go (x ∷ l) s zero = s .0
+    go (x ∷ l) s (suc d) = go l (s .1) d
+
+every-small : allBelow 94 (λ x. same (leb (least (x % 10)) x) (isSum x)) ≡ true
 unfolding allBelow isSum sums rowOf lengthOf past
 every-small = refl
 
-pub small-is : (x : ℕ) → x < 84 → eqb (getD small x 0) 49 ≡ isSum x
-small-is x l = same-eq (eqb (getD small x 0) 49) (isSum x) (allBelow-at 84 (λ x. same (eqb (getD small x 0) 49) (isSum x)) every-small x l)
+pub least-sum : (x : ℕ) → leb (least (x % 10)) x ≡ isSum x
+least-sum x = go (leb 94 x) refl
+  where
+    go : (a : Bool) → leb 94 x ≡ a → leb (least (x % 10)) x ≡ isSum x
+    go true e = let l = leb-true 94 x e in let m = least-small (x % 10) in le-leb (least (x % 10)) x (omega arith) ∙ sym (large x (omega arith))
+    go false e = same-eq (leb (least (x % 10)) x) (isSum x) (allBelow-at 94 (λ x. same (leb (least (x % 10)) x) (isSum x)) every-small x (leb-false 94 x e))
+
+above : (k d : ℕ) → k ≤ d → (d ≡ k → ⊥) → suc k ≤ d
+above k d l n = omega arith
+
+-- no digit but the last is left
+pub last-digit : (d : ℕ) → (d ≡ 0 → ⊥) → (d ≡ 1 → ⊥) → (d ≡ 2 → ⊥) → (d ≡ 3 → ⊥) → (d ≡ 4 → ⊥) → (d ≡ 5 → ⊥) → (d ≡ 6 → ⊥) → (d ≡ 7 → ⊥) → (d ≡ 8 → ⊥) → 79 ≡ least d
+last-digit d a b c e f g h i j = sym (List·getD-eq-default (0 ∷ 51 ∷ 42 ∷ 93 ∷ 14 ∷ 65 ∷ 56 ∷ 37 ∷ 28 ∷ []) 79 {n = d} (above 8 d (above 7 d (above 6 d (above 5 d (above 4 d (above 3 d (above 2 d (above 1 d (above 0 d (omega arith) a) b) c) e) f) g) h) i) j))

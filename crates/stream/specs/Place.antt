@@ -1,9 +1,9 @@
 -- 2/12: the place in a lent buffer, what a run of calls can leave there, and what each call refuses first. Assumes nothing.
 use Prim.Native.Nat.{ℕ, zero, suc, _+_, _-_, _≤_, _<_}
 use mathlib.Core.Bool.{Bool, false, _&&_, _||_, not, cond}
-use mathlib.Core.List.{List}
+use mathlib.Core.List.{List, [], _∷_}
 use lib.Dec.{eqb, leb, ltb}
-use lib.ListN.{length, take, drop}
+use lib.ListN.{length, getD, take, drop}
 use Rattle.paper.specs.Message.{rows, rowOf}
 use Rattle.paper.specs.declared.Refusal.the-variants.{Unsound, Room}
 use Rattle.wire.specs.Wire.{lengthOf}
@@ -26,6 +26,10 @@ sums (suc f) x = eqb x 0 || someKind (suc (length rows)) (λ k. leb (lengthOf k)
 -- any number of them: each has a byte at least
 unfoldable pub isSum : ℕ → Bool
 isSum x = sums x x
+
+-- the least of them with each last digit, which the code goes by; proofs/Sums shows that it comes to the same
+abbrev pub least : ℕ → ℕ
+least d = getD (0 ∷ 51 ∷ 42 ∷ 93 ∷ 14 ∷ 65 ∷ 56 ∷ 37 ∷ 28 ∷ []) d 79
 
 -- a buffer of this length, and a place that a run of calls can leave in it: in order, within buffer and offsets, at messages' ends
 unfoldable pub placeOk : ℕ → Place → Bool

@@ -2,7 +2,7 @@
 use paper::Refusal;
 ghost use mathlib.Core.Path.{_≡_};
 ghost use lib.ListN.{length};
-ghost use Rattle.stream.specs.Place.{isSum, placeOk, begun, gateOf};
+ghost use Rattle.stream.specs.Place.{least, isSum, placeOk, begun, gateOf};
 
 // The fewest bytes of a buffer: the longest message fits, and there is room beside any part of one.
 pub const LEAST: usize = 64;
@@ -27,23 +27,30 @@ pub enum Gate {
     Shut(Refusal),
 }
 
-// Whole messages, any number of them, can have this many bytes together. Ten numbers to a row, from 0 up; all from 84 on can.
+// The least of the numbers with this last digit that whole messages can have as bytes together. The shortest messages have
+// ten bytes, so that every larger one with it is such a number too.
+fn least(digit: usize) -> usize
+    ensures { λ r. ⌜ r ≡ least digit ⌝ }
+{
+    match digit {
+        0 => 0,
+        1 => 51,
+        2 => 42,
+        3 => 93,
+        4 => 14,
+        5 => 65,
+        6 => 56,
+        7 => 37,
+        8 => 28,
+        _ => 79,
+    }
+}
+
+// Whole messages, any number of them, can have this many bytes together.
 fn is_sum(x: usize) -> bool
     ensures { λ r. ⌜ r ≡ isSum x ⌝ }
 {
-    let sums = b"1000000000\
-        1000100000\
-        1000100010\
-        1000100110\
-        1010100110\
-        1110101110\
-        1110111110\
-        1110111111\
-        1110";
-    if 84 <= x {
-        return true;
-    }
-    sums[x] == b'1'
+    least(x % 10) <= x
 }
 
 // The numbers are in order, within the buffer and the stream, and at messages' ends.
