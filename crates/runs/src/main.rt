@@ -2,6 +2,8 @@
 // `run N S` blanks copies 0 to N-1. Then a line is a call at copy C:
 //     C request OP KEY EDIT      C message BYTES      C recover OWNER NUMBER      C nudge OWNER NUMBER
 //     C settled OWNER NUMBER     C handout ROOM
+// Streams belong to no copy: `stream ROOM` is a new reader with a buffer of so many bytes, and `take BYTES` its next bytes; the answer has
+// how many were taken, every whole message, and the stop if there is one.
 // Further lines, with no answer, say how the calls that follow are made, until the next `run`:
 //     as N S C       with this setup and copy number, whatever the table's own are
 //     length L       with the first L bytes of the copy's table
@@ -12,6 +14,7 @@
 mod asked;
 mod event;
 mod play;
+mod streamed;
 mod told;
 
 fn main() {

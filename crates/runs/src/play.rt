@@ -1,6 +1,8 @@
 // Plays the lines of the input: a run, how calls are made, or a call and its answer.
 use crate::asked;
 use crate::event;
+use crate::streamed::stream_line;
+use crate::streamed::take_line;
 use crate::told::Told;
 use crate::told::at_copy;
 use crate::told::begun;
@@ -23,8 +25,10 @@ use text::put::bad_line;
 use text::put::finish;
 use text::put::put_number;
 
-// Seven areas, one for each copy's table.
-const AREAS: usize = 7 * LONGEST;
+// Seven areas, one for each copy's table, and one for the stream's buffer.
+const TABLES: usize = 7 * LONGEST;
+
+const AREAS: usize = TABLES + BYTES;
 
 // Where the area of a copy starts; a copy past the seventh has none, and gets the end of all.
 fn start_of(c: usize) -> usize {
@@ -103,6 +107,19 @@ fn play_copy(got: Read, w: Told, all: &mut [u8]) {
     play_call(got, at_copy(w, copy), t);
 }
 
+// stream ROOM, or take BYTES
+fn play_stream(got: Read, w: Told, all: &mut [u8]) -> Told {
+    if got.form == 13 {
+        return take_line(got, w, part_mut(all, TABLES, w.buffer));
+    }
+    let room = got.v[0];
+    if BYTES < room {
+        finish(bad_line());
+        return w;
+    }
+    stream_line(w, part_mut(all, TABLES, room))
+}
+
 // Plays one line that is read, by the place of its form; how the calls after it are made.
 fn play_read(got: Read, w: Told, all: &mut [u8]) -> Told {
     let form = got.form;
@@ -113,6 +130,7 @@ fn play_read(got: Read, w: Told, all: &mut [u8]) -> Told {
             play_copy(got, w, all);
             w
         }
+        12 | 13 => play_stream(got, w, all),
         _ => {
             finish(bad_line());
             w
@@ -137,7 +155,9 @@ fn play_line(line: &[u8], w: Told, all: &mut [u8]) -> Told {
             |# recover # #\
             |# nudge # #\
             |# settled # #\
-            |# handout #",
+            |# handout #\
+            |stream #\
+            |take @",
     );
     play_read(got, w, all)
 }

@@ -1,9 +1,10 @@
 // How the calls that follow are made.
+use stream::place::Place;
 use table::length_of;
 use text::forms::Read;
 
 // The setup and, where `other` says so, the copy number that calls name; the length that is lent of a table; the room;
-// whether answers end with checksums.
+// whether answers end with checksums. Beside that the stream: how long its buffer is, and the place in it.
 pub struct Told {
     pub n: usize,
     pub s: usize,
@@ -12,6 +13,8 @@ pub struct Told {
     pub length: usize,
     pub room: usize,
     pub watch: bool,
+    pub buffer: usize,
+    pub place: Place,
 }
 
 // run N S
@@ -24,6 +27,12 @@ pub fn begun(n: usize, s: usize) -> Told {
         length: length_of(n, s),
         room: 256,
         watch: false,
+        buffer: 0,
+        place: Place {
+            at: 0,
+            end: 0,
+            offset: 0,
+        },
     }
 }
 
@@ -73,5 +82,13 @@ pub fn at_copy(old: Told, copy: usize) -> Told {
     if !w.other {
         w.c = copy;
     }
+    w
+}
+
+// A stream with a buffer of this length, at this place.
+pub fn opened(old: Told, buffer: usize, place: Place) -> Told {
+    let mut w = old;
+    w.buffer = buffer;
+    w.place = place;
     w
 }

@@ -48,3 +48,10 @@ pub fn passed<'a>(r: Reader<'a>) -> Reader<'a>
     let place = yielding::passed(r.buf, r.place);
     Reader { buf: r.buf, place }
 }
+
+// The message at a place in a buffer, for whoever has no reader at hand.
+pub fn read<'a>(buf: &'a [u8], place: Place) -> &'a [u8]
+    ensures { λ m. ⌜ now m ≡ messageIn (now (buf .entry)) place ⌝ }
+{
+    message(over(buf, place))
+}
