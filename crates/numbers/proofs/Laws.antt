@@ -7,7 +7,6 @@ use native.Mathlib.Numerals.{add-one}
 use native.Mathlib.Nat.{pow-succ', add-zero}
 use lib.ListN.{take-append-drop, length, getD, take, drop, length-append, length-take, length-drop, drop-of-length-le, List·getD-append}
 use lib.Seq.{getD-at, getD-take, getD-drop, drop-cons, ext-getD, append-snoc, take-at, drop-at, drop-drop, length-take-le, take-add}
-use borrow.Rule.Slice.PartMut.{putMid, post-is}
 use Rattle.numbers.specs.Num.{numAt, bytesOf, splice}
 
 pub length-bytesOf : (w x : ℕ) → length (bytesOf w x) ≡ w
@@ -126,8 +125,3 @@ unfolding splice
 splice-own l a k h =
     let n : length (take k (drop a l)) ≡ k = length-take-le k (drop a l) (simp length-drop (omega arith)) in
     rw (n, ← take-add a k l) (take-append-drop (a + k) l)
-
--- what stands in a slice after a part of it was lent and written over
-pub put-splice : (l : List ℕ) (a k : ℕ) (v : List ℕ) → length v ≡ k → putMid a (a + k - a) l v ≡ splice l a v
-unfolding splice
-put-splice l a k v e = rw (post-is a (a + k) l (omega arith), ← e) (sym (append-assoc (take a l) v (drop (a + length v) l)))

@@ -117,7 +117,8 @@ fn play_stream(got: Read, w: Told, all: &mut [u8]) -> Told {
         finish(bad_line());
         return w;
     }
-    stream_line(w, part_mut(all, TABLES, room))
+    let buf = part_mut(all, TABLES, room);
+    stream_line(w, &*buf)
 }
 
 // Plays one line that is read, by the place of its form; how the calls after it are made.

@@ -1,14 +1,13 @@
 -- Bytes moved to the front one by one, and bytes put behind them. Assumes nothing.
 use mathlib.Core.Path.{_≡_, refl, sym, ap, _∙_}
-use mathlib.Core.List.{List, [], _++_, append-nil}
-use Prim.Native.Nat.{ℕ, suc, _+_, _-_, _≤_, _<_}
+use mathlib.Core.List.{List}
+use Prim.Native.Nat.{ℕ, suc, _+_, _≤_, _<_}
 use native.Mathlib.Omega.{arith}
 use native.Mathlib.Numerals.{add-one}
-use lib.ListN.{length, getD, set, take, drop, length-set, length-drop, drop-of-length-le}
-use lib.Seq.{paste, paste-zero, paste-suc, drop-paste, getD-drop, length-take-le, take-length}
-use borrow.Rule.Slice.PartMut.{putMid}
+use lib.ListN.{length, getD, set, take, drop, length-set, length-drop}
+use lib.Seq.{paste, paste-zero, paste-suc, drop-paste, getD-drop, length-take-le}
 use Rattle.numbers.specs.Num.{splice}
-use Rattle.numbers.proofs.Laws.{splice-own, put-splice}
+use Rattle.numbers.proofs.Laws.{splice-own}
 
 -- the first i bytes from `at` on stand at the front
 pub record Moving (l : List ℕ) (at count : ℕ) (b : List ℕ) (i : ℕ) : Type 0 where
@@ -52,21 +51,22 @@ module _ (l : List ℕ) (at count : ℕ) (fits : at + count ≤ length l) where
 pub in-front : (l : List ℕ) (at count : ℕ) → at ≡ 0 → at + count ≤ length l → l ≡ splice l 0 (take count (drop at l))
 in-front l at count z fits = rw z (sym (splice-own l 0 count (omega arith)))
 
--- a part of the buffer that was lent to the copy and came back
-pub put-back : (l : List ℕ) (at count : ℕ) (s r : List ℕ) → at + count ≤ length l → count ≤ length s
-    → r ≡ take (length (take count s)) (take count s) ++ drop (length (take count s)) (take (at + count - at) (drop at l))
-    → putMid at (at + count - at) l r ≡ splice l at (take count s)
-put-back l at count s r fits long e =
-    let n : length (take count s) ≡ count = length-take-le count s long in
-    let k : at + count - at ≡ count = omega arith in
-    let m : length (take count (drop at l)) ≡ count = length-take-le count (drop at l) (rw (length-drop at l) (omega arith)) in
-    let d : drop count (take count (drop at l)) ≡ [] = drop-of-length-le (take count (drop at l)) {i = count} (omega arith) in
-    let f : r ≡ take count s = e ∙ rw (take-length (take count s), n, k, d) (append-nil (take count s)) in
-    rw f (put-splice l at count (take count s) n)
+-- the first i bytes of s stand from `at` on
+pub record Putting (l : List ℕ) (at count : ℕ) (s b : List ℕ) (i : ℕ) : Type 0 where
+  pub short : i ≤ count
+  pub long : length b ≡ length l
+  pub is : b ≡ paste l at s i
 
-pub copy-fits : (l : List ℕ) (at count : ℕ) (s : List ℕ) → at + count ≤ length l → count ≤ length s → length (take count s) ≤ length (take (at + count - at) (drop at l))
-copy-fits l at count s fits long =
-    let n : length (take count s) ≡ count = length-take-le count s long in
-    let k : at + count - at ≡ count = omega arith in
-    let m : length (take count (drop at l)) ≡ count = length-take-le count (drop at l) (rw (length-drop at l) (omega arith)) in
-    rw k (omega arith)
+module _ (l : List ℕ) (at count : ℕ) (s : List ℕ) (fits : at + count ≤ length l) (offered : count ≤ length s) where
+  pub putting-none : Putting l at count s l 0
+  putting-none = record { short = omega arith; long = refl; is = paste-zero l at s }
+
+  pub putting-one : (b : List ℕ) (i : ℕ) → Putting l at count s b i → i < count → Putting l at count s (set b (at + i) (getD s i 0)) (i + 1)
+  putting-one b i p lt =
+      let turn : set (paste l at s i) (at + i) (getD s i 0) ≡ paste l at s (suc i) = paste-suc l at s i 0 (omega arith) (omega arith) in
+      record { short = omega arith; long = length-set b (at + i) (getD s i 0) ∙ p .long; is = rw (p .is, add-one) turn }
+
+  pub was-put : (b : List ℕ) (i : ℕ) → Putting l at count s b i → count ≤ i → b ≡ splice l at (take count s)
+  was-put b i p le =
+      let e : i ≡ count = omega (arith, p .short) in
+      p .is ∙ rw e (paste-splice l at s count offered)

@@ -61,8 +61,11 @@ fn put(buf: &mut [u8], at: usize, bytes: &[u8], count: usize)
     requires { ⌜ (at + count ≤ length (now buf)) × (count ≤ length (now bytes)) ⌝ }
     ensures { λ _. ⌜ now (buf .exit) ≡ splice (now (buf .entry)) at (take count (now (bytes .entry))) ⌝ }
 {
-    let end = at + count;
-    bytes::copy(&bytes[..count], &mut buf[at..end]);
+    let mut i = 0;
+    while i < count {
+        buf[at + i] = bytes[i];
+        i += 1;
+    }
 }
 
 fn take_open(buf: &mut [u8], p: Place, bytes: &[u8]) -> Taken

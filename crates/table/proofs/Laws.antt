@@ -1,13 +1,15 @@
 -- Sizes and places. Assumes nothing.
-use mathlib.Core.Path.{_≡_, refl}
+use mathlib.Core.Path.{_≡_, refl, sym}
 use mathlib.Core.Bool.{Bool, true, false, _&&_, _||_}
-use mathlib.Core.List.{List}
-use Prim.Native.Nat.{ℕ, suc, _+_, _*_, _≤_, _<_}
+use mathlib.Core.List.{List, append-assoc}
+use Prim.Native.Nat.{ℕ, suc, _+_, _*_, _-_, _≤_, _<_}
 use native.Mathlib.Omega.{arith}
 use native.Mathlib.Nat.{mul-le-mul-right, suc-mul}
 use lib.Dec.{leb, eqb}
-use lib.ListN.{length}
+use lib.ListN.{length, take, drop}
 use borrow.Author.Tests.{leb-true, ltb-true, eqb-true}
+use borrow.Rule.Slice.PartMut.{putMid, post-is}
+use Rattle.numbers.specs.Num.{splice}
 use Rattle.paper.specs.Setup.{setupOk, copiesOk, numbersOk, copyOk}
 use Rattle.paper.specs.Instance.{instanceOk, ownerOk, numberOk}
 use Rattle.paper.proofs.Laws.{and-true}
@@ -63,3 +65,8 @@ row-end n s o h =
 pub place-end : (n s o j : ℕ) → Names n s o j → placeOf s o j + recordLength ≤ tableLength n s
 unfolding placeAt
 place-end n s o j h = omega (arith, row-end n s o (h .owner), h .first, h .last)
+
+-- what stands in a slice after a part of it was lent and written over
+pub put-splice : (l : List ℕ) (a k : ℕ) (v : List ℕ) → length v ≡ k → putMid a (a + k - a) l v ≡ splice l a v
+unfolding splice
+put-splice l a k v e = rw (post-is a (a + k) l (omega arith), ← e) (sym (append-assoc (take a l) v (drop (a + length v) l)))

@@ -1,43 +1,54 @@
-use mathlib.Core.Path.{sym}
-use lib.Seq.{length-take-le}
-use Rattle.stream.proofs.Moves.{put-back, copy-fits}
-use borrow.Author.Needs.{needs}
+use Prim.Native.Nat.{_-_}
+use native.Mathlib.Omega.{arith}
+use Rattle.stream.proofs.Moves.{Putting, putting-none, putting-one, was-put}
 use Rattle.stream.proofs.taking.put.Statement.{statement}
 use Rattle.stream.proofs.taking.put.Tie as tie
 
-add-end : tie.Need-add-end
-add-end c = search needs
+abbrev Inv-loop : tie.InvT-loop
+Inv-loop buf₀ at bytes count i₀ buf i = Putting buf₀ at count bytes buf i
 
-slice-aggregate-copy : tie.Need-slice-aggregate-copy
-slice-aggregate-copy c = sym (length-take-le _ _ (c .before .before .before .pre .1))
+abbrev μ-loop : tie.MeasureT-loop
+μ-loop buf₀ at bytes count i₀ buf i = count - i
 
-sub-copy : tie.Need-sub-copy
-sub-copy c = search needs
+loop-holds : tie.Need-loop-holds Inv-loop μ-loop
+loop-holds c = putting-none _ _ _ _ (c .pre .0) (c .pre .1)
 
-part-copy-start : tie.Need-part-copy-start
-part-copy-start c = search needs
+shared-slice-read-buf : tie.Need-shared-slice-read-buf Inv-loop μ-loop
+shared-slice-read-buf c = omega (arith, c .before .before .before .pre .1)
 
-part-copy-end : tie.Need-part-copy-end
-part-copy-end c = search needs
+add-buf : tie.Need-add-buf Inv-loop μ-loop
+add-buf c = omega (arith, c .before .before .before .pre .0)
 
-copy-requires : tie.Need-copy-requires
-copy-requires c κs = copy-fits _ _ _ _ (c .before .before .before .before .pre .0) (c .before .before .before .before .pre .1)
+slice-write-buf : tie.Need-slice-write-buf Inv-loop μ-loop
+slice-write-buf c = omega (arith, c .before .before .before .pre .0, (c .before .before .loop .inv) .long)
 
-same-length : tie.Need-same-length
-same-length c = search needs
+add-i : tie.Need-add-i Inv-loop μ-loop
+add-i c = omega arith
 
-returns : tie.Need-returns
-returns c = put-back _ _ _ _ (c .before .before .copy .last .1 .0) (c .before .before .before .before .before .before .before .pre .0) (c .before .before .before .before .before .before .before .pre .1) (c .before .before .copy .ensures .1)
+loop-less : tie.Need-loop-less Inv-loop μ-loop
+loop-less c = omega arith
+
+loop-again : tie.Need-loop-again Inv-loop μ-loop
+loop-again c = putting-one _ _ _ _ (c .before .before .before .pre .0) (c .before .before .before .pre .1) _ _ (c .before .before .loop .inv) (c .before .loop-test .taken)
+
+same-length : tie.Need-same-length Inv-loop μ-loop
+same-length c = c .before .loop .inv .long
+
+returns : tie.Need-returns Inv-loop μ-loop
+returns c = was-put _ _ _ _ (c .before .before .pre .0) (c .before .before .pre .1) _ _ (c .before .loop .inv) (c .loop-test .left)
 
 pub put-spec : {M : Type 1} → statement M
 put-spec =
     tie.close
     (tie.spec
-    add-end
-    slice-aggregate-copy
-    sub-copy
-    part-copy-start
-    part-copy-end
-    copy-requires
+    Inv-loop
+    μ-loop
+    loop-holds
+    shared-slice-read-buf
+    add-buf
+    slice-write-buf
+    add-i
+    loop-less
+    loop-again
     same-length
     returns)

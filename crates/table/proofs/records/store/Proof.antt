@@ -7,7 +7,7 @@ use borrow.Rule.Slice.PartMut.{putMid}
 use Rattle.numbers.specs.Num.{splice}
 use Rattle.record.specs.Layout.{recordLength, recordBytes}
 use Rattle.table.specs.Table.{putRecord}
-use Rattle.numbers.proofs.Laws.{put-splice}
+use Rattle.table.proofs.Laws.{put-splice}
 use borrow.Author.Needs.{needs}
 use Rattle.table.proofs.records.store.Statement.{statement}
 use Rattle.table.proofs.records.store.Tie as tie
