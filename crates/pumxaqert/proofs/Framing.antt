@@ -1,7 +1,9 @@
 -- The stream's calls: what their parts ensure makes the contract. Assumes nothing.
 use mathlib.Core.Path.{_≡_, refl, ap, _∙_}
-use mathlib.Core.List.{List}
+use mathlib.Core.List.{List, [], _∷_}
 use Prim.Native.Nat.{ℕ}
+use native.Mathlib.Omega.{arith}
+use lib.ListN.{length}
 use Rattle.stream.specs.declared.place.Place.{Place}
 use Rattle.stream.specs.declared.taking.Took.{Took}
 use Rattle.stream.specs.declared.taking.Taken.{Taken}
@@ -23,3 +25,11 @@ pub found : (b f : List ℕ) {p : Place} {y : Yielded} {f₁ v : List ℕ} {r : 
     → (r ≡ foundNumber (yielded b (placeFrom f) .answer))
     × ((v ≡ foundValues (placeFrom f .at) (yielded b (placeFrom f) .answer)) × (f₁ ≡ placeNumbers (yielded b (placeFrom f) .place)))
 found b f e y n a = (cc, (cc, cc))
+
+-- three numbers are a place, and the place is those numbers
+pub place-back : (f : List ℕ) → length f ≡ 3 → placeNumbers (placeFrom f) ≡ f
+place-back [] e = absurd (omega arith)
+place-back (a ∷ []) e = absurd (omega arith)
+place-back (a ∷ b ∷ []) e = absurd (omega arith)
+place-back (a ∷ b ∷ c ∷ []) e = refl
+place-back (a ∷ b ∷ c ∷ d ∷ f) e = absurd (omega arith)

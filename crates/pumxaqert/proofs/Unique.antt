@@ -2,12 +2,17 @@
 use mathlib.Core.Path.{_≡_, sym, _∙_}
 use mathlib.Core.List.{List}
 use Prim.Native.Nat.{ℕ}
+use lib.ListN.{length}
 use Rattle.wire.specs.Calls.{readMessage}
+use Rattle.stream.specs.declared.yielding.Yielded.{Yielded}
+use Rattle.stream.specs.Place.{begun}
+use Rattle.stream.specs.Stream.{Filled, taken, yielded, begunNumber, tookNumber, tookValues, foundNumber, foundValues}
 use Rattle.table.specs.Calls.{blanked, blankedTable, judged, partStart, partLength, lengthOf, blankingNumber, judgingNumber}
 use Rattle.log.specs.Events.{Outcome, requested, received, recovered, nudged, answerNumber}
 use Rattle.order.specs.Calls.{settled, Handed, handed, settlingNumber, settlingValues, handingNumber, handingCount}
 use Rattle.pumxaqert.specs.Fields.{wroteFields}
 use Rattle.pumxaqert.specs.Flat.{answerValues}
+use Rattle.pumxaqert.specs.Streams.{placeFrom, placeNumbers, begunPlace}
 use Rattle.pumxaqert.proofs.Laws.{Reads, Writes}
 
 pub pumxaqert-read-message-unique : (n s c : ℕ) (b : List ℕ) (r q : ℕ) (f g : List ℕ) (i j : ℕ) → Reads (readMessage n s c b) r f i → Reads (readMessage n s c b) q g j
@@ -71,3 +76,23 @@ pumxaqert-part-unique n s c t o j r q k l a b d e = (a ∙ sym d, b ∙ sym e)
 
 pub pumxaqert-table-length-unique : (n s r q : ℕ) → r ≡ lengthOf n s → q ≡ lengthOf n s → r ≡ q
 pumxaqert-table-length-unique n s r q a b = a ∙ sym b
+
+pub pumxaqert-stream-begin-unique : (b f : List ℕ) (r q : ℕ) (g h : List ℕ) → r ≡ begunNumber (begun (length b)) → g ≡ begunPlace (begun (length b)) f
+    → q ≡ begunNumber (begun (length b)) → h ≡ begunPlace (begun (length b)) f → (r ≡ q) × (g ≡ h)
+pumxaqert-stream-begin-unique b f r q g h a c d e = (a ∙ sym d, c ∙ sym e)
+
+-- what taking bytes ensures of its number, the values, the place and the buffer
+abbrev Takes : Filled → ℕ → List ℕ → List ℕ → List ℕ → Type 0
+Takes x r v f b = (r ≡ tookNumber (x .told .answer)) × ((v ≡ tookValues (x .told .answer)) × ((f ≡ placeNumbers (x .told .place)) × (b ≡ x .buffer)))
+
+pub pumxaqert-stream-take-unique : (b f n : List ℕ) (r q : ℕ) (v w g h c d : List ℕ) → Takes (taken b (placeFrom f) n) r v g c → Takes (taken b (placeFrom f) n) q w h d
+    → (r ≡ q) × (v ≡ w) × (g ≡ h) × (c ≡ d)
+pumxaqert-stream-take-unique b f n r q v w g h c d x y = (x .0 ∙ sym (y .0), x .1 .0 ∙ sym (y .1 .0), x .1 .1 .0 ∙ sym (y .1 .1 .0), x .1 .1 .1 ∙ sym (y .1 .1 .1))
+
+-- what yielding ensures of its number, the values and the place
+abbrev Yields : ℕ → Yielded → ℕ → List ℕ → List ℕ → Type 0
+Yields at x r v f = (r ≡ foundNumber (x .answer)) × ((v ≡ foundValues at (x .answer)) × (f ≡ placeNumbers (x .place)))
+
+pub pumxaqert-stream-next-unique : (b f : List ℕ) (r q : ℕ) (v w g h : List ℕ) → Yields (placeFrom f .at) (yielded b (placeFrom f)) r v g
+    → Yields (placeFrom f .at) (yielded b (placeFrom f)) q w h → (r ≡ q) × (v ≡ w) × (g ≡ h)
+pumxaqert-stream-next-unique b f r q v w g h x y = (x .0 ∙ sym (y .0), x .1 .0 ∙ sym (y .1 .0), x .1 .1 ∙ sym (y .1 .1))

@@ -4,4 +4,7 @@ pub mod Sums
 pub mod Cutting
 pub mod Kept
 pub mod Written
+pub mod Refused
+pub mod Pins
+pub mod Unique
 pub mod Walk

@@ -16,7 +16,7 @@ use Rattle.stream.specs.declared.taking.Took.{Took}
 use Rattle.stream.specs.declared.taking.Took.the-variants as took
 use Rattle.stream.specs.declared.yielding.Found.{Found}
 use Rattle.stream.specs.declared.yielding.Found.the-variants as found
-use Rattle.stream.specs.Place.{start, held}
+use Rattle.stream.specs.Place.{start, placeOk, held}
 use Rattle.stream.specs.Stream.{isStopped, isWhole, taken, yielded, messageIn}
 
 -- lists one after another
@@ -137,6 +137,17 @@ abbrev pub Progress : Type 0
 Progress = (b : List ℕ) → 64 ≤ length b → (cs : List Call) (x : List ℕ) → answer (run (opened b) cs) ≡ found.Nothing → 0 < length x
     → length (run (opened b) cs .taken) + 1 < 18446744073709551616
     → 0 < countIn (taken (run (opened b) cs .buffer) (run (opened b) cs .place) x .told .answer)
+
+-- a run that leaves this place in a buffer of l bytes
+pub record Leaves (l : ℕ) (p : Place) : Type 0 where
+  pub buffer : List ℕ
+  pub long : length buffer ≡ l
+  pub calls : List Call
+  pub place : run (opened buffer) calls .place ≡ p
+
+-- no place is refused that a run leaves behind, and every other is
+abbrev pub Reached : Type 0
+Reached = (l : ℕ) → 64 ≤ l → ((b : List ℕ) (cs : List Call) → length b ≡ l → placeOk l (run (opened b) cs .place) ≡ true) × ((p : Place) → placeOk l p ≡ true → Leaves l p)
 
 -- messages that the writer took, and the bytes that it wrote for each
 pub data Written (n s c : ℕ) : List Message → List (List ℕ) → Type 0 where
