@@ -3,6 +3,7 @@ pub mod Moves
 pub mod Sums
 pub mod Cutting
 pub mod Kept
+pub mod Reached
 pub mod Written
 pub mod Refused
 pub mod Pins

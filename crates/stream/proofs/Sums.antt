@@ -18,7 +18,7 @@ use Rattle.wire.proofs.Laws.{ten}
 use Rattle.stream.specs.Place.{someKind, sums, isSum, least}
 
 -- either test
-either-true : (a b : Bool) {A : Type 0} → (a || b) ≡ true → (a ≡ true → A) → (b ≡ true → A) → A
+pub either-true : (a b : Bool) {A : Type 0} → (a || b) ≡ true → (a ≡ true → A) → (b ≡ true → A) → A
 either-true true b e f g = f refl
 either-true false b e f g = g e
 
@@ -91,7 +91,7 @@ and-another x k known e =
     rw q (another x k (x + lengthOf k - 1) known e (sym q))
 
 -- a kind that passed
-some-is : (m : ℕ) (f : ℕ → Bool) {A : Type 0} → someKind m f ≡ true → ((k : ℕ) → rowOf k .known ≡ true → f k ≡ true → A) → A
+pub some-is : (m : ℕ) (f : ℕ → Bool) {A : Type 0} → someKind m f ≡ true → ((k : ℕ) → rowOf k .known ≡ true → f k ≡ true → A) → A
 some-is zero f e h = let z : _≡_ {A = ℕ} 0 1 = cc in absurd (omega arith)
 some-is (suc m) f e h =
     either-true (rowOf m .known && f m) (someKind m f) e
