@@ -5,9 +5,7 @@ use Prim.Native.Nat.{ℕ}
 use native.Mathlib.Omega.{arith}
 use lib.ListN.{length}
 use Rattle.stream.specs.declared.place.Place.{Place}
-use Rattle.stream.specs.declared.taking.Took.{Took}
 use Rattle.stream.specs.declared.taking.Taken.{Taken}
-use Rattle.stream.specs.declared.yielding.Found.{Found}
 use Rattle.stream.specs.declared.yielding.Yielded.{Yielded}
 use Rattle.stream.specs.Stream.{taken, yielded, tookNumber, tookValues, foundNumber, foundValues}
 use Rattle.pumxaqert.specs.Streams.{placeFrom, placeNumbers}

@@ -3,7 +3,6 @@ use crate::event::put_no;
 use crate::told::Told;
 use crate::told::opened;
 use stream::place::Begun;
-use stream::place::Place;
 use stream::place::begin;
 use stream::reader::read;
 use stream::taking::Taken;

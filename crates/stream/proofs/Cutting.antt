@@ -1,13 +1,13 @@
 -- Any cutting of a stream shows what the uncut stream is. What a run keeps: the place is one that calls take, all that was taken is what
 -- was yielded and then what is held, and what was yielded is whole messages. Assumes nothing.
 use mathlib.Core.Path.{_≡_, refl, sym, ap, _∙_}
-use mathlib.Core.Bool.{Bool, true, false, _&&_, cond}
+use mathlib.Core.Bool.{Bool, true, false, _&&_}
 use mathlib.Core.List.{List, [], _∷_, _++_, append-assoc, append-nil}
 use Prim.Native.Nat.{ℕ, zero, suc, _+_, _-_, _≤_, _<_}
 use native.Mathlib.Omega.{arith}
 use borrow.Author.Tests.{le-leb, lt-leb}
 use lib.Dec.{leb}
-use lib.ListN.{length, getD, take, drop, length-append, length-drop, List·getD-append, take-append-drop}
+use lib.ListN.{length, getD, take, drop, length-append, length-drop, List·getD-append}
 use lib.Seq.{take-at, drop-at}
 use Rattle.paper.specs.Message.{rowOf}
 use Rattle.wire.specs.Wire.{lengthOf, kindAt}

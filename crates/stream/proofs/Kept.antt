@@ -1,8 +1,8 @@
 -- What each call keeps of a place that calls take, and with it every run: the statements of specs/Cutting. Assumes nothing.
 use mathlib.Core.Path.{_≡_, refl, sym, ap, ap₂, _∙_}
-use mathlib.Core.Bool.{Bool, true, false, cond}
+use mathlib.Core.Bool.{Bool, true, false}
 use mathlib.Core.List.{List, [], _∷_, _++_, append-assoc, append-nil}
-use Prim.Native.Nat.{ℕ, _+_, _-_, _≤_, _<_, min}
+use Prim.Native.Nat.{ℕ, _+_, _-_, _≤_, _<_}
 use native.Mathlib.Nat.{le-min}
 use native.Mathlib.Omega.{arith}
 use borrow.Author.Tests.{eqb-true, leb-false}
@@ -21,9 +21,9 @@ use Rattle.paper.specs.declared.Refusal.{Refusal}
 use Rattle.stream.specs.declared.taking.Took.the-variants as took
 use Rattle.stream.specs.declared.yielding.Found.the-variants as found
 use Rattle.stream.specs.declared.yielding.Yielded.{Yielded}
-use Rattle.stream.specs.Place.{isSum, held, gateOf, start, Within}
-use Rattle.stream.specs.Stream.{isStopped, isWhole, wholeLength, roomFor, Filled, fill, taken, behind, stay, yielded, yieldedOpen, messageIn}
-use Rattle.stream.specs.Cutting.{joined, uncut, Call, offer, ask, State, opened, countIn, isMessage, isStop, answer, after, run, Drained, shown, AnyCutting, TwoCuttings, InOrder, ForGood, Progress}
+use Rattle.stream.specs.Place.{isSum, held, gateOf, start}
+use Rattle.stream.specs.Stream.{isStopped, isWhole, roomFor, fill, taken, behind, yielded, yieldedOpen}
+use Rattle.stream.specs.Cutting.{joined, uncut, Call, offer, ask, State, opened, countIn, isStop, answer, after, run, Drained, shown, AnyCutting, TwoCuttings, InOrder, ForGood, Progress}
 use Rattle.stream.proofs.Laws.{Ok, of-ok, open-ok, held-length, Front, front-is, front-running, room-fits, room-counts, room-offered, taken-stopped, taken-fills, yielded-shut, yielded-open, yields-front, message-front, stops, waits}
 use Rattle.stream.proofs.Laws as law
 use Rattle.stream.proofs.Sums.{and-another, sum-add, sum-none}

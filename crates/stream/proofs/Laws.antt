@@ -5,7 +5,7 @@ use mathlib.Core.List.{List, []}
 use Prim.Native.Nat.{ℕ, _+_, _-_, _≤_, _<_, min}
 use native.Mathlib.Nat.{min-le-left, min-le-right, le-trans}
 use native.Mathlib.Omega.{arith}
-use borrow.Author.Tests.{ltb-true, ltb-false, leb-true, le-leb, lt-leb, le-ltb, lt-ltb, eq-eqb, ne-eqb, not-true}
+use borrow.Author.Tests.{ltb-true, ltb-false, leb-true, le-leb, lt-leb, le-ltb, lt-ltb, ne-eqb, not-true}
 use lib.Dec.{leb, ltb, eqb}
 use lib.ListN.{length, getD, take, drop, length-drop}
 use lib.Seq.{length-take-le, take-take}
@@ -19,7 +19,6 @@ use Rattle.paper.proofs.Laws.{and-true}
 use Rattle.wire.specs.Wire.{lengthOf, kindAt}
 use Rattle.wire.proofs.Laws.{ten}
 use Rattle.stream.specs.declared.place.Place.{Place}
-use Rattle.stream.specs.declared.place.Gate.{Gate}
 use Rattle.stream.specs.declared.place.Gate.the-variants.{Open, Shut}
 use Rattle.stream.specs.declared.taking.Took.the-variants as took
 use Rattle.stream.specs.declared.taking.Taken.{Taken}

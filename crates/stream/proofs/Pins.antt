@@ -3,7 +3,7 @@ use mathlib.Core.Path.{_≡_, refl}
 use mathlib.Core.Bool.{true, false}
 use mathlib.Core.List.{List, [], _∷_, _++_}
 use Prim.Native.Nat.{ℕ, _-_}
-use lib.ListN.{length, replicate}
+use lib.ListN.{replicate}
 use Rattle.numbers.specs.Num.{splice}
 use Rattle.paper.specs.Message.{rowOf}
 use Rattle.paper.specs.declared.Refusal.the-variants.{Unsound, Room}
@@ -12,8 +12,8 @@ use Rattle.stream.specs.declared.place.Place.{Place}
 use Rattle.stream.specs.declared.place.Begun.the-variants as begin
 use Rattle.stream.specs.declared.taking.Took.the-variants as took
 use Rattle.stream.specs.declared.yielding.Found.the-variants as found
-use Rattle.stream.specs.Place.{sums, isSum, placeOk, held, start, begun, gateOf}
-use Rattle.stream.specs.Stream.{isStopped, isWhole, wholeLength, roomFor, Filled, unchanged, takenOpen, taken, behind, stay, yieldedOpen, yielded, messageIn}
+use Rattle.stream.specs.Place.{sums, isSum, placeOk, held, begun, gateOf}
+use Rattle.stream.specs.Stream.{isStopped, isWhole, wholeLength, roomFor, unchanged, takenOpen, taken, behind, stay, yieldedOpen, yielded, messageIn}
 use Rattle.stream.specs.Cutting.{wholeIn, restIn, uncut}
 
 abbrev at : ℕ → ℕ → ℕ → Place

@@ -51,20 +51,23 @@ record Messages (x : ℕ) : Type 0 where
 none : (x : ℕ) → eqb x 0 ≡ true → Messages x
 none x e = record { list = []; exact = tt; long = sym (eqb-true x 0 e) }
 
--- of any known kind: the kind byte, and zeros after it
+-- of any kind: its byte, and zeros after it
+abbrev zeros : ℕ → List ℕ
+zeros k = k ∷ replicate (lengthOf k - 1) 0
+
 module _ (k : ℕ) (known : rowOf k .known ≡ true) where
-  zeros-long : length (k ∷ replicate (lengthOf k - 1) 0) ≡ lengthOf k
+  zeros-long : length (zeros k) ≡ lengthOf k
   zeros-long = omega (arith, ten k, length-replicate {A = ℕ} (lengthOf k - 1) 0)
 
-  zeros-exact : Exact (k ∷ replicate (lengthOf k - 1) 0)
-  zeros-exact = let q : kindAt (k ∷ replicate (lengthOf k - 1) 0) ≡ k = omega arith in record { known = rw q known; exact = rw q zeros-long }
+  zeros-exact : Exact (zeros k)
+  zeros-exact = let q : kindAt (zeros k) ≡ k = omega arith in record { known = rw q known; exact = rw q zeros-long }
 
   one-before : (x : ℕ) → lengthOf k ≤ x → Messages (x - lengthOf k) → Messages x
   one-before x l r =
       record {
-        list = (k ∷ replicate (lengthOf k - 1) 0) ∷ r .list;
+        list = zeros k ∷ r .list;
         exact = (zeros-exact, r .exact);
-        long = length-append (k ∷ replicate (lengthOf k - 1) 0) (joined (r .list)) ∙ omega (arith, zeros-long, r .long);
+        long = length-append (zeros k) (joined (r .list)) ∙ omega (arith, zeros-long, r .long);
       }
 
 messages : (f x : ℕ) → sums f x ≡ true → Messages x

@@ -1,7 +1,7 @@
 -- What the writer wrote comes out of a stream as it was. Assumes nothing.
 use mathlib.Core.Path.{_≡_, refl, sym, ap, _∙_}
 use mathlib.Core.Bool.{Bool, true, false, _&&_}
-use mathlib.Core.List.{List, [], _∷_, _++_, append-nil}
+use mathlib.Core.List.{List, [], _++_, append-nil}
 use Prim.Native.Nat.{ℕ}
 use native.Mathlib.Omega.{arith}
 use lib.ListN.{length, take}
@@ -18,7 +18,7 @@ use Rattle.wire.specs.Calls.{unread, readMessage, wrote}
 use Rattle.wire.proofs.Laws.{framed-is, whyRead, read-is}
 use Rattle.wire.proofs.Round.{written-read}
 use Rattle.stream.specs.Stream.{isStopped}
-use Rattle.stream.specs.Cutting.{joined, uncut, run, opened, shown, Written, none, more, EachRead, WrittenThrough}
+use Rattle.stream.specs.Cutting.{joined, uncut, Written, none, more, EachRead, WrittenThrough}
 use Rattle.stream.proofs.Cutting.{Exact, AllExact, no-bytes, uncut-all}
 use Rattle.stream.proofs.Kept.{any-cutting}
 

@@ -1,5 +1,5 @@
--- 2/12: what an uncut stream is, what a run of calls makes of bytes that are cut anywhere, and that the two agree; proofs/Cutting,
--- Progress and Written show the statements. Assumes nothing.
+-- 2/12: what an uncut stream is, what a run of calls makes of bytes that are cut anywhere, and that the two agree; proofs/Kept, Reached and
+-- Written show the statements. Assumes nothing.
 use Prim.Native.Nat.{ℕ, zero, suc, _+_, _≤_, _<_}
 use mathlib.Core.Path.{_≡_}
 use mathlib.Core.Bool.{Bool, true, false, cond}

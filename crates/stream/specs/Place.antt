@@ -31,10 +31,14 @@ isSum x = sums x x
 abbrev pub least : ℕ → ℕ
 least d = getD (0 ∷ 51 ∷ 42 ∷ 93 ∷ 14 ∷ 65 ∷ 56 ∷ 37 ∷ 28 ∷ []) d 79
 
+-- no stream is longer: its offsets fit a u64
+abbrev pub longest : ℕ
+longest = 18446744073709551615
+
 -- a buffer of this length, and a place that a run of calls can leave in it: in order, within buffer and offsets, at messages' ends
 unfoldable pub placeOk : ℕ → Place → Bool
 placeOk l p =
-    leb (p .at) (p .end) && leb (p .end) l && leb (p .at) (p .offset) && leb (p .offset + (p .end - p .at)) 18446744073709551615
+    leb (p .at) (p .end) && leb (p .end) l && leb (p .at) (p .offset) && leb (p .offset + (p .end - p .at)) longest
     && isSum (p .at) && isSum (p .offset - p .at)
 
 -- what the calls rest on of such a place

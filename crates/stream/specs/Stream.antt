@@ -1,14 +1,12 @@
 -- 2/12: what taking bytes and yielding a message answer, and the buffer and the place after it. Assumes nothing.
-use Prim.Native.Nat.{ℕ, _+_, _-_}
+use Prim.Native.Nat.{ℕ, _+_, _-_, min}
 use mathlib.Core.Bool.{Bool, _&&_, not, cond}
 use mathlib.Core.List.{List, [], _∷_}
 use lib.Dec.{eqb, leb}
 use lib.ListN.{length, take}
-use Prim.Native.Nat.{min}
 use Rattle.numbers.specs.Num.{splice}
 use Rattle.paper.specs.Message.{rowOf}
 use Rattle.paper.specs.Refusal.{numberOf}
-use Rattle.paper.specs.declared.Refusal.{Refusal}
 use Rattle.wire.specs.Wire.{lengthOf, kindAt}
 use Rattle.stream.specs.declared.place.Place.{Place}
 use Rattle.stream.specs.declared.place.Begun.{Begun}
@@ -21,7 +19,7 @@ use Rattle.stream.specs.declared.yielding.Found.{Found}
 use Rattle.stream.specs.declared.yielding.Found.the-variants as found
 use Rattle.stream.specs.declared.taking.Taken.{Taken}
 use Rattle.stream.specs.declared.yielding.Yielded.{Yielded}
-use Rattle.stream.specs.Place.{held, gateOf}
+use Rattle.stream.specs.Place.{longest, held, gateOf}
 
 -- bytes that begin with no known kind: the stream stands still there, for good
 unfoldable pub isStopped : List ℕ → Bool
@@ -43,9 +41,9 @@ pub record Filled : Type 0 where
 abbrev pub unchanged : Place → List ℕ → Took → Filled
 unchanged p b a = record { told = record { answer = a; place = p }; buffer = b }
 
--- as many of x bytes as a buffer of l bytes has room for beside h held ones, and as the stream's offsets can count
+-- as many of x bytes as a buffer of l bytes has room for beside what is held, and as the stream's offsets can count
 unfoldable pub roomFor : ℕ → Place → ℕ → ℕ
-roomFor l p x = min x (min (l - (p .end - p .at)) (18446744073709551615 - (p .offset + (p .end - p .at))))
+roomFor l p x = min x (min (l - (p .end - p .at)) (longest - (p .offset + (p .end - p .at))))
 
 -- what is held goes to the front, the first k of the next bytes follow it; later bytes of the buffer keep their contents
 abbrev pub fill : List ℕ → Place → List ℕ → ℕ → Filled
