@@ -320,19 +320,19 @@ fn streams(rounds: &Rounds) {
         bytes.len()
     );
     let seconds =
-        "second, its own struct | ratio (at most 1.1) | second, called as the library is | ratio";
+        "second, called as the library is | ratio (at most 1.1) | second, its own struct | ratio";
     println!("| buffer | pieces | library | {seconds} | plain copy | library by the copy |");
     println!("|---|---|---|---|---|---|---|---|---|");
     for room in [64, 65_536] {
         for piece in [1, 16, 1460, 65_536] {
-            let [library, own, second, copy] = stream(rounds, &bytes, room, piece);
+            let [library, second, own, copy] = stream(rounds, &bytes, room, piece);
             println!(
                 "| {room} | {piece} | {} | {} | {:.2} | {} | {:.2} | {} | {:.2} |",
                 time(library),
-                time(own),
-                library / own,
                 time(second),
                 library / second,
+                time(own),
+                library / own,
                 time(copy),
                 library / copy
             );
@@ -340,11 +340,11 @@ fn streams(rounds: &Rounds) {
     }
 }
 
-/// Library, the second program by its own struct and called as the library is, and a plain copy of the pieces into the
+/// Library, the second program called as the library is and by its own struct, and a plain copy of the pieces into the
 /// buffer.
 fn stream(rounds: &Rounds, bytes: &[u8], room: usize, piece: usize) -> [f64; 4] {
     let mut bufs = vec![vec![0; room]; 4];
-    let [theirs, own, ours, copied] = &mut bufs[..] else { unreachable!("four buffers") };
+    let [theirs, ours, own, copied] = &mut bufs[..] else { unreachable!("four buffers") };
     let times = rounds.medians(&mut [
         &mut || {
             let mut stream = Stream::begin(theirs).expect("room enough");
@@ -354,6 +354,7 @@ fn stream(rounds: &Rounds, bytes: &[u8], room: usize, piece: usize) -> [f64; 4] 
                 count
             });
         },
+        &mut || second_by_calls(bytes, piece, ours),
         &mut || {
             let mut stream = stream::Stream::begin(own).expect("room enough");
             hand_over(bytes, piece, |piece| {
@@ -364,7 +365,6 @@ fn stream(rounds: &Rounds, bytes: &[u8], room: usize, piece: usize) -> [f64; 4] 
                 count
             });
         },
-        &mut || second_by_calls(bytes, piece, ours),
         &mut || {
             hand_over(bytes, piece, |piece| {
                 let count = piece.len().min(room);
