@@ -1,5 +1,5 @@
-// The reader: it holds the caller's buffer and its place in it, and hands the messages in it back one after another. Each function
-// takes the struct apart and leaves the work to the call on a slice and a place.
+// The reader: a buffer that is lent to it, with the place up to which messages were handed back. Each function takes the struct apart
+// and leaves the work to the call on a slice and a place.
 //
 // The buffer is held shared: what was handed back stays readable until the next bytes are taken, which asks for the buffer back.
 use crate::place::Place;

@@ -6,8 +6,7 @@ use crate::place::gate_of;
 use crate::yielding::is_stopped;
 use paper::Refusal;
 ghost use mathlib.Core.Path.{_≡_};
-ghost use Prim.Native.Nat.{_+_, _≤_, _<_};
-ghost use Prim.Native.Nat.{min};
+ghost use Prim.Native.Nat.{_+_, _≤_, _<_, min};
 ghost use lib.ListN.{length, take, drop};
 ghost use Rattle.numbers.specs.Num.{splice};
 ghost use Rattle.stream.specs.Place.{Within};
@@ -68,7 +67,8 @@ fn put(buf: &mut [u8], at: usize, bytes: &[u8], count: usize)
     }
 }
 
-fn take_open(buf: &mut [u8], p: Place, bytes: &[u8]) -> Taken
+// What is held to the front, and behind it as many of these bytes as there is room for.
+fn fill(buf: &mut [u8], p: Place, bytes: &[u8]) -> Taken
     requires { ⌜ Within (length (now buf)) p ⌝ }
     ensures answers { λ r. ⌜ r ≡ fill (now (buf .entry)) p (now (bytes .entry)) (roomFor (length (now (buf .entry))) p (length (now (bytes .entry)))) .told ⌝ }
     ensures buffer { λ _. ⌜ now (buf .exit) ≡ fill (now (buf .entry)) p (now (bytes .entry)) (roomFor (length (now (buf .entry))) p (length (now (bytes .entry)))) .buffer ⌝ }
@@ -104,7 +104,7 @@ pub fn take(buf: &mut [u8], p: Place, bytes: &[u8]) -> Taken
             if is_stopped(&*buf, p) {
                 return unchanged(p, Took::Stopped(p.offset));
             }
-            take_open(buf, p, bytes)
+            fill(buf, p, bytes)
         }
     }
 }

@@ -28,8 +28,8 @@ same-length c = search needs
 returns : tie.Need-returns
 returns c = both (taken-stopped _ _ _ (sym (c .before .before .before .before .enum-told .given .1) ∙ c .before .before .before .before .before .before .gate-of .ensures) (sym (c .before .before .is-stopped .ensures) ∙ c .before .if1 .taken)) (c .unchanged2 .ensures) refl
 
-take-open-requires : tie.Need-take-open-requires
-take-open-requires c κs = open-within _ _ (sym (c .before .before .before .before .enum-told .given .1) ∙ c .before .before .before .before .before .before .gate-of .ensures)
+fill-requires : tie.Need-fill-requires
+fill-requires c κs = open-within _ _ (sym (c .before .before .before .before .enum-told .given .1) ∙ c .before .before .before .before .before .before .gate-of .ensures)
 
 returns-2 : tie.Need-returns-2
 returns-2 c = both (taken-shut _ _ _ (sym (c .before .before .why .given .1) ∙ c .before .before .before .before .gate-of .ensures)) (c .unchanged .ensures) refl
@@ -38,7 +38,7 @@ same-length-2 : tie.Need-same-length-2
 same-length-2 c = search needs
 
 returns-3 : tie.Need-returns-3
-returns-3 c = both (taken-fills _ _ _ (sym (c .before .before .before .before .before .before .before .enum-told .given .1) ∙ c .before .before .before .before .before .before .before .before .before .gate-of .ensures) (sym (c .before .before .before .before .before .is-stopped .ensures) ∙ c .before .before .before .before .if1 .left)) (c .before .before .take-open .ensures .0) (c .before .before .take-open .ensures .1)
+returns-3 c = both (taken-fills _ _ _ (sym (c .before .before .before .before .before .before .before .enum-told .given .1) ∙ c .before .before .before .before .before .before .before .before .before .gate-of .ensures) (sym (c .before .before .before .before .before .is-stopped .ensures) ∙ c .before .before .before .before .if1 .left)) (c .before .before .fill .ensures .0) (c .before .before .fill .ensures .1)
 
 pub take-spec : {M : Type 1} → statement M
 take-spec =
@@ -52,7 +52,7 @@ take-spec =
     unchanged-requires-2
     same-length
     returns
-    take-open-requires
+    fill-requires
     returns-2
     same-length-2
     returns-3)

@@ -1,8 +1,8 @@
 use native.Mathlib.Omega.{arith}
 use Rattle.stream.proofs.Laws.{put-ok, end-fits, filled}
 use borrow.Author.Needs.{needs}
-use Rattle.stream.proofs.taking.take_open.Statement.{statement}
-use Rattle.stream.proofs.taking.take_open.Tie as tie
+use Rattle.stream.proofs.taking.fill.Statement.{statement}
+use Rattle.stream.proofs.taking.fill.Tie as tie
 
 sub-held : tie.Need-sub-held
 sub-held c = search needs
@@ -25,7 +25,7 @@ same-length c = search needs
 returns : tie.Need-returns
 returns c = filled _ _ _ (c .before .before .before .before .before .before .before .before .room-for .ensures) (c .before .before .before .before .before .before .shift .ensures) (c .before .before .put .ensures)
 
-pub take-open-spec : {M : Type 1} → statement M
-take-open-spec =
+pub fill-spec : {M : Type 1} → statement M
+fill-spec =
     tie.close
     (tie.spec sub-held room-for-requires shift-requires put-requires add-t6 same-length returns)
