@@ -22,7 +22,7 @@ use Rattle.stream.specs.declared.taking.Took.the-variants as took
 use Rattle.stream.specs.declared.yielding.Found.the-variants as found
 use Rattle.stream.specs.declared.yielding.Yielded.{Yielded}
 use Rattle.stream.specs.Place.{isSum, held, gateOf, start}
-use Rattle.stream.specs.Stream.{isStopped, isWhole, roomFor, fill, taken, behind, yielded, yieldedOpen}
+use Rattle.stream.specs.Stream.{isStopped, isWhole, roomFor, count, first, fill, taken, behind, yielded, yieldedOpen}
 use Rattle.stream.specs.Cutting.{joined, uncut, Call, offer, ask, State, opened, countIn, isStop, answer, after, run, Drained, shown, AnyCutting, TwoCuttings, InOrder, ForGood, Progress}
 use Rattle.stream.proofs.Laws.{Ok, of-ok, open-ok, held-length, Front, front-is, front-running, room-fits, room-counts, room-offered, taken-stopped, taken-fills, yielded-shut, yielded-open, yields-front, message-front, stops, waits}
 use Rattle.stream.proofs.Laws as law
@@ -48,45 +48,45 @@ module _ (b : List ℕ) (p : Place) (g : gateOf (length b) p ≡ Open) where
       rw q at (sum-add (p .at) (p .offset - p .at) (k .whole) (k .before))
 
   module _ (x : List ℕ) where
-    put-length : length (take (roomFor (length b) p (length x)) x) ≡ roomFor (length b) p (length x)
-    put-length = length-take-le (roomFor (length b) p (length x)) x (room-offered (length b) p (length x) (ok .within))
+    put-length : length (first b p x) ≡ count b p x
+    put-length = length-take-le (count b p x) x (room-offered (length b) p (length x) (ok .within))
 
-    all-fits : p .end - p .at + roomFor (length b) p (length x) ≤ length b
+    all-fits : p .end - p .at + count b p x ≤ length b
     all-fits = room-fits (length b) p (length x) (ok .within)
 
-    buffer-is : fill b p x (roomFor (length b) p (length x)) .buffer ≡ splice b 0 (held b p ++ take (roomFor (length b) p (length x)) x)
+    buffer-is : fill b p x .buffer ≡ splice b 0 (held b p ++ first b p x)
     buffer-is =
         let h = held-length b p (ok .within) in
         let n = put-length in
         let a = all-fits in
-        splice-next b 0 (held b p) (p .end - p .at) (take (roomFor (length b) p (length x)) x) (omega arith) (omega arith)
+        splice-next b 0 (held b p) (p .end - p .at) (first b p x) (omega arith) (omega arith)
 
-    pub filled-length : length (fill b p x (roomFor (length b) p (length x)) .buffer) ≡ length b
+    pub filled-length : length (fill b p x .buffer) ≡ length b
     filled-length =
         let h = held-length b p (ok .within) in
         let n = put-length in
         let a = all-fits in
-        ap length buffer-is ∙ length-splice b 0 (held b p ++ take (roomFor (length b) p (length x)) x) (omega (arith, length-append (held b p) (take (roomFor (length b) p (length x)) x)))
+        ap length buffer-is ∙ length-splice b 0 (held b p ++ first b p x) (omega (arith, length-append (held b p) (first b p x)))
 
-    pub filled-held : held (fill b p x (roomFor (length b) p (length x)) .buffer) (fill b p x (roomFor (length b) p (length x)) .told .place)
-        ≡ held b p ++ take (roomFor (length b) p (length x)) x
+    pub filled-held : held (fill b p x .buffer) (fill b p x .told .place)
+        ≡ held b p ++ first b p x
     unfolding held
     filled-held =
         let h = held-length b p (ok .within) in
         let n = put-length in
         let a = all-fits in
-        let l : length (held b p ++ take (roomFor (length b) p (length x)) x) ≡ p .end - p .at + roomFor (length b) p (length x) - 0 =
-        length-append (held b p) (take (roomFor (length b) p (length x)) x) ∙ omega arith in
-        ap (λ (z : List ℕ). take (p .end - p .at + roomFor (length b) p (length x) - 0) (drop 0 z)) buffer-is
-        ∙ splice-same b 0 (held b p ++ take (roomFor (length b) p (length x)) x) (p .end - p .at + roomFor (length b) p (length x) - 0) l (omega arith)
+        let l : length (held b p ++ first b p x) ≡ p .end - p .at + count b p x - 0 =
+        length-append (held b p) (first b p x) ∙ omega arith in
+        ap (λ (z : List ℕ). take (p .end - p .at + count b p x - 0) (drop 0 z)) buffer-is
+        ∙ splice-same b 0 (held b p ++ first b p x) (p .end - p .at + count b p x - 0) l (omega arith)
 
-    pub filled-open : gateOf (length (fill b p x (roomFor (length b) p (length x)) .buffer)) (fill b p x (roomFor (length b) p (length x)) .told .place) ≡ Open
+    pub filled-open : gateOf (length (fill b p x .buffer)) (fill b p x .told .place) ≡ Open
     filled-open =
         let a = all-fits in
         let c = room-counts (length b) p (length x) (ok .within) in
         let z : p .offset - 0 ≡ p .offset = omega arith in
         rw filled-length
-        (gate-of (length b) (fill b p x (roomFor (length b) p (length x)) .told .place)
+        (gate-of (length b) (fill b p x .told .place)
         (record {
           within = record { ordered = omega arith; inside = omega arith; counted = omega arith };
           passed = omega arith;
@@ -175,7 +175,7 @@ kept-offer s x k = go (isStopped (held (s .buffer) (s .place))) refl
           passes = filled-open (s .buffer) (s .place) (k .passes) x;
           all =
               rw (filled-held (s .buffer) (s .place) (k .passes) x, k .all)
-              (append-assoc (joined (s .yielded)) (held (s .buffer) (s .place)) (take (roomFor (length (s .buffer)) (s .place) (length x)) x));
+              (append-assoc (joined (s .yielded)) (held (s .buffer) (s .place)) (first (s .buffer) (s .place) x));
           at = k .at;
           whole = k .whole;
         })

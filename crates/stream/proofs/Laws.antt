@@ -24,7 +24,7 @@ use Rattle.stream.specs.declared.taking.Took.the-variants as took
 use Rattle.stream.specs.declared.taking.Taken.{Taken}
 use Rattle.stream.specs.declared.yielding.Found.the-variants.{Message, Nothing, Stop, Refused}
 use Rattle.stream.specs.Place.{isSum, placeOk, held, gateOf, Within}
-use Rattle.stream.specs.Stream.{isStopped, isWhole, wholeLength, roomFor, Filled, unchanged, fill, takenOpen, taken, behind, stay, yieldedOpen, yielded, messageIn}
+use Rattle.stream.specs.Stream.{isStopped, isWhole, wholeLength, roomFor, Filled, unchanged, count, fill, takenOpen, taken, behind, stay, yieldedOpen, yielded, messageIn}
 
 -- the tests of a place, in their order
 module _ (l : ℕ) (p : Place) where
@@ -290,7 +290,7 @@ module _ (b : List ℕ) (p : Place) where
   unfolding taken takenOpen
   taken-stopped x e s = rw (← e, s)
 
-  pub taken-fills : (x : List ℕ) → Open ≡ gateOf (length b) p → isStopped (held b p) ≡ false → taken b p x ≡ fill b p x (roomFor (length b) p (length x))
+  pub taken-fills : (x : List ℕ) → Open ≡ gateOf (length b) p → isStopped (held b p) ≡ false → taken b p x ≡ fill b p x
   unfolding taken takenOpen
   taken-fills x e s = rw (← e, s)
 
@@ -314,9 +314,9 @@ pub end-fits : (l : ℕ) (p : Place) (x : ℕ) → Within l p → {n : ℕ} → 
 end-fits l p x w e = omega (arith, room-counts l p x w)
 
 -- what was held to the front, what was taken behind it
-pub filled : (b : List ℕ) (p : Place) (x : List ℕ) {n : ℕ} {b₁ b₂ : List ℕ} → n ≡ roomFor (length b) p (length x) → b₁ ≡ splice b 0 (take (p .end - p .at) (drop (p .at) b))
+pub filled : (b : List ℕ) (p : Place) (x : List ℕ) {n : ℕ} {b₁ b₂ : List ℕ} → n ≡ count b p x → b₁ ≡ splice b 0 (take (p .end - p .at) (drop (p .at) b))
     → b₂ ≡ splice b₁ (p .end - p .at) (take n x)
-    → (_≡_ {A = Taken} (record { answer = took.Bytes n; place = record { at = 0; end = p .end - p .at + n; offset = p .offset } }) (fill b p x (roomFor (length b) p (length x)) .told))
-    × (b₂ ≡ fill b p x (roomFor (length b) p (length x)) .buffer)
+    → (_≡_ {A = Taken} (record { answer = took.Bytes n; place = record { at = 0; end = p .end - p .at + n; offset = p .offset } }) (fill b p x .told))
+    × (b₂ ≡ fill b p x .buffer)
 unfolding held
 filled b p x e f g = (rw e, rw (g, f, e))

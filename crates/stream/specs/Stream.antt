@@ -45,17 +45,24 @@ unchanged p b a = record { told = record { answer = a; place = p }; buffer = b }
 unfoldable pub roomFor : ℕ → Place → ℕ → ℕ
 roomFor l p x = min x (min (l - (p .end - p .at)) (longest - (p .offset + (p .end - p .at))))
 
--- what is held goes to the front, the first k of the next bytes follow it; later bytes of the buffer keep their contents
-abbrev pub fill : List ℕ → Place → List ℕ → ℕ → Filled
-fill b p x k =
+-- how many of these bytes are taken, and which
+abbrev pub count : List ℕ → Place → List ℕ → ℕ
+count b p x = roomFor (length b) p (length x)
+
+abbrev pub first : List ℕ → Place → List ℕ → List ℕ
+first b p x = take (count b p x) x
+
+-- what is held goes to the front, they follow it; later bytes of the buffer keep their contents
+abbrev pub fill : List ℕ → Place → List ℕ → Filled
+fill b p x =
     record {
-      told = record { answer = took.Bytes k; place = record { at = 0; end = (p .end - p .at) + k; offset = p .offset } };
-      buffer = splice (splice b 0 (held b p)) (p .end - p .at) (take k x);
+      told = record { answer = took.Bytes (count b p x); place = record { at = 0; end = (p .end - p .at) + count b p x; offset = p .offset } };
+      buffer = splice (splice b 0 (held b p)) (p .end - p .at) (first b p x);
     }
 
 -- a stream that stands still takes nothing
 unfoldable pub takenOpen : List ℕ → Place → List ℕ → Filled
-takenOpen b p x = cond (isStopped (held b p)) (unchanged p b (took.Stopped (p .offset))) (fill b p x (roomFor (length b) p (length x)))
+takenOpen b p x = cond (isStopped (held b p)) (unchanged p b (took.Stopped (p .offset))) (fill b p x)
 
 abbrev pub takenIn : Gate → List ℕ → Place → List ℕ → Filled
 takenIn (Shut r) b p x = unchanged p b (took.Refused r)

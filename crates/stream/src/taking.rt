@@ -70,8 +70,8 @@ fn put(buf: &mut [u8], at: usize, bytes: &[u8], count: usize)
 // What is held to the front, and behind it as many of these bytes as there is room for.
 fn fill(buf: &mut [u8], p: Place, bytes: &[u8]) -> Taken
     requires { ⌜ Within (length (now buf)) p ⌝ }
-    ensures answers { λ r. ⌜ r ≡ fill (now (buf .entry)) p (now (bytes .entry)) (roomFor (length (now (buf .entry))) p (length (now (bytes .entry)))) .told ⌝ }
-    ensures buffer { λ _. ⌜ now (buf .exit) ≡ fill (now (buf .entry)) p (now (bytes .entry)) (roomFor (length (now (buf .entry))) p (length (now (bytes .entry)))) .buffer ⌝ }
+    ensures answers { λ r. ⌜ r ≡ fill (now (buf .entry)) p (now (bytes .entry)) .told ⌝ }
+    ensures buffer { λ _. ⌜ now (buf .exit) ≡ fill (now (buf .entry)) p (now (bytes .entry)) .buffer ⌝ }
 {
     let held = p.end - p.at;
     let count = room_for(buf.len(), p, bytes.len());
