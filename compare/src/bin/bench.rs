@@ -319,8 +319,7 @@ fn streams(rounds: &Rounds) {
         "\n## A stream of {} bytes, all eight kinds, every message read after each take\n",
         bytes.len()
     );
-    let seconds =
-        "second, called as the library is | ratio (at most 1.1) | second, its own struct | ratio";
+    let seconds = "second, called as the library is | ratio | second, its own struct | ratio";
     println!("| buffer | pieces | library | {seconds} | plain copy | library by the copy |");
     println!("|---|---|---|---|---|---|---|---|---|");
     for room in [64, 65_536] {
