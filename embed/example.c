@@ -1,16 +1,25 @@
-/* One edit, committed: copy 0 of three takes "write, key 7, edit 100" and hears one answer (W1 and W2 of the paper),
- * which a link hands over in two pieces.
+/* Copy 0 of three takes "write, key 7, edit 100" and hears one answer (W1 and W2 of the paper), which a link hands over
+ * in two pieces. What it saves goes into a journal; it is cut off in the middle of an entry, and goes on.
  *
  *     gcc -std=c11 -I include embed/example.c target/staticlib/libpumxaqert.a -o example && ./example */
+#define _POSIX_C_SOURCE 200809L
 #include "pumxaqert.h"
 #include <stdio.h>
 #include <stdlib.h>
+#include <unistd.h>
 
-enum { N = 3, S = 4, C = 0, ROOM = 256 };
+enum { N = 3, S = 4, C = 0, ROOM = 256, RECORD = 20, LIST = 2 };
 
-static uint8_t *table;
-static size_t table_len;
+static uint8_t *table, *entry;
+static size_t table_len, entry_len;
 static uint8_t out[ROOM];
+static FILE *journal;
+
+/* Nothing here is refused, and the disk does what it is asked to. */
+static void must(uint32_t refusal) {
+    if (refusal)
+        exit((int)refusal);
+}
 
 static void show(const char *what, const uint8_t *bytes, size_t length) {
     printf("%s, %zu bytes:", what, length);
@@ -19,11 +28,41 @@ static void show(const char *what, const uint8_t *bytes, size_t length) {
     printf("\n");
 }
 
-/* A host writes this part of the table to its disk, and flushes it, before it sends anything. */
+/* Appends these bytes, and waits until the disk has them. */
+static void append(const uint8_t *bytes, size_t length) {
+    must(fwrite(bytes, 1, length, journal) != length || fflush(journal) || fsync(fileno(journal)));
+}
+
+/* The record that an event changed, before anything is sent. */
 static void save(const size_t values[4]) {
     size_t length;
-    size_t start = pumxaqert_part(table, table_len, N, S, C, values[0], values[1], &length);
-    printf("save %zu.%zu: %zu bytes of the table from byte %zu\n", values[0], values[1], length, start);
+    must(pumxaqert_record_entry(table, table_len, N, S, C, entry, entry_len, values[0], values[1], &length));
+    append(entry, length);
+    printf("save %zu.%zu: an entry of %zu bytes\n", values[0], values[1], length);
+}
+
+/* The machine starts, perhaps after a cut: the table that the journal was begun with, here a blank one, becomes what it
+ * was after the last whole entry. What is left of another is cut off before anything more is written. */
+static void start(void) {
+    size_t offset;
+    must(fseek(journal, 0, SEEK_END) != 0);
+    size_t length = (size_t)ftell(journal);
+    uint8_t *bytes = malloc(length + 1);
+    rewind(journal);
+    must(!bytes || fread(bytes, 1, length, journal) != length);
+    must(pumxaqert_blank(table, table_len, N, S, C));
+    must(pumxaqert_replay(table, table_len, N, S, C, bytes, length, &offset));
+    must(ftruncate(fileno(journal), (off_t)offset) || fsync(fileno(journal)) || fseek(journal, 0, SEEK_END));
+    printf("start: %zu bytes of the journal are entries, %zu a rest\n", offset, length - offset);
+    free(bytes);
+}
+
+/* An edit of object 7 becomes this copy's next instance; a PreAccept goes to copies 1 and 2. */
+static void take(uint64_t edit) {
+    size_t values[4];
+    must(pumxaqert_request(table, table_len, N, S, C, out, ROOM, 2, 7, edit, values));
+    save(values);
+    show("send", out, values[2]);
 }
 
 /* Copy 1's link. What the bytes that came in leave of a message waits in the buffer for those that follow. */
@@ -32,74 +71,85 @@ static size_t link_place[3];
 
 /* There is room for these few bytes; a host reads what is whole and offers again what was not taken. values says what
  * has come, as pumxaqert_stream_next does. */
-static uint32_t arrive(const uint8_t *bytes, size_t length, size_t values[3]) {
+static void arrive(const uint8_t *bytes, size_t length, size_t values[3]) {
     static const char *const words[] = {"no message is whole", "a message is whole", "the stream stops"};
-    uint32_t refusal = pumxaqert_stream_take(link_buf, sizeof link_buf, link_place, bytes, length, values);
-    if (!refusal)
-        refusal = pumxaqert_stream_next(link_buf, sizeof link_buf, link_place, values);
-    if (!refusal)
-        printf("bytes came in, %zu: %s\n", length, words[values[0]]);
-    return refusal;
+    must(pumxaqert_stream_take(link_buf, sizeof link_buf, link_place, bytes, length, values));
+    must(pumxaqert_stream_next(link_buf, sizeof link_buf, link_place, values));
+    printf("bytes came in, %zu: %s\n", length, words[values[0]]);
 }
 
-int main(void) {
-    size_t values[4];
-    table_len = pumxaqert_table_length(N, S);
-    table = malloc(table_len);
-    if (!table)
-        return 1;
-    uint32_t refusal = pumxaqert_blank(table, table_len, N, S, C);
-    if (refusal)
-        return (int)refusal;
-
-    /* W1: the edit becomes instance 0.1; a PreAccept goes to copies 1 and 2. */
-    refusal = pumxaqert_request(table, table_len, N, S, C, out, ROOM, 2, 7, 100, values);
-    if (refusal)
-        return (int)refusal;
-    save(values);
-    show("send", out, values[2]);
-
-    /* W2: copy 1 answers PreAcceptOK (kind 2) without dependencies, and 0.1 is committed. */
+/* Copy 1 answers PreAcceptOK (kind 2) without dependencies, and 0.1 is committed. */
+static void answered(void) {
     const uint64_t fields[18] = {2, 1, 0, 0, 1};
     uint8_t answer[ROOM];
-    size_t length, offset;
-    refusal = pumxaqert_write_message(N, S, 1, answer, ROOM, fields, &length, &offset);
-    if (refusal)
-        return (int)refusal;
+    size_t length, offset, came[3], values[4];
+    must(pumxaqert_write_message(N, S, 1, answer, ROOM, fields, &length, &offset));
     show("copy 1 answers", answer, length);
-    size_t came[3];
-    refusal = pumxaqert_stream_begin(link_buf, sizeof link_buf, link_place);
-    refusal |= arrive(answer, 9, came);
-    refusal |= arrive(answer + 9, length - 9, came);
-    if (refusal)
-        return (int)refusal;
-    refusal = pumxaqert_message(table, table_len, N, S, C, out, ROOM, link_buf + came[1], came[2], values);
-    if (refusal)
-        return (int)refusal;
+    must(pumxaqert_stream_begin(link_buf, sizeof link_buf, link_place));
+    arrive(answer, 9, came);
+    arrive(answer + 9, length - 9, came);
+    must(pumxaqert_message(table, table_len, N, S, C, out, ROOM, link_buf + came[1], came[2], values));
     save(values);
     show("send", out, values[2]);
 
-    /* Committed, with nothing that it waits for: it may be handed out. */
-    uint64_t settled[4];
-    refusal = pumxaqert_settled(table, table_len, N, S, C, 0, 1, settled);
-    printf("settled %u: op %u, key %u, edit %u\n", (unsigned)settled[0], (unsigned)settled[1], (unsigned)settled[2],
-           (unsigned)settled[3]);
-    uint16_t list[2];
-    size_t codes;
-    refusal |= pumxaqert_hand_out(table, table_len, N, S, C, list, 2, &codes);
-    printf("handed out %zu: code %u\n", codes, (unsigned)list[0]);
-
-    /* An answer whose last dependency says more than three copies have: the offset in values[3] names that field. */
+    /* With a last dependency that says more than three copies have: the offset in values[3] names that field. */
     answer[length - 2] = 1;
     uint32_t wrong = pumxaqert_message(table, table_len, N, S, C, out, ROOM, answer, length, values);
     printf("damaged: refusal %u, byte %zu\n", (unsigned)wrong, values[3]);
 
     /* No message begins with a 0: it stops the link's stream, at the byte after the answer. */
     const uint8_t stray[1] = {0};
-    refusal |= arrive(stray, 1, came);
+    arrive(stray, 1, came);
     printf("the link is dropped at byte %zu\n", came[1]);
+}
+
+/* What is settled is handed out; the marks are saved in the order of the list before anybody is told. */
+static void hand_out(void) {
+    uint16_t list[LIST];
+    size_t codes, length;
+    must(pumxaqert_hand_out(table, table_len, N, S, C, list, LIST, &codes));
+    for (size_t i = 0; i < codes; i++) {
+        size_t owner = list[i] / 256, number = list[i] % 256;
+        must(pumxaqert_mark_entry(table, table_len, N, S, C, entry, entry_len, owner, number, &length));
+        append(entry, length);
+        printf("handed out %zu.%zu: an entry of %zu bytes\n", owner, number, length);
+    }
+}
+
+/* Another edit: of its entry the disk gets 100 bytes, and then the power is gone. Nothing was sent, nobody was answered. */
+static void cut_off(void) {
+    size_t values[4], length;
+    must(pumxaqert_request(table, table_len, N, S, C, out, ROOM, 2, 7, 101, values));
+    must(pumxaqert_record_entry(table, table_len, N, S, C, entry, entry_len, values[0], values[1], &length));
+    append(entry, 100);
+    printf("cut off after 100 bytes of the entry of %zu.%zu\n", values[0], values[1]);
+}
+
+int main(void) {
+    uint64_t settled[4];
+    size_t values[4];
+    table_len = pumxaqert_table_length(N, S);
+    entry_len = pumxaqert_entry_length(RECORD);
+    table = malloc(table_len);
+    entry = malloc(entry_len);
+    /* A host's journal has a name, and the disk has that too, before the first entry. */
+    journal = tmpfile();
+    must(!table || !entry || !journal);
+    start();
+
+    take(100);
+    answered();
+    hand_out();
+    cut_off();
+    start();
+
+    /* What was saved is still there, and what was not can be asked for again. */
+    must(pumxaqert_settled(table, table_len, N, S, C, 0, 1, settled));
+    printf("settled %u: op %u, key %u, edit %u\n", (unsigned)settled[0], (unsigned)settled[1], (unsigned)settled[2],
+           (unsigned)settled[3]);
+    take(101);
 
     /* NULL with length 0 is an empty area: no room at all is refusal 2. */
     printf("no room: refusal %u\n", (unsigned)pumxaqert_nudge(table, table_len, N, S, C, NULL, 0, 0, 1, values));
-    return (int)refusal;
+    return 0;
 }

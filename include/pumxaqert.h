@@ -5,7 +5,7 @@
  * bytes.
  *
  * A call returns 0, or the number of a refusal; then all lent memory is as at entry, except that the values, which are
- * this call's answer, are all 0, but for the offset of a wrong field. (pumxaqert_table_length and pumxaqert_part return a
+ * this call's answer, are all 0, but for the offset of a wrong field or of a bad entry. (pumxaqert_table_length and pumxaqert_part return a
  * length and a place in the table, and refuse nothing.)
  *
  * Lent areas. A pointer comes with its length, in elements, and is aligned as its type asks. No lent area overlaps
@@ -30,7 +30,8 @@ extern "C" {
 enum {
     PUMXAQERT_SETUP = 1,             /* n, s, c or the table's length is wrong */
     PUMXAQERT_UNSOUND = 11,          /* the table is not sound, or no calls leave such a place in a stream */
-    PUMXAQERT_ROOM = 2,              /* room for outgoing bytes is under 256, or a stream's buffer under 64 */
+    PUMXAQERT_ROOM = 2,              /* room for outgoing bytes is under 256, a stream's buffer under 64, or an entry's
+                                        room shorter than the entry */
     PUMXAQERT_UNKNOWN_KIND = 31,     /* a message of no known kind, or no bytes at all */
     PUMXAQERT_WRONG_LENGTH = 32,     /* a message that is not as long as its kind */
     PUMXAQERT_WRONG_WAY = 33,        /* a message that is not for this copy, or is from it */
@@ -42,7 +43,10 @@ enum {
     PUMXAQERT_NUDGE_IDLE = 9,        /* nudge, not committed and phase 0 */
     PUMXAQERT_BALLOTS_USED_UP = 7,   /* recover with joined >= 4,294,967,288 */
     PUMXAQERT_NO_BLANK = 5,          /* a request finds no blank own record */
-    PUMXAQERT_OTHER_COMMIT = 10      /* a Commit differs from the stored one */
+    PUMXAQERT_OTHER_COMMIT = 10,     /* a Commit differs from the stored one */
+    PUMXAQERT_ENTRY_KIND = 41,       /* a journal's entry of no known kind */
+    PUMXAQERT_ENTRY_INSTANCE = 42,   /* an entry of an owner or number that there is not */
+    PUMXAQERT_ENTRY_UNSOUND = 43     /* an entry with an unsound record, or a mark where nothing is committed */
 };
 
 /* How many bytes a table of n copies and s numbers has; 0 where no table has these sizes. */
@@ -122,6 +126,28 @@ uint32_t pumxaqert_stream_take(uint8_t *buf, size_t buf_len, size_t place[3], co
 /* The next whole message, which stays in buf until the next take. values: 0, 0, 0 if none is held; 1, where in buf the
  * message starts, its length; 2, the offset of the stop, 0. */
 uint32_t pumxaqert_stream_next(const uint8_t *buf, size_t buf_len, size_t place[3], size_t values[3]);
+
+/* The journal: entries one after another, in the order in which they were saved. docs/LAYOUT.md has their bytes,
+ * docs/HOST.md when to write, when to wait for the disk and what to do after a cut. Kind 20 is an instance and its
+ * record, for each event; kind 21 an instance that was newly marked as handed out, for each code of a hand-out. */
+
+/* How many bytes an entry of a kind has; 0 if there is no such kind. */
+size_t pumxaqert_entry_length(size_t kind);
+
+/* Writes the entry of owner.number as it stands in the table at the front of out; *written is its length. Each refuses
+ * 1, 2 (out_len under the entry's length), 6 and then 43: record_entry if that record is not sound, mark_entry if it is
+ * not committed and marked. The rest of the table is not judged. */
+uint32_t pumxaqert_record_entry(const uint8_t *table, size_t table_len, size_t n, size_t s, size_t c, uint8_t *out,
+                                size_t out_len, size_t owner, size_t number, size_t *written);
+uint32_t pumxaqert_mark_entry(const uint8_t *table, size_t table_len, size_t n, size_t s, size_t c, uint8_t *out,
+                              size_t out_len, size_t owner, size_t number, size_t *written);
+
+/* Replays a journal onto the table that it was begun with. Refuses 1, 11, and then, for the first entry that is bad, 41,
+ * 42 or 43, with *offset where that entry begins; the table is as it was. Else the table becomes what it was after the
+ * last whole entry, and *offset is where a shorter rest begins, the journal's length if there is none: cut the journal
+ * off there before anything more is written to it. */
+uint32_t pumxaqert_replay(uint8_t *table, size_t table_len, size_t n, size_t s, size_t c, const uint8_t *journal,
+                          size_t journal_len, size_t *offset);
 
 #ifdef __cplusplus
 }

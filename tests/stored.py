@@ -5,7 +5,8 @@ ROOT = os.path.dirname(os.path.dirname(os.path.abspath(__file__)))
 CHECK = "--check" in sys.argv
 WORDS = [word for word in sys.argv[1:] if word != "--check"]
 # The runs that stand in their parent are the base's: they refuse with 3, which no call gives any more.
-VECTORS = WORDS or [os.path.join(os.path.dirname(ROOT), "shared", "vectors", name) for name in ("change-1", "change-2")]
+VECTORS = WORDS or [os.path.join(os.path.dirname(ROOT), "shared", "vectors", name)
+                    for name in ("change-1", "change-2", "change-3")]
 
 
 def recorded_runs():

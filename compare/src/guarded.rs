@@ -22,11 +22,14 @@ impl<T: Copy + PartialEq> Area<T> {
         Area { cells: vec![guard; most + 2 * GUARD], guard, length: 0, null: false }
     }
 
-    /// Makes the area so long, with these contents.
+    /// Makes the area so long, with these contents; it grows where there were never so many.
     pub fn set(&mut self, contents: &[T], null: bool) {
         self.length = contents.len();
         self.null = null && contents.is_empty();
         let end = GUARD + self.length;
+        if self.cells.len() < end + GUARD {
+            self.cells.resize(end + GUARD, self.guard);
+        }
         self.cells[GUARD..end].copy_from_slice(contents);
         self.cells[end..end + GUARD].fill(self.guard);
     }
@@ -199,6 +202,52 @@ pub fn c_stream(call: StreamCall, areas: &mut StreamAreas) -> u32 {
                 pumxaqert_stream_take(buf, buf_len, place, bytes, bytes_len, values)
             }
             StreamCall::Next => pumxaqert_stream_next(buf, buf_len, place, values),
+        }
+    }
+}
+
+/// What a call on a journal is lent, and where it puts its one number: how much was written, or an offset.
+pub struct JournalAreas {
+    pub table: Area<u8>,
+    pub out: Area<u8>,
+    pub journal: Area<u8>,
+    pub value: Area<usize>,
+}
+
+impl JournalAreas {
+    pub fn guards_hold(&self) -> bool {
+        self.table.guards_hold()
+            && self.out.guards_hold()
+            && self.journal.guards_hold()
+            && self.value.guards_hold()
+    }
+}
+
+#[derive(Clone, Copy, Debug, PartialEq, Eq)]
+pub enum JournalCall {
+    RecordEntry(usize, usize),
+    MarkEntry(usize, usize),
+    /// The journal stands in its area.
+    Replay,
+}
+
+/// The number that the C call returns.
+pub fn c_journal(setup: Setup, call: JournalCall, areas: &mut JournalAreas) -> u32 {
+    let Setup { n, s, copy: c } = setup;
+    let (t, t_len) = areas.table.lend();
+    let (out, out_len) = areas.out.lend();
+    let (journal, journal_len) = areas.journal.lend();
+    let (value, _) = areas.value.lend();
+    // SAFETY: as above; the value has one place.
+    unsafe {
+        match call {
+            JournalCall::RecordEntry(o, j) => {
+                pumxaqert_record_entry(t, t_len, n, s, c, out, out_len, o, j, value)
+            }
+            JournalCall::MarkEntry(o, j) => {
+                pumxaqert_mark_entry(t, t_len, n, s, c, out, out_len, o, j, value)
+            }
+            JournalCall::Replay => pumxaqert_replay(t, t_len, n, s, c, journal, journal_len, value),
         }
     }
 }

@@ -7,6 +7,7 @@ pub mod cases;
 mod classify;
 pub mod demand;
 pub mod guarded;
+pub mod journals;
 pub mod linear;
 pub mod make;
 pub mod measure;
@@ -25,7 +26,7 @@ pub mod world;
 pub const UNTOUCHED: u8 = 0xa5;
 pub const UNTOUCHED_CODE: u16 = 0xa5a5;
 
-/// The paper's refusals.
+/// The refusals of calls on tables and messages; only a journal's have others.
 pub const REFUSALS: [u8; 15] = [1, 2, 4, 5, 6, 7, 8, 9, 10, 11, 31, 32, 33, 34, 35];
 
 /// Which of them it is.

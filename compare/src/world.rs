@@ -5,6 +5,8 @@
 
 use crate::both::{Answer, Both, Call, Pair};
 use crate::demand::Demand;
+use crate::guarded::JournalCall;
+use crate::journals::{Book, Journals};
 use crate::make;
 use crate::places::{Place, Places};
 use crate::probe;
@@ -51,10 +53,19 @@ pub struct World {
     /// A copy that no message reaches or leaves for a while; none has this number where it is N or more.
     apart: usize,
     demand: Demand,
+    disk: Option<Disk>,
+    /// So many steps; where it is none, as many as are drawn.
+    steps: Option<usize>,
     pub both: Both,
     pub random: Random,
     pub places: Places,
     pub step: usize,
+}
+
+/// Each copy's journal, by which it starts again after a cut.
+struct Disk {
+    journals: Journals,
+    books: Vec<Book>,
 }
 
 fn pace(random: &mut Random) -> Pace {
@@ -88,6 +99,25 @@ pub fn run(seed: u64, alone: bool, places: &mut Places) -> Result<(), (usize, St
     ended.map_err(|wrong| (world.step, wrong))
 }
 
+/// The same with journals on the copies' disks: what they hold in the end.
+pub fn journalled(
+    seed: u64,
+    steps: Option<usize>,
+    journals: &mut Journals,
+) -> Result<Vec<Book>, String> {
+    let mut world = World::new(seed, false);
+    let books = world.copies.iter().map(|copy| Book::new(copy.setup, &copy.saved)).collect();
+    world.disk = Some(Disk { journals: std::mem::take(journals), books });
+    world.steps = steps;
+    let ended = world.play();
+    let disk = world.disk.expect("a run keeps its disk");
+    *journals = disk.journals;
+    match ended {
+        Ok(()) => Ok(disk.books),
+        Err(wrong) => Err(format!("step {}: {wrong}", world.step)),
+    }
+}
+
 impl World {
     fn new(seed: u64, alone: bool) -> World {
         let mut random = Random(seed);
@@ -115,6 +145,8 @@ impl World {
             flying: Vec::new(),
             apart: n,
             demand: Demand::new(n, s),
+            disk: None,
+            steps: None,
             both: Both::new(alone),
             random,
             places,
@@ -123,8 +155,8 @@ impl World {
     }
 
     fn play(&mut self) -> Result<(), String> {
-        let steps = self.random.between(40, 100 + 20 * self.n * self.s.min(8));
-        for _ in 0..steps {
+        let drawn = self.random.between(40, 100 + 20 * self.n * self.s.min(8));
+        for _ in 0..self.steps.unwrap_or(drawn) {
             self.step += 1;
             if self.random.chance(2) {
                 self.apart = self.random.below(2 * self.n);
@@ -135,7 +167,7 @@ impl World {
                 probe::probe(self, q)?;
             }
         }
-        if !self.wild && self.s <= 12 && self.random.chance(40) {
+        if !self.wild && self.s <= 12 && self.steps.is_none() && self.random.chance(40) {
             self.drain()?;
         }
         Ok(())
@@ -211,10 +243,9 @@ impl World {
         self.places.event(self.n, call, o, [&before, &after], sent);
         if self.random.chance(self.pace.cut) {
             self.places.reach(Place::CutBeforeSave);
-            self.restart(q);
-            return Ok(());
+            return self.restart(q, Some(JournalCall::RecordEntry(o, j)));
         }
-        self.save(q, at, end);
+        self.save(q, at, end, JournalCall::RecordEntry(o, j))?;
         if !self.wild {
             if matches!(call, Call::Request(..)) {
                 self.demand.requested(o, j, after.own.command);
@@ -262,14 +293,30 @@ impl World {
         }
     }
 
-    fn save(&mut self, q: usize, at: usize, end: usize) {
+    fn save(&mut self, q: usize, at: usize, end: usize, entry: JournalCall) -> Result<(), String> {
         let Copy { tables, saved, .. } = &mut self.copies[q];
         saved[at..end].copy_from_slice(&tables.ours[at..end]);
+        match &mut self.disk {
+            Some(Disk { journals, books }) => books[q].write(journals, entry, &tables.ours),
+            None => Ok(()),
+        }
     }
 
-    fn restart(&mut self, q: usize) {
+    /// The copy begins again with what its disk holds; of the entry that was being written, if there is one, a part.
+    fn restart(&mut self, q: usize, entry: Option<JournalCall>) -> Result<(), String> {
         let Copy { tables, saved, .. } = &mut self.copies[q];
+        if let Some(Disk { journals, books }) = &mut self.disk {
+            let book = &mut books[q];
+            let whole = book.saves.len();
+            if let Some(entry) = entry {
+                book.write(journals, entry, &tables.ours)?;
+            }
+            if book.restart(journals, whole, self.step)? != *saved {
+                return Err(format!("copy {q} starts again with another table than it saved"));
+            }
+        }
         tables.set(saved);
+        Ok(())
     }
 
     /// Puts the messages in flight: all but the lost ones, or only some of them before a cut.
@@ -277,7 +324,7 @@ impl World {
         let cut = !sent.is_empty() && self.random.chance(self.pace.cut);
         if cut {
             self.places.reach(Place::CutBeforeSend);
-            self.restart(q);
+            self.restart(q, None)?;
         }
         let mut last = None;
         while let Some(&kind) = sent.first() {
@@ -331,14 +378,14 @@ impl World {
         let codes = self.both.ours.list[..count].to_vec();
         self.listed(q, room, &codes)?;
         for (done, &code) in codes.iter().enumerate() {
+            let Instance { owner, number } = Instance::of_code(code);
+            let entry = JournalCall::MarkEntry(owner, number);
             if done > 0 && self.random.chance(2 * self.pace.cut) {
                 self.places.reach(Place::CutBetweenMarks);
-                self.restart(q);
-                return Ok(());
+                return self.restart(q, Some(entry));
             }
-            let Instance { owner, number } = Instance::of_code(code);
             let (at, end) = self.part(q, owner, number)?;
-            self.save(q, at, end);
+            self.save(q, at, end, entry)?;
             if !self.wild {
                 self.demand.marked(q, owner, number)?;
             }

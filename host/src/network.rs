@@ -7,8 +7,27 @@ use std::collections::BTreeMap;
 /// From one copy to another.
 pub type Link = (usize, usize);
 
-pub struct Network {
+/// splitmix64: the same numbers on every run.
+pub struct Random {
     state: u64,
+}
+
+impl Random {
+    pub fn new(seed: u64) -> Random {
+        Random { state: seed }
+    }
+
+    pub fn below(&mut self, n: u64) -> u64 {
+        self.state = self.state.wrapping_add(0x9e37_79b9_7f4a_7c15);
+        let mut z = self.state;
+        z = (z ^ (z >> 30)).wrapping_mul(0xbf58_476d_1ce4_e5b9);
+        z = (z ^ (z >> 27)).wrapping_mul(0x94d0_49bb_1331_11eb);
+        (z ^ (z >> 31)) % n
+    }
+}
+
+pub struct Network {
+    random: Random,
     flying: Vec<(Link, Vec<u8>)>,
     /// Bytes on each link that has some.
     wires: BTreeMap<Link, Vec<u8>>,
@@ -22,16 +41,11 @@ const STRAY: u8 = 0;
 impl Network {
     pub fn new(seed: u64) -> Network {
         let (flying, wires) = (Vec::new(), BTreeMap::new());
-        Network { state: seed, flying, wires, lost: 0, pieces: 0 }
+        Network { random: Random::new(seed), flying, wires, lost: 0, pieces: 0 }
     }
 
-    /// splitmix64: the same numbers on every run.
     pub fn below(&mut self, n: u64) -> u64 {
-        self.state = self.state.wrapping_add(0x9e37_79b9_7f4a_7c15);
-        let mut z = self.state;
-        z = (z ^ (z >> 30)).wrapping_mul(0xbf58_476d_1ce4_e5b9);
-        z = (z ^ (z >> 27)).wrapping_mul(0x94d0_49bb_1331_11eb);
-        (z ^ (z >> 31)) % n
+        self.random.below(n)
     }
 
     /// Takes the messages of one event of this copy; one in five is lost. What an event wrote is a short stream too, so

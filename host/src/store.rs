@@ -1,115 +1,186 @@
-//! One copy's files: its table, a journal of the record being saved, and the order in which it handed edits out.
+//! One copy's files: a table, and the journal that was begun with it.
 //!
-//! A record is saved whole or not at all: first it goes into the journal with a check sum, then into the table. A cut
-//! while the journal is written leaves a bad sum: the save did not happen. A cut after that is made good on opening.
+//! A table and its journal bear one generation's number, and the newest table counts. A journal is begun anew so that at
+//! every moment a cut leaves two that belong together: the new journal is on the disk, under its name, before the new
+//! table gets its own; until then the old two count, and nothing is written to the new journal before.
+//!
+//! The order in which edits were handed out is the order of marks in the journal, and no third file has to agree with
+//! it: a new journal begins with the marks that its table has, in their order. Replayed, they change nothing.
 
-use std::fs::{File, OpenOptions};
-use std::io::{Error, ErrorKind, Read, Result, Seek, SeekFrom, Write};
-use std::path::Path;
+use std::fs::{self, File, OpenOptions};
+use std::io::{Error, ErrorKind, Result, Write};
+use std::path::{Path, PathBuf};
+use std::thread::sleep;
+use std::time::Duration;
 
-pub struct Store {
-    table: File,
-    journal: File,
-    order: File,
+/// Where files are kept, and how they are written.
+#[derive(Clone)]
+pub struct Disk {
+    pub folder: PathBuf,
+    /// Entries are written piece by piece, with pauses, so that a kill from outside often falls inside one.
+    pub slow: bool,
 }
 
-/// FNV-1a, to know a torn entry by.
-fn check_sum(bytes: &[u8]) -> u64 {
-    let step = |sum: u64, byte: &u8| (sum ^ *byte as u64).wrapping_mul(0x100_0000_01b3);
-    bytes.iter().fold(0xcbf2_9ce4_8422_2325, step)
+const PAUSE: Duration = Duration::from_micros(50);
+
+impl Disk {
+    /// Makes the folder, if it is not there.
+    pub fn make(&self) -> Result<()> {
+        fs::create_dir_all(&self.folder)?;
+        self.folder.canonicalize()?.parent().map_or(Ok(()), sync_folder)
+    }
+}
+
+/// A name is on the disk once the folder is in which it stands.
+fn sync_folder(folder: &Path) -> Result<()> {
+    File::open(folder)?.sync_all()
+}
+
+pub struct Store {
+    files: Files,
+    generation: u64,
+    journal: File,
+    /// The journal's length.
+    length: u64,
 }
 
 impl Store {
-    /// The files of this name, made if they are not there. `blank` fills a new table.
-    pub fn open(folder: &Path, name: &str, blank: &[u8]) -> Result<Store> {
-        let open = |ending: &str| {
-            let mut options = OpenOptions::new();
-            options.read(true).write(true).create(true).truncate(false);
-            options.open(folder.join(format!("{name}.{ending}")))
+    /// The newest files of this name, with the table's and the journal's bytes; begun with the blank table if there are
+    /// none. To be cut off before anything else.
+    pub fn open(disk: &Disk, name: &str, blank: &[u8]) -> Result<(Store, Vec<u8>, Vec<u8>)> {
+        let files = Files { disk: disk.clone(), name: name.to_string() };
+        let generation = match files.newest()? {
+            Some(generation) => generation,
+            None => {
+                files.write_new(1, blank, &[])?;
+                files.count_new(1)?;
+                1
+            }
         };
-        let mut store =
-            Store { table: open("table")?, journal: open("journal")?, order: open("order")? };
-        if store.table.metadata()?.len() < blank.len() as u64 {
-            store.table.rewind()?;
-            store.table.write_all(blank)?;
-            store.table.sync_data()?;
+        let table = fs::read(files.path(generation, "table"))?;
+        let bytes = fs::read(files.path(generation, "journal"))?;
+        let (journal, length) = (files.append_to(generation)?, bytes.len() as u64);
+        Ok((Store { files, generation, journal, length }, table, bytes))
+    }
+
+    /// The journal ends here from now on. The disk is waited for also where there is no rest: an earlier life may have ended
+    /// between a write and its sync, or a name and its own, and what this one has read it will act on.
+    pub fn cut_off(&mut self, length: usize) -> Result<()> {
+        self.length = length as u64;
+        self.journal.set_len(self.length)?;
+        self.journal.sync_all()?;
+        sync_folder(&self.files.disk.folder)?;
+        self.remove_old()
+    }
+
+    /// Appends entries, and waits for the disk.
+    pub fn append(&mut self, entries: &[u8]) -> Result<()> {
+        let slow = self.files.disk.slow;
+        // Pieces of many lengths, and never the whole.
+        let piece = (25 + self.length as usize % 97).min(entries.len() - 1);
+        for part in entries.chunks(if slow { piece } else { entries.len() }) {
+            self.journal.write_all(part)?;
+            if slow {
+                sleep(PAUSE);
+            }
         }
-        store.finish_save()?;
-        Ok(store)
-    }
-
-    /// The table as it was saved last.
-    pub fn table(&mut self) -> Result<Vec<u8>> {
-        let mut bytes = Vec::new();
-        self.table.rewind()?;
-        self.table.read_to_end(&mut bytes)?;
-        Ok(bytes)
-    }
-
-    /// Saves one part of the table, flushed.
-    pub fn save(&mut self, at: usize, part: &[u8]) -> Result<()> {
-        self.write_journal(&entry(at, part))?;
-        self.write_table(at as u64, part)
-    }
-
-    /// What a cut in the middle of a save leaves behind.
-    pub fn save_torn(&mut self, at: usize, part: &[u8]) -> Result<()> {
-        let entry = entry(at, part);
-        self.write_journal(&entry[..entry.len() / 2])
-    }
-
-    fn write_journal(&mut self, entry: &[u8]) -> Result<()> {
-        self.journal.set_len(0)?;
-        self.journal.rewind()?;
-        self.journal.write_all(entry)?;
+        self.length += entries.len() as u64;
         self.journal.sync_data()
     }
 
-    fn write_table(&mut self, at: u64, part: &[u8]) -> Result<()> {
-        self.table.seek(SeekFrom::Start(at))?;
-        self.table.write_all(part)?;
-        self.table.sync_data()
+    /// What a cut inside these entries leaves behind.
+    pub fn append_torn(&mut self, entries: &[u8], bytes: usize) -> Result<()> {
+        self.journal.write_all(&entries[..bytes])?;
+        self.journal.sync_data()
     }
 
-    /// A whole entry in the journal belongs into the table, whether it came that far or not.
-    fn finish_save(&mut self) -> Result<()> {
-        let mut entry = Vec::new();
-        self.journal.rewind()?;
-        self.journal.read_to_end(&mut entry)?;
-        let Some((rest, sum)) = entry.split_last_chunk::<8>() else { return Ok(()) };
-        match rest.split_first_chunk::<8>() {
-            Some((at, part)) if u64::from_le_bytes(*sum) == check_sum(rest) => {
-                self.write_table(u64::from_le_bytes(*at), part)
+    pub fn length(&self) -> usize {
+        self.length as usize
+    }
+
+    /// Counts the journals of this copy, from 1.
+    pub fn generation(&self) -> u64 {
+        self.generation
+    }
+
+    /// Writes the next generation: this table, and a journal that begins with these marks. It does not count yet.
+    pub fn write_next(&self, table: &[u8], marks: &[u8]) -> Result<()> {
+        self.files.write_new(self.generation + 1, table, marks)
+    }
+
+    /// The next generation counts.
+    pub fn count_next(&mut self) -> Result<()> {
+        let next = self.generation + 1;
+        self.files.count_new(next)?;
+        self.journal = self.files.append_to(next)?;
+        self.length = self.journal.metadata()?.len();
+        self.generation = next;
+        Ok(())
+    }
+
+    /// Those of the generation before do not count any more, whether they are there or not.
+    pub fn remove_old(&self) -> Result<()> {
+        for ending in ["table", "journal"] {
+            match fs::remove_file(self.files.path(self.generation - 1, ending)) {
+                Err(wrong) if wrong.kind() != ErrorKind::NotFound => return Err(wrong),
+                _ => {}
             }
-            _ => Ok(()),
         }
-    }
-
-    /// The codes handed out so far.
-    pub fn order(&mut self) -> Result<Vec<u16>> {
-        let mut bytes = Vec::new();
-        self.order.rewind()?;
-        self.order.read_to_end(&mut bytes)?;
-        Ok(bytes.chunks_exact(2).map(|b| u16::from_le_bytes([b[0], b[1]])).collect())
-    }
-
-    /// Puts a code after so many others; what stood there is gone. Flushed.
-    pub fn hand_out(&mut self, place: usize, code: u16) -> Result<()> {
-        self.order.set_len(2 * place as u64)?;
-        self.order.seek(SeekFrom::End(0))?;
-        self.order.write_all(&code.to_le_bytes())?;
-        self.order.sync_data()
+        Ok(())
     }
 
     /// An error where the files do not hold what they should.
-    pub fn bad(what: &str) -> Error {
+    pub fn bad(what: impl ToString) -> Error {
         Error::new(ErrorKind::InvalidData, what.to_string())
     }
 }
 
-fn entry(at: usize, part: &[u8]) -> Vec<u8> {
-    let mut entry = (at as u64).to_le_bytes().to_vec();
-    entry.extend(part);
-    entry.extend(check_sum(&entry).to_le_bytes());
-    entry
+/// The files of one name, of all generations.
+struct Files {
+    disk: Disk,
+    name: String,
+}
+
+impl Files {
+    fn path(&self, generation: u64, ending: &str) -> PathBuf {
+        self.disk.folder.join(format!("{}.{generation}.{ending}", self.name))
+    }
+
+    /// A table that has no generation's name yet, and so does not count.
+    fn unnamed(&self) -> PathBuf {
+        self.disk.folder.join(format!("{}.new", self.name))
+    }
+
+    fn newest(&self) -> Result<Option<u64>> {
+        let mut newest = None;
+        for file in self.disk.folder.read_dir()? {
+            let file = file?.file_name();
+            let rest =
+                file.to_str().and_then(|file| file.strip_prefix(&self.name)?.strip_prefix('.'));
+            let number = rest.and_then(|rest| rest.strip_suffix(".table")?.parse().ok());
+            newest = newest.max(number);
+        }
+        Ok(newest)
+    }
+
+    fn write_new(&self, generation: u64, table: &[u8], marks: &[u8]) -> Result<()> {
+        write_whole(self.path(generation, "journal"), marks)?;
+        write_whole(self.unnamed(), table)?;
+        sync_folder(&self.disk.folder)
+    }
+
+    fn count_new(&self, generation: u64) -> Result<()> {
+        fs::rename(self.unnamed(), self.path(generation, "table"))?;
+        sync_folder(&self.disk.folder)
+    }
+
+    fn append_to(&self, generation: u64) -> Result<File> {
+        OpenOptions::new().append(true).open(self.path(generation, "journal"))
+    }
+}
+
+fn write_whole(path: PathBuf, bytes: &[u8]) -> Result<()> {
+    let mut file = File::create(path)?;
+    file.write_all(bytes)?;
+    file.sync_all()
 }

@@ -4,11 +4,13 @@
 //! What a host must do with it is in docs/HOST.md.
 #![no_std]
 
+mod journal;
 mod message;
 pub mod raw;
 mod refusal;
 mod stream;
 
+pub use journal::{entries, Entries, Entry, EntryKind};
 pub use message::{Body, Command, Deps, Fields, Message, Op};
 pub use refusal::{Field, Refusal};
 pub use stream::{Messages, Place, Stop, Stream, STREAM_ROOM};

@@ -15,6 +15,20 @@ pub type OnInstance = unsafe extern "C" fn(
     values: *mut [usize; 4],
 ) -> u32;
 
+/// The writers of a journal's entries.
+pub type WritesEntry = unsafe extern "C" fn(
+    table: *const u8,
+    table_len: usize,
+    n: usize,
+    s: usize,
+    c: usize,
+    out: *mut u8,
+    out_len: usize,
+    owner: usize,
+    number: usize,
+    written: *mut usize,
+) -> u32;
+
 extern "C" {
     pub fn pumxaqert_table_length(n: usize, s: usize) -> usize;
 
@@ -146,5 +160,44 @@ extern "C" {
         buf_len: usize,
         place: *mut [usize; 3],
         values: *mut [usize; 3],
+    ) -> u32;
+
+    pub fn pumxaqert_entry_length(kind: usize) -> usize;
+
+    pub fn pumxaqert_record_entry(
+        table: *const u8,
+        table_len: usize,
+        n: usize,
+        s: usize,
+        c: usize,
+        out: *mut u8,
+        out_len: usize,
+        owner: usize,
+        number: usize,
+        written: *mut usize,
+    ) -> u32;
+
+    pub fn pumxaqert_mark_entry(
+        table: *const u8,
+        table_len: usize,
+        n: usize,
+        s: usize,
+        c: usize,
+        out: *mut u8,
+        out_len: usize,
+        owner: usize,
+        number: usize,
+        written: *mut usize,
+    ) -> u32;
+
+    pub fn pumxaqert_replay(
+        table: *mut u8,
+        table_len: usize,
+        n: usize,
+        s: usize,
+        c: usize,
+        journal: *const u8,
+        journal_len: usize,
+        offset: *mut usize,
     ) -> u32;
 }

@@ -1,4 +1,4 @@
-//! Why a call did nothing, and which field of a message is to blame.
+//! Why a call did nothing, and which field of a message or which entry of a journal is to blame.
 
 use core::fmt;
 
@@ -7,7 +7,7 @@ use core::fmt;
 pub enum Refusal {
     /// A wrong N, S or copy, or a table of another length.
     Setup,
-    /// Room for outgoing bytes is under 256, or a stream's buffer under 64.
+    /// Room for outgoing bytes is under 256, a stream's buffer under 64, or an entry's room shorter than the entry.
     Room,
     /// A request's op is not a read or a write.
     Op,
@@ -35,12 +35,22 @@ pub enum Refusal {
     WrongLead,
     /// A field of a message is out of range, and where in the message it begins.
     WrongField { offset: usize, field: Field },
+    /// An entry of a journal is of no known kind, and where in the journal it begins.
+    EntryKind { offset: usize },
+    /// An entry of an owner or number that there is not, and where it begins.
+    EntryInstance { offset: usize },
+    /// An entry with an unsound record, or a mark where nothing is committed, and where it begins; of an entry that is to
+    /// be written, 0.
+    EntryUnsound { offset: usize },
 }
 
 const WRONG_FIELD: u32 = 35;
+const ENTRY_KIND: u32 = 41;
+const ENTRY_INSTANCE: u32 = 42;
+const ENTRY_UNSOUND: u32 = 43;
 
 impl Refusal {
-    /// All that name no field, with their numbers.
+    /// All that name no place, with their numbers.
     const PLAIN: [(u32, Refusal); 14] = [
         (1, Refusal::Setup),
         (2, Refusal::Room),
@@ -59,14 +69,25 @@ impl Refusal {
     ];
 
     pub fn number(self) -> u32 {
-        let plain = Refusal::PLAIN.into_iter().find(|&(_, refusal)| refusal == self);
-        plain.map_or(WRONG_FIELD, |(number, _)| number)
+        match self {
+            Refusal::WrongField { .. } => WRONG_FIELD,
+            Refusal::EntryKind { .. } => ENTRY_KIND,
+            Refusal::EntryInstance { .. } => ENTRY_INSTANCE,
+            Refusal::EntryUnsound { .. } => ENTRY_UNSOUND,
+            _ => {
+                let plain = Refusal::PLAIN.into_iter().find(|&(_, refusal)| refusal == self);
+                plain.expect("all others are plain").0
+            }
+        }
     }
 
-    /// The offset of a wrong field, else 0.
+    /// The offset of a wrong field or of a bad entry, else 0.
     pub fn offset(self) -> usize {
         match self {
-            Refusal::WrongField { offset, .. } => offset,
+            Refusal::WrongField { offset, .. }
+            | Refusal::EntryKind { offset }
+            | Refusal::EntryInstance { offset }
+            | Refusal::EntryUnsound { offset } => offset,
             _ => 0,
         }
     }
@@ -74,17 +95,24 @@ impl Refusal {
     /// What a call told by a number, an offset, and the kind of the message that it was about. None where no call tells
     /// this.
     pub fn told(number: u32, kind: u8, offset: usize) -> Option<Refusal> {
-        if number == WRONG_FIELD {
-            return Field::at(kind, offset).map(|field| Refusal::WrongField { offset, field });
+        match number {
+            WRONG_FIELD => {
+                Field::at(kind, offset).map(|field| Refusal::WrongField { offset, field })
+            }
+            ENTRY_KIND => Some(Refusal::EntryKind { offset }),
+            ENTRY_INSTANCE => Some(Refusal::EntryInstance { offset }),
+            ENTRY_UNSOUND => Some(Refusal::EntryUnsound { offset }),
+            _ => {
+                let plain = Refusal::PLAIN.into_iter().find(|&(its, _)| its == number);
+                plain.map(|(_, refusal)| refusal)
+            }
         }
-        let plain = Refusal::PLAIN.into_iter().find(|&(its, _)| its == number);
-        plain.map(|(_, refusal)| refusal)
     }
 
     fn words(self) -> &'static str {
         match self {
             Refusal::Setup => "a wrong setup, copy or table length",
-            Refusal::Room => "room for outgoing bytes is under 256, or a stream's buffer under 64",
+            Refusal::Room => "room for outgoing bytes, a stream or an entry is too small",
             Refusal::Op => "the op of a request is not a read or a write",
             Refusal::NoBlank => "no blank own record is left",
             Refusal::Instance => "no such instance",
@@ -98,6 +126,11 @@ impl Refusal {
             Refusal::WrongWay => "a message to another copy, or from this one",
             Refusal::WrongLead => "a message not from, or not to, the lead of its ballot",
             Refusal::WrongField { .. } => "a field out of range",
+            Refusal::EntryKind { .. } => "an entry of unknown kind",
+            Refusal::EntryInstance { .. } => "an entry of no instance that there is",
+            Refusal::EntryUnsound { .. } => {
+                "an entry with an unsound record, or a mark where nothing is committed"
+            }
         }
     }
 }
@@ -107,6 +140,9 @@ impl fmt::Display for Refusal {
         write!(f, "{}: {}", self.number(), self.words())?;
         match self {
             Refusal::WrongField { offset, field } => write!(f, ", {field} at byte {offset}"),
+            Refusal::EntryKind { offset }
+            | Refusal::EntryInstance { offset }
+            | Refusal::EntryUnsound { offset } => write!(f, ", at byte {offset}"),
             _ => Ok(()),
         }
     }

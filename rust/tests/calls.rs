@@ -122,12 +122,12 @@ fn all_refusals() {
     assert_eq!(s.judge(&table), Err(Refusal::Unsound));
 }
 
-/// Numbers and back; no call tells 0, 3, 12 or 36, or blames a byte at which no field begins.
+/// Numbers and back; no call tells 0, 3, 12, 36 or 44, or blames a byte at which no field begins.
 #[test]
 fn refusal_numbers() {
-    let told: Vec<Refusal> = (0..40).filter_map(|number| Refusal::told(number, 0, 0)).collect();
+    let told: Vec<Refusal> = (0..50).filter_map(|number| Refusal::told(number, 0, 0)).collect();
     let numbers: Vec<u32> = told.iter().map(|r| r.number()).collect();
-    assert_eq!(numbers, [1, 2, 4, 5, 6, 7, 8, 9, 10, 11, 31, 32, 33, 34]);
+    assert_eq!(numbers, [1, 2, 4, 5, 6, 7, 8, 9, 10, 11, 31, 32, 33, 34, 41, 42, 43]);
     assert!(told.iter().all(|r| r.offset() == 0));
     assert_eq!(Refusal::told(35, 4, 10), None);
     let wrong = Refusal::told(35, 7, 34).unwrap();
@@ -135,6 +135,21 @@ fn refusal_numbers() {
     assert_eq!((wrong.number(), wrong.offset()), (35, 34));
     assert_eq!(wrong.to_string(), "35: a field out of range, dependency 3 at byte 34");
     assert_eq!(Refusal::WrongWay.to_string(), "33: a message to another copy, or from this one");
+    let offset = 300;
+    let entries = [
+        (41, Refusal::EntryKind { offset }, "an entry of unknown kind"),
+        (42, Refusal::EntryInstance { offset }, "an entry of no instance that there is"),
+        (
+            43,
+            Refusal::EntryUnsound { offset },
+            "an entry with an unsound record, or a mark where nothing is committed",
+        ),
+    ];
+    for (number, refusal, words) in entries {
+        assert_eq!(Refusal::told(number, 0, offset), Some(refusal));
+        assert_eq!((refusal.number(), refusal.offset()), (number, offset));
+        assert_eq!(refusal.to_string(), format!("{number}: {words}, at byte 300"));
+    }
 }
 
 /// Every byte of every kind: the field that begins there, or none.

@@ -11,6 +11,7 @@ pub mod broken;
 mod bytes;
 pub mod events;
 pub mod fields;
+pub mod journal;
 pub mod message;
 pub mod order;
 pub mod refusal;

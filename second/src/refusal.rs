@@ -23,6 +23,9 @@ pub const NUDGE_IDLE: Refusal = Refusal::of(9);
 pub const BALLOTS_USED_UP: Refusal = Refusal::of(7);
 pub const NO_BLANK: Refusal = Refusal::of(5);
 pub const OTHER_COMMIT: Refusal = Refusal::of(10);
+pub const ENTRY_KIND: Refusal = Refusal::of(41);
+pub const ENTRY_INSTANCE: Refusal = Refusal::of(42);
+pub const ENTRY_UNSOUND: Refusal = Refusal::of(43);
 
 const WRONG_FIELD: u8 = 35;
 
@@ -45,5 +48,19 @@ impl fmt::Display for Refusal {
             WRONG_FIELD => write!(f, "{} {}", self.number, self.offset),
             _ => write!(f, "{}", self.number),
         }
+    }
+}
+
+/// Why a journal was not replayed, and where in it the bad entry begins; 0 where no entry is to blame. A journal is longer
+/// than what a message's offset can count.
+#[derive(Clone, Copy, Debug, PartialEq, Eq)]
+pub struct NotReplayed {
+    pub refusal: Refusal,
+    pub offset: usize,
+}
+
+impl From<Refusal> for NotReplayed {
+    fn from(refusal: Refusal) -> NotReplayed {
+        NotReplayed { refusal, offset: 0 }
     }
 }

@@ -187,9 +187,17 @@ pub fn record_part(
 fn sound(setup: &Setup, t: &[u8]) -> bool {
     let (head, rows) = t.split_at(HEAD_LEN);
     head == [setup.n as u8, setup.s as u8, setup.copy as u8]
-        && rows.chunks_exact(RECORD_LEN * setup.s).enumerate().all(|(owner, row)| {
-            row.chunks_exact(RECORD_LEN).all(|r| sound_record(setup, owner, part(r, 0)))
-        })
+        && rows
+            .chunks_exact(RECORD_LEN * setup.s)
+            .enumerate()
+            .all(|(owner, row)| sound_records(setup, owner, row))
+}
+
+/// Records of one owner, a whole row of them or a single one. The only place that judges a record, so that all of it is
+/// compiled into one loop.
+#[inline(never)]
+pub(crate) fn sound_records(setup: &Setup, owner: usize, records: &[u8]) -> bool {
+    records.chunks_exact(RECORD_LEN).all(|r| sound_record(setup, owner, part(r, 0)))
 }
 
 #[inline]

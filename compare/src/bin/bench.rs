@@ -1,16 +1,17 @@
-//! bench [quick | messages | streams | orders]: the library beside the second program, as Markdown for docs/BENCH.md. Every figure of a line was
+//! bench [quick | messages | streams | journals | orders]: the library beside the second program, as Markdown for docs/BENCH.md. Every figure of a line was
 //! measured in the same rounds, turn and turn about; times are medians.
 
 use compare::both::{library_side, second_side, Call, Lent, LIST, OUT};
 use compare::cases::{self, Case};
 use compare::guarded::StreamCall;
 use compare::measure::Rounds;
+use compare::random::Random;
 use compare::stack::Stack;
 use compare::{linear, make, shapes, streams, sweeps, UNTOUCHED, UNTOUCHED_CODE};
 use pumxaqert::{raw, Setup, Stream};
 use second::stream::{self, Next, Place, Took};
 use second::table::RECORD_LEN;
-use second::{broken, fields};
+use second::{broken, fields, journal, Refusal};
 use std::hint::black_box;
 use std::time::Duration;
 
@@ -26,6 +27,7 @@ fn main() {
     match &word[..] {
         "messages" => return messages(&rounds),
         "streams" => return streams(&rounds),
+        "journals" => return journals(&rounds),
         "orders" => return orders(&rounds),
         _ => {}
     }
@@ -35,6 +37,7 @@ fn main() {
     sizes(&rounds, true);
     messages(&rounds);
     streams(&rounds);
+    journals(&rounds);
     orders(&rounds);
     growth(&rounds);
     stack();
@@ -428,6 +431,96 @@ fn hand_over(bytes: &[u8], length: usize, mut take: impl FnMut(&[u8]) -> usize) 
             piece = &piece[take(piece)..];
         }
     }
+}
+
+type Writer = fn(&[u8], usize, usize, usize, &mut [u8], usize, usize) -> Result<usize, Refusal>;
+
+fn journals(rounds: &Rounds) {
+    println!("\n## Journals, S = 64: replay onto a table, which is judged first\n");
+    let heads =
+        "library | second | ratio (at most 1.1) | plain copy of the journal | library by the copy";
+    println!("| N | entries | of them marks | {heads} |\n|---|---|---|---|---|---|---|---|");
+    for n in [3, 5, 7] {
+        for count in [1, 100, 10_000, 100_000] {
+            replay_line(rounds, Setup { n, s: 64, copy: 0 }, count, false);
+            replay_line(rounds, Setup { n, s: 64, copy: 0 }, count, true);
+        }
+    }
+    println!(
+        "\n| N = 7: entry written | library | second | ratio (at most 1.1) |\n|---|---|---|---|"
+    );
+    let (mut full, busy) = (shapes::full(LARGEST), cases::busy(LARGEST));
+    let record: (raw::WritesEntry, Writer) = (raw::pumxaqert_record_entry, journal::record_entry);
+    write_line(rounds, "record, committed", &full, record);
+    write_line(rounds, "record, in a phase with all replies", &busy, record);
+    full[make::place(LARGEST, 6, 64) + 36] = 1;
+    write_line(rounds, "mark", &full, (raw::pumxaqert_mark_entry, journal::mark_entry));
+}
+
+/// So many entries, of any sound records; or of marks and committed records in turn.
+fn some_entries(setup: Setup, count: usize, marks: bool) -> Vec<u8> {
+    let Setup { n, s, copy } = setup;
+    let (mut random, mut t, mut room) = (Random(3), shapes::full(setup), [0; 300]);
+    let mut bytes = Vec::new();
+    for at in 0..count {
+        let is_mark = marks && at % 2 == 0;
+        let (o, j) = (random.below(n), random.between(1, s));
+        let place = make::place(setup, o, j);
+        match marks {
+            true => t[place + 36] = is_mark as u8,
+            false => make::put(&mut t, place, &make::record(&mut random, setup, o)),
+        }
+        let writer: Writer = if is_mark { journal::mark_entry } else { journal::record_entry };
+        let length = writer(&t, n, s, copy, &mut room, o, j).expect("a sound record, or a mark");
+        bytes.extend(&room[..length]);
+    }
+    bytes
+}
+
+fn replay_line(rounds: &Rounds, setup: Setup, count: usize, marks: bool) {
+    let Setup { n, s, copy } = setup;
+    let bytes = some_entries(setup, count, marks);
+    let (mut ours, mut theirs) = (shapes::full(setup), shapes::full(setup));
+    let (mut copied, mut offset) = (vec![0; bytes.len()], 0);
+    // SAFETY: all areas are lent with their lengths.
+    let times = rounds.medians(&mut [
+        &mut || unsafe {
+            let (t, bytes) = (black_box(&mut theirs), black_box(&bytes));
+            let (t, t_len) = (t.as_mut_ptr(), t.len());
+            let (at, length) = (bytes.as_ptr(), bytes.len());
+            keep(raw::pumxaqert_replay(t, t_len, n, s, copy, at, length, &mut offset));
+        },
+        &mut || keep(journal::replay(black_box(&mut ours), n, s, copy, black_box(&bytes))),
+        &mut || black_box(&mut copied).copy_from_slice(black_box(&bytes)),
+    ]);
+    assert_eq!((offset, ours), (bytes.len(), theirs), "both replay the whole journal");
+    let [library, second, copy] = [times[0], times[1], times[2]];
+    println!(
+        "| {n} | {count} | {} | {} | {} | {:.2} | {} | {:.1} |",
+        if marks { count.div_ceil(2) } else { 0 },
+        time(library),
+        time(second),
+        library / second,
+        time(copy),
+        library / copy
+    );
+}
+
+/// Writing the entry of the instance that comes last.
+fn write_line(rounds: &Rounds, name: &str, t: &[u8], (c_call, writer): (raw::WritesEntry, Writer)) {
+    let (mut ours, mut theirs, mut written) = ([0; 300], [0; 300], 0);
+    // SAFETY: all areas are lent with their lengths.
+    let times = rounds.medians(&mut [
+        &mut || unsafe {
+            let (t, out) = (black_box(t), black_box(&mut theirs));
+            let (at, length) = (t.as_ptr(), t.len());
+            let (out, room) = (out.as_mut_ptr(), out.len());
+            keep(black_box(c_call)(at, length, 7, 64, 0, out, room, 6, 64, &mut written));
+        },
+        &mut || keep(black_box(writer)(black_box(t), 7, 64, 0, black_box(&mut ours), 6, 64)),
+    ]);
+    assert_eq!(ours, theirs, "both write the entry");
+    println!("| {name} | {:.1} ns | {:.1} ns | {:.2} |", times[0], times[1], times[0] / times[1]);
 }
 
 fn orders(rounds: &Rounds) {

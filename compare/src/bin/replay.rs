@@ -1,36 +1,51 @@
 //! replay DIR_OR_FILES: recorded runs through the public C calls and through the second program: every answer, every
-//! outgoing byte and every list as recorded, and every byte of tables and streams' buffers the same on both sides.
+//! outgoing byte and every list as recorded, and every byte of tables, streams' buffers and journals the same on both
+//! sides. Every copy keeps a journal, which after each call gives its table, and after a cut what it goes on with.
 
 use compare::both::{Answer, Both, Call, Pair, LIST};
+use compare::guarded::JournalCall;
+use compare::journals::{Book, Journals};
 use compare::make;
 use compare::streams::{self, Readers};
-use pumxaqert::{Setup, ROOM};
+use pumxaqert::{Instance, Setup, ROOM};
 use std::path::{Path, PathBuf};
 use std::process::ExitCode;
+
+/// One copy: its tables, its disk, and how many entries that held before its last call.
+struct Copy {
+    tables: Pair,
+    book: Book,
+    before: usize,
+}
 
 /// The copies of one run, and the stream that was opened last.
 struct Run {
     n: usize,
     s: usize,
-    tables: Vec<Pair>,
+    copies: Vec<Copy>,
     both: Both,
     readers: Readers,
+    journals: Journals,
 }
 
 impl Run {
     fn start(words: &[&str]) -> Result<Run, String> {
         let (n, s) = (number(words, 1)?, number(words, 2)?);
         let mut both = Both::default();
-        let mut tables = Vec::new();
+        let mut copies = Vec::new();
         for copy in 0..n {
             let setup = Setup { n, s, copy };
-            let mut pair = Pair::of(&vec![0xa5; second::table_len(n, s)]);
-            match both.call(setup, ROOM, Call::Blank, &mut pair)? {
-                Answer::Done if pair.ours == make::blank(setup) => tables.push(pair),
+            let mut tables = Pair::of(&vec![0xa5; second::table_len(n, s)]);
+            match both.call(setup, ROOM, Call::Blank, &mut tables)? {
+                Answer::Done if tables.ours == make::blank(setup) => {
+                    let book = Book::new(setup, &tables.ours);
+                    copies.push(Copy { tables, book, before: 0 });
+                }
                 other => return Err(format!("no blank table: {other:?}")),
             }
         }
-        Ok(Run { n, s, tables, both, readers: Readers::default() })
+        let (readers, journals) = (Readers::default(), Journals::default());
+        Ok(Run { n, s, copies, both, readers, journals })
     }
 
     /// The answer as the recorded runs write it. A stream belongs to no copy.
@@ -42,8 +57,20 @@ impl Run {
                 other => Err(format!("{other:?}")),
             },
             ["take", bytes] => self.take(&from_hex(bytes)?),
+            [_, "cut", _] => self.cut(number(words, 0)?, number(words, 2)?),
             _ => self.call(words),
         }
+    }
+
+    /// Cuts the copy off inside the entry after the first so many of its last call, and starts it again by replay.
+    fn cut(&mut self, copy: usize, keep: usize) -> Result<String, String> {
+        let Copy { tables, book, before } = self.copies.get_mut(copy).ok_or("no such copy")?;
+        if *before + keep > book.saves.len() {
+            return Err("the last call has fewer entries".into());
+        }
+        let turn = self.journals.counts.restarts as usize;
+        tables.set(&book.restart(&mut self.journals, *before + keep, turn)?);
+        Ok(format!("kept {}", book.saves.len() - *before))
     }
 
     /// One take, and then every whole message.
@@ -82,9 +109,29 @@ impl Run {
             _ => return Err("unknown call".into()),
         };
         let setup = Setup { n: self.n, s: self.s, copy };
-        let pair = self.tables.get_mut(copy).ok_or("no such copy")?;
-        let answer = self.both.call(setup, ROOM, call, pair)?;
+        let its = self.copies.get_mut(copy).ok_or("no such copy")?;
+        let answer = self.both.call(setup, ROOM, call, &mut its.tables)?;
+        self.save(copy, answer)?;
         Ok(self.written(answer))
+    }
+
+    /// Writes what the answer leaves to be saved; the journal then gives the copy's table.
+    fn save(&mut self, copy: usize, answer: Answer) -> Result<(), String> {
+        let Copy { tables, book, before } = &mut self.copies[copy];
+        *before = book.saves.len();
+        let entries = match answer {
+            Answer::Event(o, j, _) => vec![JournalCall::RecordEntry(o, j)],
+            Answer::Codes(count) => self.both.ours.list[..count]
+                .iter()
+                .map(|&code| Instance::of_code(code))
+                .map(|i| JournalCall::MarkEntry(i.owner, i.number))
+                .collect(),
+            _ => Vec::new(),
+        };
+        entries
+            .into_iter()
+            .try_for_each(|entry| book.write(&mut self.journals, entry, &tables.ours))?;
+        book.holds(&mut self.journals, &tables.ours)
     }
 
     fn written(&self, answer: Answer) -> String {

@@ -3,6 +3,7 @@
 // The header says what each call is lent.
 #![allow(clippy::missing_safety_doc, clippy::too_many_arguments)]
 
+mod journal;
 mod planted;
 mod stream;
 

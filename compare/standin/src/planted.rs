@@ -55,11 +55,39 @@ pub enum Planted {
     BufferTouched,
     /// A refusal begins the stream again.
     PlaceForgotten,
+    /// What is left of an entry that was cut is taken for one, the rest of it for zeros.
+    RestForEntry,
+    /// The table is changed before a later bad entry is seen.
+    ChangedBeforeBad,
+    /// An entry is judged before it is asked whether there is such an instance.
+    UnsoundBeforeInstance,
+    /// A mark on what is not committed is taken.
+    MarkOnUncommitted,
+    /// A mark is put on the next owner's instance.
+    MarkElsewhere,
+    /// A last byte by itself is a rest, whatever its kind.
+    LastByteForRest,
+    /// A bad entry is told by where it ends.
+    EndForStart,
+    /// A record is put and the mark that stood there kept.
+    OldMarkKept,
+    /// The writers ask for the instance before they ask for room.
+    InstanceBeforeRoom,
+    /// The writer takes a record as it stands.
+    RecordUnjudged,
+    /// A rest is dropped, and its end reported instead of its start.
+    RestUnreported,
+    /// Of an entry's number the first byte alone is read.
+    NumberAsByte,
+    /// A replayed record is judged as if this copy owned it.
+    JudgedAsOwn,
+    /// A writer touches a byte after the entry.
+    EntryTouched,
 }
 
 use Planted::*;
 
-const ALL: [Planted; 24] = [
+const ALL: [Planted; 38] = [
     Nothing,
     JoinedAsVoted,
     WorkedOutAnew,
@@ -84,6 +112,20 @@ const ALL: [Planted; 24] = [
     UnsoundAccepted,
     BufferTouched,
     PlaceForgotten,
+    RestForEntry,
+    ChangedBeforeBad,
+    UnsoundBeforeInstance,
+    MarkOnUncommitted,
+    MarkElsewhere,
+    LastByteForRest,
+    EndForStart,
+    OldMarkKept,
+    InstanceBeforeRoom,
+    RecordUnjudged,
+    RestUnreported,
+    NumberAsByte,
+    JudgedAsOwn,
+    EntryTouched,
 ];
 
 impl Planted {

@@ -114,7 +114,7 @@ module _ (n s : ℕ) (setup : Setup n s) where
     memory = in-memory n s setup x y (f .tie) c copy (f .saved c)
 
     -- an answered call, with the messages that left before a cut
-    event-back : (call : Call) → Possible x call → Brought n s (y .sent) call → answerNumber (outcome n s c (savedTable k) room call .answer) ≡ 0
+    event-back : (call : Call) → Possible (x .sent) call → Brought n s (y .sent) call → answerNumber (outcome n s c (savedTable k) room call .answer) ≡ 0
         → (l : List Message) → rules.Among l (messages (stepIn n s c (y .tables c) call)) → Back x (moved n s y c call l)
     unfolding log.acted
     event-back call possible brought answer-is l among =

@@ -123,7 +123,7 @@ module _ (n s : ℕ) (setup : Setup n s) where
     quietly j b = record { copies = one-copy y (x .copies) c j (λ q ne. tie .copies q) b; sent = tie .sent; history = tie .history }
 
     -- an event
-    brought : (call : Call) → Possible x call → Brought n s (y .sent) call
+    brought : (call : Call) → Possible (x .sent) call → Brought n s (y .sent) call
     brought (request v) p = p
     brought (receive b) p = tie .sent b p
     brought (recover o j) p = tt
@@ -311,8 +311,20 @@ module _ (n s : ℕ) (setup : Setup n s) where
   still : (y : rules.State) {z : State} → Tie z y → Next y z
   still y t = record { later = y; run = rules.stay; tie = t }
 
+  -- an answered call names an instance
+  pub event-range : (x : State) (y : rules.State) (tie : Tie x y) (c : ℕ) (copy : c < n) (call : Call) (out : List ℕ) (o j w : ℕ) → Possible (x .sent) call → x .copies c .listed ≡ []
+      → outcome n s c (x .copies c .lent) out call .answer ≡ Event o j w → instanceOk n s o j ≡ true
+  unfolding log.acted
+  event-range x y tie c copy call out o j w possible none answer-is =
+      let memory = in-memory x y tie c copy none in
+      let result : outcome n s c (savedTable (x .copies c)) out call .answer ≡ Event o j w = ap (λ (v : List ℕ). outcome n s c v out call .answer) (sym memory) ∙ answer-is in
+      let st = stepped n s c (savedTable (x .copies c)) out (tie .copies c .kept copy) copy y (tie .copies c .table) call (brought x y tie c copy call possible) (ap answerNumber result) in
+      let e : Event o j w ≡ Event (ownerIn c call) (numberIn s c (y .tables c) call) (length (outBytes (stepIn n s c (y .tables c) call))) =
+      sym result ∙ ap (λ (v : Outcome). v .answer) (st .is) in
+      ap₂ (instanceOk n s) (ap answerOwner e) (ap answerInstance e) ∙ st .range
+
   -- an answered call, as it was answered
-  event-next : (x : State) (y : rules.State) (tie : Tie x y) (c : ℕ) (copy : c < n) (call : Call) (out : List ℕ) (o j w : ℕ) → Possible x call → x .copies c .listed ≡ []
+  event-next : (x : State) (y : rules.State) (tie : Tie x y) (c : ℕ) (copy : c < n) (call : Call) (out : List ℕ) (o j w : ℕ) → Possible (x .sent) call → x .copies c .listed ≡ []
       → outcome n s c (x .copies c .lent) out call .answer ≡ Event o j w
       → Next y (remembered (changed x c (acted n s c (x .copies c) (outcome n s c (x .copies c .lent) out call) o j w)) (recorded (x .history) o j call))
   unfolding log.acted

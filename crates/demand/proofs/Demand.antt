@@ -45,7 +45,7 @@ use Rattle.safety.specs.Run as rules
 use Rattle.safety.specs.Demand as rules-demand
 use Rattle.safety.proofs.Demand as rules-proved
 use Rattle.demand.specs.Run.{savedTable, State, Start, Call, request, receive, recover, nudge, outcome, Run, stay}
-use Rattle.demand.specs.Demand.{Committed, Unrefused, Lasting, Demand}
+use Rattle.demand.specs.Demand.{inPlace, Committed, Unrefused, Lasting, Demand}
 use Rattle.log.proofs.Calls.{setup-of, receive-open}
 use Rattle.demand.proofs.Records.{at-range}
 use Rattle.demand.proofs.Handing.{sound-judged}
@@ -66,13 +66,13 @@ module _ (n s : ℕ) (setup : Setup n s) where
   pub record-is : (x : State) (y : rules.State) → Tie n s setup x y → (c o j : ℕ) → instanceOk n s o j ≡ true → y .tables c o j ≡ recordIn s (savedTable (x .copies c)) o j
   record-is x y t c o j i = ap (λ (u : Records). u o j) (t .copies c .table) ∙ at-range n s (savedTable (x .copies c)) o j i
 
-  to-rules : (x : State) (y : rules.State) → Tie n s setup x y → (c o j : ℕ) (k : Command) (d : List ℕ) → Committed n s x c o j k d → rules-demand.Committed y c o j k d
+  to-rules : (x : State) (y : rules.State) → Tie n s setup x y → (c o j : ℕ) (k : Command) (d : List ℕ) → Committed n s (inPlace n s) x c o j k d → rules-demand.Committed y c o j k d
   to-rules x y t c o j k d h =
       let e = record-is x y t c o j (h .range) in
       record { status = rw e (h .status); command = rw e (h .command); deps = rw e (h .deps) }
 
   pub of-rules : (x : State) (y : rules.State) → Tie n s setup x y → (c o j : ℕ) (k : Command) (d : List ℕ) → c < n → instanceOk n s o j ≡ true
-      → rules-demand.Committed y c o j k d → Committed n s x c o j k d
+      → rules-demand.Committed y c o j k d → Committed n s (inPlace n s) x c o j k d
   of-rules x y t c o j k d l i h =
       let e = record-is x y t c o j i in
       record { copy = l; range = i; status = rw (← e) (h .status); command = rw (← e) (h .command); deps = rw (← e) (h .deps) }
@@ -181,7 +181,7 @@ module _ (n s : ℕ) (setup : Setup n s) where
   abbrev D : rules-demand.Demand n s
   D = rules-proved.demand-3 n s setup
 
-  lasting : Lasting n s
+  lasting : Lasting n s (inPlace n s)
   lasting = record {
     commit = λ x₀ x y st rx ry a o j k d h.
         let z = begin n s setup st in
@@ -204,7 +204,7 @@ module _ (n s : ℕ) (setup : Setup n s) where
     never-11 = λ x₀ x st r c l. unrefused n s setup c (x .copies c .lent) 11 (in-run n s setup x₀ x st r c l) (λ a o e. o .1 e);
   }
 
-  pub demand-3 : Demand n s
+  pub demand-3 : Demand n s (inPlace n s)
   demand-3 = record {
     agreement = λ x₀ x y st rx ry a b o j k l d e h g.
         let z = begin n s setup st in

@@ -20,7 +20,7 @@ use Rattle.safety.specs.Demand as rules-demand
 use Rattle.safety.proofs.Witness.{fitting, write, deps, shown}
 use Rattle.safety.proofs.Witness as scripts
 use Rattle.demand.specs.Run.{State, savedTable, Start, Run}
-use Rattle.demand.specs.Demand.{Committed}
+use Rattle.demand.specs.Demand.{inPlace, Committed}
 use Rattle.demand.proofs.History.{heard}
 use Rattle.demand.proofs.Bridge.{Tie}
 use Rattle.demand.proofs.Demand.{record-is, of-rules}
@@ -63,7 +63,7 @@ module _ (n s : ℕ) (setup : Setup n s) where
       record { first = b .first; start = b .start; state = b .later; run = b .run; holds = h (b .later) (r .state) (b .full .tie) (r .holds) }
 
   -- a commit of 0.1 there is one here
-  commits : (c : ℕ) (k : Command) (d : List ℕ) → c < n → instanceOk n s 0 1 ≡ true → scripts.Reached n s (λ y. rules-demand.Committed y c 0 1 k d) → Reached n s (λ x. Committed n s x c 0 1 k d)
+  commits : (c : ℕ) (k : Command) (d : List ℕ) → c < n → instanceOk n s 0 1 ≡ true → scripts.Reached n s (λ y. rules-demand.Committed y c 0 1 k d) → Reached n s (λ x. Committed n s (inPlace n s) x c 0 1 k d)
   commits c k d l i r = lifted _ _ (λ x y t h. of-rules n s setup x y t c 0 1 k d l i h) r
 
   -- and so is what is held of it
@@ -72,15 +72,15 @@ module _ (n s : ℕ) (setup : Setup n s) where
 
 pub record Shown : Type 0 where
   -- a fast commit
-  pub fast : Reached 3 1 (λ x. Committed 3 1 x 0 0 1 (write 1) (deps 0 0 0))
+  pub fast : Reached 3 1 (λ x. Committed 3 1 (inPlace 3 1) x 0 0 1 (write 1) (deps 0 0 0))
   -- a commit through Accept
-  pub slow : Reached 3 1 (λ x. Committed 3 1 x 0 0 1 (write 1) (deps 0 1 0))
+  pub slow : Reached 3 1 (λ x. Committed 3 1 (inPlace 3 1) x 0 0 1 (write 1) (deps 0 1 0))
   -- a no-op by recovery
-  pub lost : Reached 3 1 (λ x. Committed 3 1 x 1 0 1 noop (deps 0 0 0))
+  pub lost : Reached 3 1 (λ x. Committed 3 1 (inPlace 3 1) x 1 0 1 noop (deps 0 0 0))
   -- a command by recovery
-  pub saved : Reached 3 1 (λ x. Committed 3 1 x 2 0 1 (write 1) (deps 0 0 0))
+  pub saved : Reached 3 1 (λ x. Committed 3 1 (inPlace 3 1) x 2 0 1 (write 1) (deps 0 0 0))
   -- two that interfere, handed out at two copies
-  pub out : Reached 3 1 (λ x. Committed 3 1 x 0 0 1 (write 1) (deps 0 1 0) × Committed 3 1 x 1 1 1 (write 2) (deps 0 0 0)
+  pub out : Reached 3 1 (λ x. Committed 3 1 (inPlace 3 1) x 0 0 1 (write 1) (deps 0 1 0) × Committed 3 1 (inPlace 3 1) x 1 1 1 (write 2) (deps 0 0 0)
       × (x .copies 0 .marks ≡ (1, 1) ∷ (0, 1) ∷ []) × (x .copies 1 .marks ≡ (1, 1) ∷ (0, 1) ∷ []))
   -- a question before a commit, one after it and one of no instance, beside the request
   pub told : Reached 3 1 (λ x. map heard (x .history)
@@ -89,18 +89,18 @@ pub record Shown : Type 0 where
 -- of five and of seven copies, each beside the moment before, when it is not yet so
 pub record Larger : Type 0 where
   pub five-waits : Reached 5 1 (λ x. recordIn 1 (savedTable (x .copies 0)) 0 1 .vote .status ≡ 2)
-  pub five-fast : Reached 5 1 (λ x. Committed 5 1 x 0 0 1 (write 1) (deps 0 0 0))
-  pub five-slow : Reached 5 1 (λ x. Committed 5 1 x 0 0 1 (write 1) (deps 0 1 0))
-  pub five-perhaps : Reached 5 1 (λ x. Committed 5 1 x 3 0 1 (write 1) (deps 0 0 0))
+  pub five-fast : Reached 5 1 (λ x. Committed 5 1 (inPlace 5 1) x 0 0 1 (write 1) (deps 0 0 0))
+  pub five-slow : Reached 5 1 (λ x. Committed 5 1 (inPlace 5 1) x 0 0 1 (write 1) (deps 0 1 0))
+  pub five-perhaps : Reached 5 1 (λ x. Committed 5 1 (inPlace 5 1) x 3 0 1 (write 1) (deps 0 0 0))
   pub five-asks : Reached 5 1 (λ x. recordIn 1 (savedTable (x .copies 3)) 0 1 .phase ≡ 2)
-  pub five-afresh : Reached 5 1 (λ x. Committed 5 1 x 3 0 1 (write 1) (deps 0 0 0))
+  pub five-afresh : Reached 5 1 (λ x. Committed 5 1 (inPlace 5 1) x 3 0 1 (write 1) (deps 0 0 0))
   pub seven-waits : Reached 7 1 (λ x. recordIn 1 (savedTable (x .copies 0)) 0 1 .vote .status ≡ 2)
-  pub seven-fast : Reached 7 1 (λ x. Committed 7 1 x 0 0 1 (write 1) (deps 0 0 0))
+  pub seven-fast : Reached 7 1 (λ x. Committed 7 1 (inPlace 7 1) x 0 0 1 (write 1) (deps 0 0 0))
   pub seven-two : Reached 7 1 (λ x. recordIn 1 (savedTable (x .copies 0)) 0 1 .vote .status ≡ 2)
-  pub seven-slow : Reached 7 1 (λ x. Committed 7 1 x 0 0 1 (write 1) (deps 0 1 0))
-  pub seven-perhaps : Reached 7 1 (λ x. Committed 7 1 x 4 0 1 (write 1) (deps 0 0 0))
+  pub seven-slow : Reached 7 1 (λ x. Committed 7 1 (inPlace 7 1) x 0 0 1 (write 1) (deps 0 1 0))
+  pub seven-perhaps : Reached 7 1 (λ x. Committed 7 1 (inPlace 7 1) x 4 0 1 (write 1) (deps 0 0 0))
   pub seven-asks : Reached 7 1 (λ x. recordIn 1 (savedTable (x .copies 4)) 0 1 .phase ≡ 2)
-  pub seven-afresh : Reached 7 1 (λ x. Committed 7 1 x 4 0 1 (write 1) (deps 0 0 0))
+  pub seven-afresh : Reached 7 1 (λ x. Committed 7 1 (inPlace 7 1) x 4 0 1 (write 1) (deps 0 0 0))
 
 pub shown-bytes : Shown
 unfolding instanceOk

@@ -79,11 +79,11 @@ PublicRequest = (n s c : ℕ) (t out : List ℕ) (op key edit o j w : ℕ)
     × (log.requested n s c t out op key edit ≡ outcome n s c t out (request (commandOf op key edit)))
 
 -- a requested command is no no-op, its key a u32 and its edit a u64; messages are never invented
-abbrev pub Possible : State → Call → Type 0
-Possible x (request k) = (isNoop k ≡ false) × CommandFits k
-Possible x (receive b) = List·Memᴰ b (x .sent)
-Possible x (recover o j) = Unit {0}
-Possible x (nudge o j) = Unit {0}
+abbrev pub Possible : List (List ℕ) → Call → Type 0
+Possible sent (request k) = (isNoop k ≡ false) × CommandFits k
+Possible sent (receive b) = List·Memᴰ b sent
+Possible sent (recover o j) = Unit {0}
+Possible sent (nudge o j) = Unit {0}
 
 -- the history after an answered call: a request adds the instance that it answered and its command
 abbrev pub recorded : {A : Type 0} → List (Happening A) → ℕ → ℕ → Call → List (Happening A)
@@ -155,7 +155,7 @@ remembered x l = record { copies = x .copies; sent = x .sent; history = l }
 -- A refused call changes nothing. A call whose record is not saved when the cut comes is a cut alone.
 pub data Move (n s : ℕ) (x : State) : State → Type 0 where
   -- a call that answers an event, with any room; marks that were listed are all saved before it
-  event : (c : ℕ) (call : Call) (out : List ℕ) (o j w : ℕ) → c < n → Possible x call → x .copies c .listed ≡ []
+  event : (c : ℕ) (call : Call) (out : List ℕ) (o j w : ℕ) → c < n → Possible (x .sent) call → x .copies c .listed ≡ []
       → outcome n s c (x .copies c .lent) out call .answer ≡ Event o j w
       → Move n s x (remembered (changed x c (acted n s c (x .copies c) (outcome n s c (x .copies c .lent) out call) o j w)) (recorded (x .history) o j call))
   -- a message of a saved event leaves

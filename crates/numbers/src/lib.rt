@@ -1,4 +1,4 @@
-// Little-endian numbers in lent bytes, at an offset. A number is read as one sum over its bytes: the compiler makes one load of it.
+// Little-endian numbers, and bytes as they are, in lent bytes at an offset. A number is read as one sum over its bytes: the compiler makes one load of it.
 ghost use mathlib.Core.Path.{_≡_};
 ghost use Prim.Native.Nat.{_+_, _≤_, _<_};
 ghost use lib.ListN.{length};
@@ -116,4 +116,16 @@ pub fn put_u64(s: &mut [u8], at: usize, x: u64)
     s[g] = (x / 256 / 256 / 256 / 256 / 256 / 256 % 256) as u8;
     let h = g + 1;
     s[h] = (x / 256 / 256 / 256 / 256 / 256 / 256 / 256 % 256) as u8;
+}
+
+// Puts these bytes in the place of others, from `at` on.
+pub fn put_bytes(s: &mut [u8], at: usize, bytes: &[u8])
+    requires { ⌜ at + length (now bytes) ≤ length (now s) ⌝ }
+    ensures { λ _. ⌜ now (s .exit) ≡ splice (now (s .entry)) at (now (bytes .entry)) ⌝ }
+{
+    let mut i = 0;
+    while i < bytes.len() {
+        s[at + i] = bytes[i];
+        i += 1;
+    }
 }

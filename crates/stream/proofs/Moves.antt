@@ -1,24 +1,20 @@
--- Bytes moved to the front one by one, and bytes put behind them. Assumes nothing.
+-- Bytes moved to the front one by one. Assumes nothing.
 use mathlib.Core.Path.{_≡_, refl, sym, ap, _∙_}
 use mathlib.Core.List.{List}
 use Prim.Native.Nat.{ℕ, suc, _+_, _≤_, _<_}
 use native.Mathlib.Omega.{arith}
 use native.Mathlib.Numerals.{add-one}
 use lib.ListN.{length, getD, set, take, drop, length-set, length-drop}
-use lib.Seq.{paste, paste-zero, paste-suc, drop-paste, getD-drop, length-take-le}
+use lib.Seq.{paste, paste-zero, paste-suc, drop-paste, getD-drop}
 use Rattle.numbers.specs.Num.{splice}
 use Rattle.numbers.proofs.Laws.{splice-own}
+use Rattle.numbers.proofs.Put.{paste-splice}
 
 -- the first i bytes from `at` on stand at the front
 pub record Moving (l : List ℕ) (at count : ℕ) (b : List ℕ) (i : ℕ) : Type 0 where
   pub short : i ≤ count
   pub long : length b ≡ length l
   pub is : b ≡ paste l 0 (drop at l) i
-
--- a copy is a write over part of a list
-pub paste-splice : (l : List ℕ) (at : ℕ) (s : List ℕ) (n : ℕ) → n ≤ length s → paste l at s n ≡ splice l at (take n s)
-unfolding splice
-paste-splice l at s n h = let e : length (take n s) ≡ n = length-take-le n s h in rw e
 
 module _ (l : List ℕ) (at count : ℕ) (fits : at + count ≤ length l) where
   rest : count ≤ length (drop at l)
@@ -50,23 +46,3 @@ module _ (l : List ℕ) (at count : ℕ) (fits : at + count ≤ length l) where
 -- nothing is to be moved where it stands in front already
 pub in-front : (l : List ℕ) (at count : ℕ) → at ≡ 0 → at + count ≤ length l → l ≡ splice l 0 (take count (drop at l))
 in-front l at count z fits = rw z (sym (splice-own l 0 count (omega arith)))
-
--- the first i bytes of s stand from `at` on
-pub record Putting (l : List ℕ) (at count : ℕ) (s b : List ℕ) (i : ℕ) : Type 0 where
-  pub short : i ≤ count
-  pub long : length b ≡ length l
-  pub is : b ≡ paste l at s i
-
-module _ (l : List ℕ) (at count : ℕ) (s : List ℕ) (fits : at + count ≤ length l) (offered : count ≤ length s) where
-  pub putting-none : Putting l at count s l 0
-  putting-none = record { short = omega arith; long = refl; is = paste-zero l at s }
-
-  pub putting-one : (b : List ℕ) (i : ℕ) → Putting l at count s b i → i < count → Putting l at count s (set b (at + i) (getD s i 0)) (i + 1)
-  putting-one b i p lt =
-      let turn : set (paste l at s i) (at + i) (getD s i 0) ≡ paste l at s (suc i) = paste-suc l at s i 0 (omega arith) (omega arith) in
-      record { short = omega arith; long = length-set b (at + i) (getD s i 0) ∙ p .long; is = rw (p .is, add-one) turn }
-
-  pub was-put : (b : List ℕ) (i : ℕ) → Putting l at count s b i → count ≤ i → b ≡ splice l at (take count s)
-  was-put b i p le =
-      let e : i ≡ count = omega (arith, p .short) in
-      p .is ∙ rw e (paste-splice l at s count offered)

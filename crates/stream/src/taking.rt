@@ -55,18 +55,6 @@ fn shift(buf: &mut [u8], at: usize, count: usize)
     }
 }
 
-// Puts the first `count` of these bytes into the buffer, from `at` on.
-fn put(buf: &mut [u8], at: usize, bytes: &[u8], count: usize)
-    requires { ⌜ (at + count ≤ length (now buf)) × (count ≤ length (now bytes)) ⌝ }
-    ensures { λ _. ⌜ now (buf .exit) ≡ splice (now (buf .entry)) at (take count (now (bytes .entry))) ⌝ }
-{
-    let mut i = 0;
-    while i < count {
-        buf[at + i] = bytes[i];
-        i += 1;
-    }
-}
-
 // What is held to the front, and behind it as many of these bytes as there is room for.
 fn fill(buf: &mut [u8], p: Place, bytes: &[u8]) -> Taken
     requires { ⌜ Within (length (now buf)) p ⌝ }
@@ -76,7 +64,7 @@ fn fill(buf: &mut [u8], p: Place, bytes: &[u8]) -> Taken
     let held = p.end - p.at;
     let count = room_for(buf.len(), p, bytes.len());
     shift(&mut *buf, p.at, held);
-    put(&mut *buf, held, bytes, count);
+    numbers::put_bytes(&mut *buf, held, &bytes[..count]);
     Taken {
         answer: Took::Bytes(count),
         place: Place {

@@ -5,3 +5,4 @@ pub mod Round
 pub mod Unique
 pub mod Kept
 pub mod Mark
+pub mod Saved

@@ -7,7 +7,8 @@ use Rattle.paper.specs.Setup.{setupOk}
 use Rattle.paper.specs.Instance.{instanceOk}
 use Rattle.paper.specs.Refusal.{numberOf}
 use Rattle.paper.specs.declared.Refusal.the-variants.{Setup, Unsound}
-use Rattle.record.specs.Layout.{recordLength}
+use Rattle.paper.specs.declared.Record.{Record}
+use Rattle.record.specs.Layout.{recordLength, recordAt}
 use Rattle.table.specs.declared.Blanking.{Blanking}
 use Rattle.table.specs.declared.Blanking.the-variants as blanking
 use Rattle.table.specs.declared.Judging.{Judging}
@@ -37,6 +38,14 @@ partStart n s c t o j = cond (fitsSetup n s c t && instanceOk n s o j) (placeOf 
 
 unfoldable pub partLength : ℕ → ℕ → ℕ → List ℕ → ℕ → ℕ → ℕ
 partLength n s c t o j = cond (fitsSetup n s c t && instanceOk n s o j) recordLength 0
+
+-- how long every part is that is not empty
+abbrev pub partSize : ℕ
+partSize = recordLength
+
+-- the record that a part holds
+abbrev pub recordOf : List ℕ → Record
+recordOf part = recordAt part
 
 -- how long a table of a setup is; 0 of a bad one
 unfoldable pub lengthOf : ℕ → ℕ → ℕ

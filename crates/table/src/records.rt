@@ -12,9 +12,11 @@ use record::fields::vote_in;
 use record::places::LENGTH;
 use record::places::MARK;
 ghost use mathlib.Core.Path.{_≡_};
+ghost use lib.ListN.{length};
 ghost use Rattle.table.specs.Sizes.{Has};
 ghost use Rattle.record.specs.Layout.{withMark};
 ghost use Rattle.table.specs.Table.{recordIn, putRecord, Whole};
+ghost use Rattle.table.specs.Calls.{partSize, putPart};
 
 pub fn load(t: &[u8], n: usize, s: usize, o: usize, j: usize) -> Record
     requires { ⌜ Has n s o j (now t) ⌝ }
@@ -31,6 +33,14 @@ pub fn store(t: &mut [u8], n: usize, s: usize, o: usize, j: usize, r: Record)
     let at = place_of(n, s, o, j);
     let next = at + LENGTH;
     record::write_record(&mut t[at..next], r);
+}
+
+// Puts back a part that was saved.
+pub fn put_part(t: &mut [u8], n: usize, s: usize, o: usize, j: usize, part: &[u8])
+    requires { ⌜ Has n s o j (now t) × (length (now part) ≡ partSize) ⌝ }
+    ensures { λ _. ⌜ now (t .exit) ≡ putPart s (now (t .entry)) o j (now (part .entry)) ⌝ }
+{
+    numbers::put_bytes(t, place_of(n, s, o, j), part);
 }
 
 pub fn joined_of(t: &[u8], n: usize, s: usize, o: usize, j: usize) -> u32

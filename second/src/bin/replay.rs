@@ -1,6 +1,10 @@
 //! Replays recorded runs from blank tables and compares every answer, every
-//! outgoing byte and every list; also that nothing else was touched.
+//! outgoing byte and every list; also that nothing else was touched. Every copy
+//! keeps a journal, which after each call gives its table, and after a cut what
+//! it goes on with.
 
+use second::journal::{self, length_of, mark_entry, record_entry};
+use second::refusal::NotReplayed;
 use second::stream::{self, Place, Stream};
 use second::{
     blank_table, hand_out, judge_table, message, nudge, record_part, recover, request, settled,
@@ -13,32 +17,106 @@ use std::process::ExitCode;
 const UNTOUCHED: u8 = 0xa5;
 const ROOM: usize = 256;
 
+/// What a copy has written since its table was blank.
+#[derive(Clone, Default)]
+struct Journal {
+    bytes: Vec<u8>,
+    /// Where the entries of the copy's last call begin.
+    last: usize,
+}
+
+type Writer = fn(&[u8], usize, usize, usize, &mut [u8], usize, usize) -> Result<usize, Refusal>;
+
+impl Journal {
+    /// Ends of the last call's entries, the start before the first of them included.
+    fn ends(&self) -> Vec<usize> {
+        let mut ends = vec![self.last];
+        let mut at = self.last;
+        while let Some(length) = self.bytes.get(at).and_then(|&kind| length_of(kind)) {
+            at += length;
+            ends.push(at);
+        }
+        ends
+    }
+}
+
 /// The copies of one run, and the stream that was opened last: its buffer and its place.
 struct Run {
     n: usize,
     s: usize,
     tables: Vec<Vec<u8>>,
+    journals: Vec<Journal>,
+    cuts: usize,
     stream: (Vec<u8>, Place),
 }
 
 impl Run {
     fn start(n: usize, s: usize) -> Result<Run, String> {
-        let mut tables = Vec::new();
-        for copy in 0..n {
-            let mut t = vec![UNTOUCHED; table_len(n, s)];
-            blank_table(&mut t, n, s, copy).map_err(|r| format!("no blank table: refused {r}"))?;
-            tables.push(t);
-        }
-        Ok(Run { n, s, tables, stream: Default::default() })
+        let tables = (0..n).map(|copy| blank(n, s, copy)).collect::<Result<_, _>>()?;
+        let journals = vec![Journal::default(); n];
+        Ok(Run { n, s, tables, journals, cuts: 0, stream: Default::default() })
     }
 
     /// A stream belongs to no copy.
     fn line(&mut self, words: &[&str]) -> Result<String, String> {
         match *words {
-            ["stream", room] => self.open(number(&[room], 0)?),
-            ["take", bytes] => self.take(&from_hex(bytes)?),
-            _ => self.call(words),
+            ["stream", room] => return self.open(number(&[room], 0)?),
+            ["take", bytes] => return self.take(&from_hex(bytes)?),
+            _ => {}
         }
+        let copy = number(words, 0)?;
+        let journal = self.journals.get_mut(copy).ok_or("no such copy")?;
+        let told = match *words {
+            [_, "cut", _] => self.cut(copy, number(words, 2)?)?,
+            _ => {
+                journal.last = journal.bytes.len();
+                self.call(copy, words)?
+            }
+        };
+        let (offset, table) = self.replayed(copy, &self.journals[copy].bytes)?;
+        if offset != self.journals[copy].bytes.len() || table != self.tables[copy] {
+            return Err("the journal gives another table".into());
+        }
+        Ok(told)
+    }
+
+    /// What a journal makes of the copy's blank table, and where its rest begins.
+    fn replayed(&self, copy: usize, journal: &[u8]) -> Result<(usize, Vec<u8>), String> {
+        let mut t = blank(self.n, self.s, copy)?;
+        match journal::replay(&mut t, self.n, self.s, copy, journal) {
+            Ok(offset) => Ok((offset, t)),
+            Err(NotReplayed { refusal, offset }) => {
+                Err(format!("the journal is refused {refusal} at {offset}"))
+            }
+        }
+    }
+
+    /// Cuts the copy off inside the entry after the first so many of its last call, and starts it again by replay.
+    fn cut(&mut self, copy: usize, keep: usize) -> Result<String, String> {
+        let ends = self.journals[copy].ends();
+        let start = *ends.get(keep).ok_or("the last call has fewer entries")?;
+        let rest = match ends.get(keep + 1) {
+            // At least its first byte and never all; another part each time.
+            Some(end) => 1 + 37 * self.cuts % (end - start - 1),
+            None => 0,
+        };
+        self.cuts += 1;
+        let (offset, table) = self.replayed(copy, &self.journals[copy].bytes[..start + rest])?;
+        self.tables[copy] = table;
+        let journal = &mut self.journals[copy];
+        journal.bytes.truncate(offset);
+        Ok(format!("kept {}", journal.ends().len() - 1))
+    }
+
+    fn write(&mut self, copy: usize, writer: Writer, o: usize, j: usize) -> Result<(), String> {
+        let mut out = [UNTOUCHED; ROOM + 64];
+        let length = writer(&self.tables[copy], self.n, self.s, copy, &mut out, o, j)
+            .map_err(|r| format!("the entry of {o}.{j} is refused {r}"))?;
+        if out[length..].iter().any(|&b| b != UNTOUCHED) {
+            return Err("wrote beyond the entry".into());
+        }
+        self.journals[copy].bytes.extend(&out[..length]);
+        Ok(())
     }
 
     fn open(&mut self, room: usize) -> Result<String, String> {
@@ -66,10 +144,9 @@ impl Run {
     }
 
     /// The answer as the vectors write it, or what the call did wrong besides.
-    fn call(&mut self, words: &[&str]) -> Result<String, String> {
-        let copy: usize = number(words, 0)?;
+    fn call(&mut self, copy: usize, words: &[&str]) -> Result<String, String> {
         let (n, s) = (self.n, self.s);
-        let t = self.tables.get_mut(copy).ok_or("no such copy")?;
+        let t = &mut self.tables[copy];
         let before = t.clone();
         let mut out = [UNTOUCHED; ROOM];
         let what = *words.get(1).ok_or("no call")?;
@@ -96,11 +173,34 @@ impl Run {
                     Err(r) => format!("refused {r}"),
                 })
             }
-            "handout" => return handed_out(t, &before, n, s, copy, number(words, 2)?),
+            "handout" => return self.hand_out(copy, number(words, 2)?),
             _ => return Err("unknown call".into()),
         };
-        answered(event, t, &before, &out, n, s, copy)
+        let told = answered(event, t, &before, &out, n, s, copy)?;
+        if let Ok(Event { owner, number, .. }) = event {
+            self.write(copy, record_entry, owner, number)?;
+        }
+        Ok(told)
     }
+
+    fn hand_out(&mut self, copy: usize, room: usize) -> Result<String, String> {
+        let codes = match handed_out(&mut self.tables[copy], self.n, self.s, copy, room)? {
+            Ok(codes) => codes,
+            Err(r) => return Ok(format!("refused {r}")),
+        };
+        let mut told = String::from("codes");
+        for code in codes {
+            self.write(copy, mark_entry, (code / 256) as usize, (code % 256) as usize)?;
+            told += &format!(" {code}");
+        }
+        Ok(told)
+    }
+}
+
+fn blank(n: usize, s: usize, copy: usize) -> Result<Vec<u8>, String> {
+    let mut t = vec![UNTOUCHED; table_len(n, s)];
+    blank_table(&mut t, n, s, copy).map_err(|r| format!("no blank table: refused {r}"))?;
+    Ok(t)
 }
 
 /// An event's answer, once its table and room are what it says.
@@ -134,24 +234,24 @@ fn answered(
     }
 }
 
+/// The codes, once nothing but their marks has changed.
 fn handed_out(
     t: &mut [u8],
-    before: &[u8],
     n: usize,
     s: usize,
     copy: usize,
     room: usize,
-) -> Result<String, String> {
+) -> Result<Result<Vec<u16>, Refusal>, String> {
     let untouched = u16::from_le_bytes([UNTOUCHED, UNTOUCHED]);
     let mut list = vec![untouched; room];
+    let mut marked = t.to_vec();
     let count = match hand_out(t, n, s, copy, &mut list) {
         Ok(count) => count,
-        Err(r) => return Ok(format!("refused {r}")),
+        Err(r) => return Ok(Err(r)),
     };
     if list[count..].iter().any(|&code| code != untouched) {
         return Err("wrote beyond the listed codes".into());
     }
-    let mut marked = before.to_vec();
     for &code in &list[..count] {
         let (at, _) = record_part(t, n, s, copy, (code / 256) as usize, (code % 256) as usize);
         marked[at + 36] = 1;
@@ -160,8 +260,8 @@ fn handed_out(
         return Err("changed more than the marks".into());
     }
     judge_table(t, n, s, copy).map_err(|r| format!("table then refused {r}"))?;
-    let codes: String = list[..count].iter().map(|code| format!(" {code}")).collect();
-    Ok(format!("codes{codes}"))
+    list.truncate(count);
+    Ok(Ok(list))
 }
 
 fn number<T: std::str::FromStr>(words: &[&str], at: usize) -> Result<T, String> {

@@ -1,0 +1,4 @@
+pub mod Chain
+pub mod Marks
+pub mod Beside
+pub mod Demand

@@ -1,0 +1,5 @@
+pub mod Entry
+pub mod Writing
+pub mod Replay
+pub mod Judging
+pub mod Journal
