@@ -55,6 +55,8 @@ pub struct Site {
     disk: Disk,
     store: Store,
     table: Vec<u8>,
+    /// The table as the files have it, to know what changed by.
+    saved: Vec<u8>,
     /// The instances whose marks are saved, in that order.
     order: Vec<Instance>,
     /// How many bytes of the journal were no whole entry when the site started.
@@ -77,9 +79,9 @@ impl Site {
         store.cut_off(end)?;
         let marks = entries(&journal).filter(|entry| entry.kind == EntryKind::Mark);
         let order = marks.map(|entry| entry.instance).collect();
-        let (disk, rest) = (disk.clone(), journal.len() - end);
+        let (disk, rest, saved) = (disk.clone(), journal.len() - end, table.clone());
         let ends = (0..setup.n).map(|_| End::begin()).collect();
-        Ok(Site { setup, disk, store, table, order, rest, ends, cut: None })
+        Ok(Site { setup, disk, store, table, saved, order, rest, ends, cut: None })
     }
 
     fn is_cut(&mut self, moment: Moment) -> Result<bool> {
@@ -103,21 +105,37 @@ impl Site {
             Ok(event) => event,
             Err(refusal) => return Ok(Outcome::Refused(refusal)),
         };
-        if self.is_cut(Moment::BeforeEntry)? {
+        if self.changed(event.instance) && !self.save(event.instance)? {
             return Ok(Outcome::Cut);
         }
-        let mut entry = vec![0; EntryKind::Record.entry_len()];
-        self.setup.record_entry(&self.table, &mut entry, event.instance).map_err(Store::bad)?;
-        if let Some(moment @ Moment::InsideEntry(bytes)) = self.cut {
-            self.store.append_torn(&entry, bytes.min(entry.len() - 1))?;
-            self.is_cut(moment)?;
-            return Ok(Outcome::Cut);
-        }
-        self.store.append(&entry)?;
         if event.written > 0 && self.is_cut(Moment::BetweenEntryAndSending)? {
             return Ok(Outcome::Cut);
         }
         Ok(Outcome::Answered(event, out[..event.written].to_vec()))
+    }
+
+    /// Whether the record is another one than the files have.
+    fn changed(&self, at: Instance) -> bool {
+        let (start, length) = self.setup.part(&self.table, at);
+        let part = start..start + length;
+        self.table[part.clone()] != self.saved[part]
+    }
+
+    /// The entry of the record, on disk when this returns. False where it was cut off.
+    fn save(&mut self, at: Instance) -> Result<bool> {
+        if self.is_cut(Moment::BeforeEntry)? {
+            return Ok(false);
+        }
+        let mut entry = vec![0; EntryKind::Record.entry_len()];
+        self.setup.record_entry(&self.table, &mut entry, at).map_err(Store::bad)?;
+        if let Some(moment @ Moment::InsideEntry(bytes)) = self.cut {
+            self.store.append_torn(&entry, bytes.min(entry.len() - 1))?;
+            self.is_cut(moment)?;
+            return Ok(false);
+        }
+        self.store.append(&entry)?;
+        self.saved.clone_from(&self.table);
+        Ok(true)
     }
 
     /// Hands out all that is ready; the marks are saved in list order. False where it was cut off.
@@ -142,6 +160,7 @@ impl Site {
             return Ok(false);
         }
         self.store.append(&marks)?;
+        self.saved.clone_from(&self.table);
         self.order.extend(handed);
         Ok(true)
     }

@@ -57,7 +57,7 @@ module _ (n s c : ℕ) (t : List ℕ) (k : Kept n s c t) (o j : ℕ) (f : Found 
       let a : recordIn s (markedIn s t o j) p i ≡ mark (records n s t) o j p i = sym (at-range n s (markedIn s t o j) p i z) ∙ ap (λ (u : Records). u p i) mark-records in
       sym (a ∙ rw (at-range n s t o j (f .0), at-range n s t p i z))
 
-  mark-here : recordIn s (markedIn s t o j) o j ≡ marked (recordIn s t o j)
+  pub mark-here : recordIn s (markedIn s t o j) o j ≡ marked (recordIn s t o j)
   unfolding markedIn
   mark-here = put-here n s c t k o j (f .0) (marked (recordIn s t o j)) mark-held
 

@@ -4,38 +4,40 @@ use Prim.Native.Nat.{ℕ, _+_, _-_, _≤_, _<_}
 use mathlib.Core.Path.{_≡_, refl, sym, ap, ap₂, _∙_, subst}
 use mathlib.Core.Logic.{⊎-elim}
 use mathlib.Core.Bool.{Bool, true, false, cond}
-use mathlib.Core.List.{List, [], _∷_, _++_, append-assoc, append-nil, List·Memᴰ, List·Memᴰ·not-nil, List·Memᴰ·head, List·Memᴰ·append-cases, Memᴰ·append-left, Memᴰ·append-right}
+use mathlib.Core.List.{List, [], _∷_, _++_, map, append-assoc, append-nil, List·Memᴰ, List·Memᴰ·not-nil, List·Memᴰ·head, List·Memᴰ·append-cases, Memᴰ·append-left, Memᴰ·append-right}
 use native.Mathlib.Omega.{arith}
 use lib.Dec.{eqb}
 use lib.ListN.{length, take, drop, length-append, length-drop, take-append-drop}
 use lib.Seq.{take-length, drop-length, take-append-le, drop-append-le, take-append-seam, drop-append-seam, take-add, length-take-le}
 use borrow.Author.Tests.{eqb-true, eqb-false}
 use Rattle.paper.specs.declared.Command.{Command}
-use Rattle.table.specs.Table.{blankTable, Judged, Kept}
+use Rattle.paper.specs.Instance.{instanceOk}
+use Rattle.table.specs.Table.{blankTable, recordIn, Judged, Kept}
 use Rattle.table.specs.Calls.{partOf}
 use Rattle.table.proofs.Laws.{sizes}
-use Rattle.rules.specs.Order.{instanceOf}
+use Rattle.rules.specs.Order.{isMarked, instanceOf}
 use Rattle.log.specs.declared.Answer.the-variants.{Event}
 use Rattle.log.specs.Events.{Outcome}
 use Rattle.order.specs.declared.Settling.{Settling}
 use Rattle.order.specs.declared.Handing.the-variants.{Codes}
 use Rattle.order.specs.Calls.{settled, handed}
-use Rattle.journal.specs.Entry.{recordEntry}
-use Rattle.journal.specs.Replay.{Replayed, committedIn, replayed, replayingOffset}
-use Rattle.journal.specs.declared.replaying.Replaying.the-variants.{Upto}
-use Rattle.journal.specs.Journal.{Journal, none}
-use Rattle.journal.proofs.Journal.{joined, replays, replays-rest}
-use Rattle.safety.specs.Run.{Instance, Happening, requested, answered, Setup, replaced}
+use Rattle.entries.specs.Entry.{recordEntry}
+use Rattle.entries.specs.Replay.{Replayed, committedIn, replayed, replayingOffset}
+use Rattle.entries.specs.declared.Replaying.the-variants.{Upto}
+use Rattle.entries.specs.Journal.{Journal, none}
+use Rattle.entries.proofs.Journal.{joined, replays-rest}
+use Rattle.safety.specs.Run.{Instance, Happening, requested, answered, Setup}
 use Rattle.safety.specs.Run as rules
 use Rattle.demand.specs.Run.{Call, request, receive, recover, nudge, outcome, Possible, recorded, written}
 use Rattle.demand.specs.Run as place
 use Rattle.demand.proofs.Records.{blank-table}
-use Rattle.demand.proofs.Bridge.{Tie, Next, begin, bridge, here-is, other-stays}
-use Rattle.disk.specs.Run.{Copy, safePart, savedTable, marksIn, savedMarks, State, fresh, Start, blanks, markEntries, acted, quiet, handing, wrote, waited, restarted, anew, Saved, changed, remembered, Move, Run, stay, further}
+use Rattle.demand.proofs.Demand.{demand-3}
+use Rattle.demand.proofs.Bridge.{Tie, begin, bridge, other-stays}
+use Rattle.disk.specs.Run.{Copy, safePart, marksIn, savedMarks, State, fresh, Start, blanks, markEntries, acted, quiet, handing, wrote, waited, restarted, anew, changed, remembered, Move, Run, stay, further}
 use Rattle.disk.specs.Run as move
 use Rattle.disk.proofs.Chain.{Asked, Chain, still, chain-more, Ran, ran, Known, known, chain-journal, chain-marks, Left, cut-at, mark-all}
 use Rattle.disk.proofs.Chain as chain
-use Rattle.disk.proofs.Marks.{marks-join}
+use Rattle.disk.proofs.Marks.{marks-join, again}
 
 module _ (n s : ℕ) (setup : Setup n s) where
   -- copy c as one host has it, beside the same copy at the other
@@ -53,7 +55,7 @@ module _ (n s : ℕ) (setup : Setup n s) where
 
   -- a copy that there is not
   pub record Far (c : ℕ) (k : Copy) (q : place.Copy) : Type 0 where
-    pub here : k ≡ fresh (blankTable n s c) []
+    pub here : k ≡ fresh (blankTable n s c)
     pub there : q ≡ place.begun (blankTable n s) [] .copies c
 
   pub record Beside (x : State) : Type 0 where
@@ -266,7 +268,7 @@ module _ (n s : ℕ) (setup : Setup n s) where
           journal = d .journal;
           marks = d .marks;
           end = z .end;
-          chain = subst (λ (t : List ℕ). Chain n s c (x .sent) (x .history) q (drop (k .safe) (k .disk) ++ markEntries (take i (handed n s c t list .list))) (z .end)) (d .lent) (z .chain);
+          chain = subst (λ (t : List ℕ). Chain n s c (x .sent) (x .history) q (drop (k .safe) (k .disk) ++ markEntries (map instanceOf (take i (handed n s c t list .list)))) (z .end)) (d .lent) (z .chain);
           lent = z .lent ∙ ap (λ (t : List ℕ). handed n s c t list .table) (d .lent);
           none = z .none;
           leaving = d .leaving;
@@ -285,7 +287,7 @@ module _ (n s : ℕ) (setup : Setup n s) where
           within = rw (length-append (k .disk) piece) (omega (arith, d .within));
           base = d .base;
           journal = subst (λ (l : List ℕ). Journal n s c (k .base) l (q .disk)) (sym front) (d .journal);
-          marks = ap (λ (l : List ℕ). k .before ++ marksIn (length l) l) front ∙ d .marks;
+          marks = ap (λ (l : List ℕ). marksIn (length l) l) front ∙ d .marks;
           end = d .end;
           chain = subst (λ (l : List ℕ). Chain n s c (x .sent) (x .history) q l (d .end)) (sym same) (d .chain);
           lent = d .lent;
@@ -336,14 +338,20 @@ module _ (n s : ℕ) (setup : Setup n s) where
       pub all-written : Journal n s c (k .base) (k .disk) (d .end .disk)
       all-written = subst (λ (l : List ℕ). Journal n s c (k .base) l (d .end .disk)) whole all-entries
 
-      all-marks : k .before ++ marksIn (length (k .disk)) (k .disk) ≡ d .end .marks
+      all-marks : marksIn (length (k .disk)) (k .disk) ≡ d .end .marks
       all-marks =
           let b : List ℕ = drop (k .safe) (k .disk) ++ k .coming in
           let apart : k .disk ≡ safePart k ++ b =
           sym (take-append-drop (k .safe) (k .disk)) ∙ ap (λ (l : List ℕ). safePart k ++ l) (sym (ap (λ (l : List ℕ). drop (k .safe) (k .disk) ++ l) e ∙ append-nil (drop (k .safe) (k .disk)))) in
-          ap (λ (l : List ℕ). k .before ++ marksIn (length l) l) apart ∙ ap (λ (l : List Instance). k .before ++ l) (marks-join n s c few low (d .journal) since)
-          ∙ sym (append-assoc (k .before) (marksIn (length (safePart k)) (safePart k)) (marksIn (length b) b)) ∙ ap (λ (l : List Instance). l ++ marksIn (length b) b) (d .marks)
+          ap (λ (l : List ℕ). marksIn (length l) l) apart ∙ marks-join n s c few low (d .journal) since ∙ ap (λ (l : List Instance). l ++ marksIn (length b) b) (d .marks)
           ∙ sym (chain-marks n s setup c copy (x .history) (w .state) (beside .rules) (beside .tie) refl (w .sent) few low (d .chain))
+
+      -- what is marked by then is marked in the table in memory
+      marked-there : (i : Instance) → List·Memᴰ i (d .end .marks) → (instanceOk n s (i .0) (i .1) ≡ true) × (isMarked (recordIn s (k .lent) (i .0) (i .1)) ≡ true)
+      marked-there i m =
+          let g = demand-3 n s setup .marking .listed (w .first) (up .later) (w .start) (run-on (w .run) (up .run)) c (i .0) (i .1)
+          (subst (λ (q : place.Copy). List·Memᴰ i (q .marks)) (sym (up .here)) m) in
+          (g .0, ap (λ (t : List ℕ). isMarked (recordIn s t (i .0) (i .1))) (memory ∙ sym (ap (λ (q : place.Copy). q .disk) (up .here))) ∙ g .1)
 
       caught : (j : Copy) → Side c (x .sent) (x .history) j (d .end) → After w (changed x c j)
       caught j z =
@@ -360,7 +368,7 @@ module _ (n s : ℕ) (setup : Setup n s) where
             within = omega arith;
             base = d .base;
             journal = subst (λ (l : List ℕ). Journal n s c (k .base) l (d .end .disk)) (sym all) all-written;
-            marks = ap (λ (l : List ℕ). k .before ++ marksIn (length l) l) all ∙ all-marks;
+            marks = ap (λ (l : List ℕ). marksIn (length l) l) all ∙ all-marks;
             end = d .end;
             chain = subst (λ (l : List ℕ). Chain n s c (x .sent) (x .history) (d .end) l (d .end)) (sym left) still;
             lent = d .lent;
@@ -370,20 +378,25 @@ module _ (n s : ℕ) (setup : Setup n s) where
           })
 
       begin-after : k .safe ≡ length (k .disk) → After w (changed x c (anew k))
-      unfolding marksIn
       begin-after f =
           let all : safePart k ≡ k .disk = ap (λ (i : ℕ). take i (k .disk)) f ∙ take-length (k .disk) in
+          let l : List Instance = savedMarks k in
+          let b : List ℕ = markEntries l in
+          let same : l ≡ d .end .marks = ap (λ (l : List ℕ). marksIn (length l) l) all ∙ all-marks in
+          let h : Kept n s c (k .lent) = subst (Kept n s c) (sym memory) (end-known .saved) in
+          let z = again n s c few low (k .lent) h l (λ i m. marked-there i (subst (List·Memᴰ i) same m)) in
+          let front : take (length b) b ≡ b = take-length b in
           caught (anew k)
           (record {
             within = omega arith;
-            base = subst (Kept n s c) (sym memory) (end-known .saved);
-            journal = subst (Journal n s c (k .lent) []) memory none;
-            marks = append-nil (savedMarks k) ∙ ap (λ (l : List ℕ). k .before ++ marksIn (length l) l) all ∙ all-marks;
+            base = h;
+            journal = subst (λ (u : List ℕ). Journal n s c (k .lent) (take (length b) b) u) memory (subst (λ (u : List ℕ). Journal n s c (k .lent) u (k .lent)) (sym front) (z .journal));
+            marks = ap (λ (u : List ℕ). marksIn (length u) u) front ∙ z .marks ∙ same;
             end = d .end;
-            chain = still;
+            chain = subst (λ (u : List ℕ). Chain n s c (x .sent) (x .history) (d .end) u (d .end)) (sym (append-nil (drop (length b) b) ∙ drop-length b)) still;
             lent = d .lent;
             none = d .none;
-            leaving = λ b m. d .held b (Memᴰ·append-left (k .held) m);
+            leaving = λ a m. d .held a (Memᴰ·append-left (k .held) m);
             held = d .held;
           })
 
@@ -442,7 +455,7 @@ module _ (n s : ℕ) (setup : Setup n s) where
             within = rw off cut-safe;
             base = d .base;
             journal = subst (λ (l : List ℕ). Journal n s c (k .base) l (q .disk)) (sym front) (d .journal);
-            marks = ap (λ (l : List ℕ). k .before ++ marksIn (length l) l) front ∙ d .marks;
+            marks = ap (λ (l : List ℕ). marksIn (length l) l) front ∙ d .marks;
             end = cut .end;
             chain = subst (λ (l : List ℕ). Chain n s c (x .sent) (x .history) q l (cut .end)) (sym left) (cut .chain);
             lent = cut .memory ∙ sym (ap (λ (r : Replayed). r .table) cut-replays);

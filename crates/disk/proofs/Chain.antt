@@ -4,7 +4,7 @@ use Prim.Native.Nat.{ℕ, _+_, _-_, _≤_, _<_}
 use mathlib.Core.Path.{_≡_, refl, sym, ap, ap₂, _∙_, subst}
 use mathlib.Core.Logic.{_⊎_, inl, inr, ⊎-elim}
 use mathlib.Core.Bool.{Bool, true, false}
-use mathlib.Core.List.{List, [], _∷_, _++_, append-assoc, append-nil, List·Memᴰ, List·Memᴰ·append-cases, List·Memᴰ·eq-of-singleton}
+use mathlib.Core.List.{List, [], _∷_, _++_, map, append-assoc, append-nil, List·Memᴰ, List·Memᴰ·append-cases, List·Memᴰ·eq-of-singleton}
 use native.Mathlib.Omega.{arith}
 use lib.Dec.{ltb}
 use lib.ListN.{length, take, length-append}
@@ -14,7 +14,7 @@ use Rattle.paper.specs.Instance.{instanceOk}
 use Rattle.paper.specs.declared.Command.{Command}
 use Rattle.rules.specs.Step.{isCommitted}
 use Rattle.rules.specs.Order.{instanceOf}
-use Rattle.table.specs.Table.{recordIn, putRecord, Kept}
+use Rattle.table.specs.Table.{recordIn, Kept}
 use Rattle.table.specs.Calls.{partOf, putPart}
 use Rattle.table.proofs.Laws.{sizes, names}
 use Rattle.table.proofs.Round.{record-whole, put-get}
@@ -25,12 +25,12 @@ use Rattle.log.specs.declared.Answer.the-variants.{Event}
 use Rattle.order.specs.declared.Settling.{Settling}
 use Rattle.order.specs.declared.Handing.the-variants.{Codes}
 use Rattle.order.specs.Calls.{markedIn, handed}
-use Rattle.journal.specs.Entry.{entryLength, kindIn, recordEntry, markEntry}
-use Rattle.journal.specs.Replay.{frontOf}
-use Rattle.journal.specs.declared.judging.Front.the-variants as front
-use Rattle.journal.specs.Journal.{Journal, none, record-then, mark-then}
-use Rattle.journal.proofs.Framed.{short-rest, none-rest}
-use Rattle.journal.proofs.Journal.{record-size, mark-size}
+use Rattle.entries.specs.Entry.{entryLength, kindIn, recordEntry, markEntry}
+use Rattle.entries.specs.Replay.{frontOf}
+use Rattle.entries.specs.declared.Front.the-variants as front
+use Rattle.entries.specs.Journal.{Journal, none, record-then, mark-then}
+use Rattle.entries.proofs.Framed.{short-rest, none-rest}
+use Rattle.entries.proofs.Journal.{record-size, mark-size}
 use Rattle.safety.specs.Run.{Happening, requested, Setup}
 use Rattle.safety.specs.Run as rules
 use Rattle.demand.specs.Run.{Call, request, receive, recover, nudge, outcome, Possible, recorded}
@@ -175,7 +175,7 @@ module _ (n s : ℕ) (setup : Setup n s) (c : ℕ) (copy : c < n) (past : List (
         })
 
     -- an answered call names an instance
-    ranged : {b : List ℕ} {q : place.Copy} → Chain n s c sent past k b q → (call : Call) (out : List ℕ) (o j w : ℕ) → Possible sent call → q .listed ≡ []
+    pub ranged : {b : List ℕ} {q : place.Copy} → Chain n s c sent past k b q → (call : Call) (out : List ℕ) (o j w : ℕ) → Possible sent call → q .listed ≡ []
         → outcome n s c (q .lent) out call .answer ≡ Event o j w → instanceOk n s o j ≡ true
     ranged h call out o j w p l e =
         let r = ran at se h in
@@ -309,7 +309,7 @@ module _ (n s : ℕ) (setup : Setup n s) (c : ℕ) (copy : c < n) (past : List (
 module _ (n s c : ℕ) (sent : List (List ℕ)) (past : List (Happening Settling)) (k : place.Copy) where
   pub record Handed (b codes : List ℕ) (q : place.Copy) : Type 0 where
     pub end : place.Copy
-    pub chain : Chain n s c sent past k (b ++ markEntries codes) end
+    pub chain : Chain n s c sent past k (b ++ markEntries (map instanceOf codes)) end
     pub lent : end .lent ≡ q .lent
     pub none : end .listed ≡ []
     pub leaving : end .leaving ≡ q .leaving
@@ -321,7 +321,7 @@ module _ (n s c : ℕ) (sent : List (List ℕ)) (past : List (Happening Settling
       let z = mark-all codes (b ++ m) (place.marking n s c q code codes) (mark h code codes e) refl in
       record {
         end = z .end;
-        chain = subst (λ (l : List ℕ). Chain n s c sent past k l (z .end)) (append-assoc b m (markEntries codes)) (z .chain);
+        chain = subst (λ (l : List ℕ). Chain n s c sent past k l (z .end)) (append-assoc b m (markEntries (map instanceOf codes))) (z .chain);
         lent = z .lent;
         none = z .none;
         leaving = z .leaving;

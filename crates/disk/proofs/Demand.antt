@@ -10,25 +10,24 @@ use lib.Dec.{ltb}
 use lib.ListN.{length}
 use borrow.Author.Tests.{ltb-true, ltb-false}
 use Rattle.paper.specs.Command.{isNoop}
-use Rattle.paper.specs.Instance.{instanceOk}
 use Rattle.paper.specs.declared.Command.{Command}
 use Rattle.rules.specs.Order.{isMarked}
-use Rattle.table.specs.Table.{blankTable, recordIn, Kept}
+use Rattle.table.specs.Table.{blankTable, recordIn}
 use Rattle.table.specs.Calls.{judged}
 use Rattle.log.specs.Events.{answerNumber}
 use Rattle.table.specs.declared.Judging.{Judging}
 use Rattle.table.specs.declared.Judging.the-variants as judging
-use Rattle.journal.specs.declared.judging.Front.the-variants as front
-use Rattle.journal.specs.declared.replaying.Replaying.the-variants.{Upto}
-use Rattle.journal.specs.Replay.{Replayed, replayed, replayedOpen, replayedAt, replayedThrough, endOf, puts}
-use Rattle.journal.proofs.Journal.{replays}
+use Rattle.entries.specs.declared.Front.the-variants as front
+use Rattle.entries.specs.declared.Replaying.the-variants.{Upto}
+use Rattle.entries.specs.Replay.{Replayed, replayed, replayedOpen, replayedAt, replayedThrough, endOf, puts}
+use Rattle.entries.proofs.Journal.{replays}
 use Rattle.safety.specs.Run.{Instance, requested, Setup}
 use Rattle.safety.specs.Demand.{Before}
 use Rattle.demand.specs.Demand.{inPlace, Committed, Unrefused, Lasting, Marking, Demand}
 use Rattle.demand.specs.Run.{receive, outcome}
 use Rattle.demand.specs.Run as place
 use Rattle.demand.proofs.Demand.{demand-3}
-use Rattle.disk.specs.Run.{Copy, safePart, savedTable, marksIn, savedMarks, State, fresh, Start, Run, stay}
+use Rattle.disk.specs.Run.{Copy, safePart, savedTable, marksIn, savedMarks, State, Start, Run}
 use Rattle.disk.specs.Demand.{journalled, InMemory, Restarts}
 use Rattle.disk.proofs.Chain.{Ran}
 use Rattle.disk.proofs.Beside.{Beside, started, run-after, run-on, judged-base, up, memory, all-written, cut-replays, cut-safe}

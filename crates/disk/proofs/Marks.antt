@@ -1,20 +1,29 @@
 -- The marks that a journal's entries have, in their order. Assumes nothing.
 use Prim.Native.Nat.{ℕ, zero, suc, _+_, _-_, _≤_, _<_}
-use mathlib.Core.Path.{_≡_, refl, sym, ap, ap₂, _∙_}
+use mathlib.Core.Path.{_≡_, refl, sym, ap, ap₂, _∙_, subst}
 use mathlib.Core.Bool.{true, cond}
-use mathlib.Core.List.{List, [], _∷_, _++_, append-assoc, append-nil}
+use mathlib.Core.List.{List, [], _∷_, _++_, append-assoc, append-nil, List·Memᴰ, List·Memᴰ·head, List·Memᴰ·tail}
 use native.Mathlib.Omega.{arith}
 use lib.Dec.{eqb}
 use lib.ListN.{length, length-append}
 use Rattle.paper.specs.Instance.{instanceOk}
+use borrow.Author.Tests.{eqb-true, eq-eqb}
+use Rattle.paper.specs.declared.Record.{Record}
+use Rattle.table.specs.Table.{recordIn, putRecord, Kept}
 use Rattle.table.specs.Calls.{partSize}
-use Rattle.journal.specs.Entry.{markKind, kindIn, ownerIn, numberIn, recordEntry, markEntry}
-use Rattle.journal.specs.Replay.{behind}
-use Rattle.journal.specs.Journal.{Journal, none, record-then, mark-then}
-use Rattle.journal.proofs.Framed.{mark-reads, record-reads}
-use Rattle.journal.proofs.Journal.{count, count-few, bounds}
+use Rattle.table.proofs.Laws.{sizes, names}
+use Rattle.table.proofs.Round.{record-sound, record-whole, put-get}
+use Rattle.rules.specs.Step.{isCommitted}
+use Rattle.rules.specs.Order.{isMarked, marked}
+use Rattle.closed.proofs.Sound.{sound-is}
+use Rattle.order.specs.Calls.{markedIn}
+use Rattle.entries.specs.Entry.{markKind, ownerIn, numberIn, recordEntry, markEntry}
+use Rattle.entries.specs.Replay.{behind}
+use Rattle.entries.specs.Journal.{Journal, none, record-then, mark-then}
+use Rattle.entries.proofs.Framed.{mark-reads, record-reads}
+use Rattle.entries.proofs.Journal.{count, count-few, bounds, joined}
 use Rattle.safety.specs.Run.{Instance}
-use Rattle.disk.specs.Run.{marksIn}
+use Rattle.disk.specs.Run.{marksIn, markEntries}
 
 marksOf : {n s c : ℕ} {t b u : List ℕ} → Journal n s c t b u → List Instance
 marksOf none = []
@@ -93,3 +102,40 @@ module _ (n s c : ℕ) (few : n ≤ 7) (low : s ≤ 64) where
       lone : (k : ℕ) → 0 < k → marksIn k (markEntry o j) ≡ (o, j) ∷ []
       lone zero z = absurd (omega arith)
       lone (suc k) z = ap (marksIn (suc k)) (sym (append-nil (markEntry o j))) ∙ one-mark o j i [] k ∙ ap (λ (x : List Instance). (o, j) ∷ x) (no-marks k)
+
+-- a mark that is there already changes nothing
+same-marked : (n s c : ℕ) (t : List ℕ) → Kept n s c t → (o j : ℕ) → instanceOk n s o j ≡ true → isMarked (recordIn s t o j) ≡ true → markedIn s t o j ≡ t
+unfolding markedIn
+same-marked n s c t k o j i m =
+    let a = names n s c t o j (k .setup) i in
+    let r : Record = recordIn s t o j in
+    let is : marked r ≡ r = ap (λ (x : ℕ). record { joined = r .joined; vote = r .vote; mark = x; phase = r .phase; set = r .set; replies = r .replies }) (sym (eqb-true (r .mark) 1 m)) in
+    ap (putRecord s t o j) is ∙ put-get n s t (sizes n s c t (k .setup) .long) o j a (record-whole n s c t k o j a)
+
+-- and is on what is committed
+marked-done : (n s c : ℕ) (t : List ℕ) → Kept n s c t → (o j : ℕ) → instanceOk n s o j ≡ true → isMarked (recordIn s t o j) ≡ true → isCommitted (recordIn s t o j) ≡ true
+marked-done n s c t k o j i m =
+    let r : Record = recordIn s t o j in
+    let h = sound-is n s c o r (record-sound n s c t (k .sound) o j (names n s c t o j (k .setup) i)) in
+    eq-eqb (r .vote .status) 4 (h .marked (eqb-true (r .mark) 1 m))
+
+-- the entries of marks that a table has: a journal that changes nothing and keeps their order
+pub record Again (n s c : ℕ) (t : List ℕ) (l : List Instance) : Type 0 where
+  pub journal : Journal n s c t (markEntries l) t
+  pub marks : marksIn (length (markEntries l)) (markEntries l) ≡ l
+
+module _ (n s c : ℕ) (few : n ≤ 7) (low : s ≤ 64) (t : List ℕ) (k : Kept n s c t) where
+  pub again : (l : List Instance) → ((i : Instance) → List·Memᴰ i l → (instanceOk n s (i .0) (i .1) ≡ true) × (isMarked (recordIn s t (i .0) (i .1)) ≡ true)) → Again n s c t l
+  unfolding marksIn
+  again [] h = record { journal = none; marks = refl }
+  again (i ∷ l) h =
+      let e : List ℕ = markEntry (i .0) (i .1) in
+      let (range, m) = h i (List·Memᴰ·head refl) in
+      let z = again l (λ j x. h j (List·Memᴰ·tail x)) in
+      let one : Journal n s c t e t = subst (Journal n s c t e) (same-marked n s c t k (i .0) (i .1) range m) (mark-then none (i .0) (i .1) range (marked-done n s c t k (i .0) (i .1) range m)) in
+      let nothing : Journal n s c t [] t = none in
+      let first : marksIn (length e) e ≡ i ∷ [] = marks-mark n s c few low nothing (i .0) (i .1) range in
+      record {
+        journal = joined one (z .journal);
+        marks = marks-join n s c few low one (z .journal) ∙ ap₂ (λ (p q : List Instance). p ++ q) first (z .marks);
+      }

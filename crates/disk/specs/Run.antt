@@ -4,7 +4,7 @@
 use Prim.Native.Nat.{ℕ, zero, suc, _≤_, _<_}
 use mathlib.Core.Path.{_≡_}
 use mathlib.Core.Bool.{cond}
-use mathlib.Core.List.{List, [], _∷_, _++_, List·Memᴰ}
+use mathlib.Core.List.{List, [], _∷_, _++_, map, List·Memᴰ}
 use lib.Dec.{eqb}
 use lib.ListN.{length, take, drop}
 use Rattle.table.specs.Table.{blankTable}
@@ -15,9 +15,9 @@ use Rattle.log.specs.Events.{Outcome}
 use Rattle.order.specs.declared.Settling.{Settling}
 use Rattle.order.specs.declared.Handing.the-variants.{Codes}
 use Rattle.order.specs.Calls.{settled, Handed, handed}
-use Rattle.journal.specs.Entry.{markKind, kindIn, ownerIn, numberIn, recordEntry, markEntry}
-use Rattle.journal.specs.Replay.{behind, replayed}
-use Rattle.journal.specs.declared.replaying.Replaying.the-variants.{Upto}
+use Rattle.entries.specs.Entry.{markKind, kindIn, ownerIn, numberIn, recordEntry, markEntry}
+use Rattle.entries.specs.Replay.{behind, replayed}
+use Rattle.entries.specs.declared.Replaying.the-variants.{Upto}
 use Rattle.safety.specs.Run.{Instance, Happening, answered, replaced}
 use Rattle.demand.specs.Run.{Call, outcome, Possible, recorded, written}
 
@@ -25,8 +25,6 @@ use Rattle.demand.specs.Run.{Call, outcome, Possible, recorded, written}
 pub record Copy : Type 0 where
   -- the table that its journal was begun with
   pub base : List ℕ
-  -- marks that this table had, in the order in which they were saved
-  pub before : List Instance
   -- the journal on disk: whole entries, and perhaps a part of one more
   pub disk : List ℕ
   -- so many of its bytes the host has waited for: no cut reaches them
@@ -56,7 +54,7 @@ marksIn (suc f) (x ∷ b) = cond (eqb (kindIn (x ∷ b)) markKind) ((ownerIn (x 
 
 -- the order of saved marks is the order of their entries
 abbrev pub savedMarks : Copy → List Instance
-savedMarks k = k .before ++ marksIn (length (safePart k)) (safePart k)
+savedMarks k = marksIn (length (safePart k)) (safePart k)
 
 pub record State : Type 0 where
   pub copies : ℕ → Copy
@@ -66,19 +64,18 @@ pub record State : Type 0 where
   pub history : List (Happening Settling)
 
 -- an empty journal on a table
-abbrev pub fresh : List ℕ → List Instance → Copy
-fresh t marks = record { base = t; before = marks; disk = []; safe = 0; coming = []; lent = t; held = []; leaving = [] }
+abbrev pub fresh : List ℕ → Copy
+fresh t = record { base = t; disk = []; safe = 0; coming = []; lent = t; held = []; leaving = [] }
 
 -- where a run may start: every copy has what the blank-table call writes and an empty journal, and nothing is requested
 pub data Start (n s : ℕ) : State → Type 0 where
-  blanks : Start n s (record { copies = λ c. fresh (blankTable n s c) []; sent = []; history = [] })
+  blanks : Start n s (record { copies = λ c. fresh (blankTable n s c); sent = []; history = [] })
 
 -- an event answered o.j and w bytes: the entry of its record is to be written, and its messages are held back
 abbrev pub acted : ℕ → ℕ → ℕ → Copy → Outcome → ℕ → ℕ → ℕ → Copy
 acted n s c k y o j w =
     record {
       base = k .base;
-      before = k .before;
       disk = k .disk;
       safe = k .safe;
       coming = recordEntry o j (partOf n s c (y .table) o j);
@@ -92,7 +89,6 @@ abbrev pub quiet : Copy → Outcome → ℕ → Copy
 quiet k y w =
     record {
       base = k .base;
-      before = k .before;
       disk = k .disk;
       safe = k .safe;
       coming = k .coming;
@@ -101,20 +97,19 @@ quiet k y w =
       leaving = k .leaving;
     }
 
--- the marks of these codes, in their order
-abbrev pub markEntries : List ℕ → List ℕ
+-- the entries of these marks, in their order
+abbrev pub markEntries : List Instance → List ℕ
 markEntries [] = []
-markEntries (code ∷ codes) = markEntry (instanceOf code .0) (instanceOf code .1) ++ markEntries codes
+markEntries (i ∷ l) = markEntry (i .0) (i .1) ++ markEntries l
 
 -- a hand-out answered i codes: their marks are to be written
 abbrev pub handing : Copy → Handed → ℕ → Copy
 handing k y i =
     record {
       base = k .base;
-      before = k .before;
       disk = k .disk;
       safe = k .safe;
-      coming = markEntries (take i (y .list));
+      coming = markEntries (map instanceOf (take i (y .list)));
       lent = y .table;
       held = k .held;
       leaving = k .leaving;
@@ -125,7 +120,6 @@ abbrev pub wrote : Copy → ℕ → Copy
 wrote k i =
     record {
       base = k .base;
-      before = k .before;
       disk = k .disk ++ take i (k .coming);
       safe = k .safe;
       coming = drop i (k .coming);
@@ -139,7 +133,6 @@ abbrev pub waited : Copy → Copy
 waited k =
     record {
       base = k .base;
-      before = k .before;
       disk = k .disk;
       safe = length (k .disk);
       coming = k .coming;
@@ -153,7 +146,6 @@ abbrev pub restarted : ℕ → ℕ → ℕ → Copy → ℕ → ℕ → Copy
 restarted n s c k p e =
     record {
       base = k .base;
-      before = k .before;
       disk = take e (take p (k .disk));
       safe = k .safe;
       coming = [];
@@ -162,10 +154,18 @@ restarted n s c k p e =
       leaving = [];
     }
 
--- the journal is begun anew, on the table in memory
+-- the journal is begun anew, on the table in memory, with the marks that this table has: they change nothing, and keep their order
 abbrev pub anew : Copy → Copy
 anew k =
-    record { base = k .lent; before = savedMarks k; disk = []; safe = 0; coming = []; lent = k .lent; held = k .held; leaving = k .leaving }
+    record {
+      base = k .lent;
+      disk = markEntries (savedMarks k);
+      safe = length (markEntries (savedMarks k));
+      coming = [];
+      lent = k .lent;
+      held = k .held;
+      leaving = k .leaving;
+    }
 
 -- all of the journal is written, and all of it was waited for
 abbrev pub Saved : Copy → Type 0

@@ -21,14 +21,16 @@ use Rattle.table.proofs.Saved.{back-long, back-own, back-other, back-whole, bac
 use Rattle.rules.specs.Order.{marked}
 use Rattle.rows.specs.Rows.{slotOf}
 use Rattle.order.specs.Calls.{markedIn}
-use Rattle.journal.specs.declared.judging.Front.{Front}
-use Rattle.journal.specs.declared.judging.Front.the-variants as front
-use Rattle.journal.specs.declared.judging.Ended.{Ended}
-use Rattle.journal.specs.Entry.{recordKind, entryHead, entryLength, kindIn, ownerIn, numberIn, partIn}
-use Rattle.journal.specs.Replay.{committedIn, entryOk, frontOf, applied, behind, orOn, endOf, puts}
-use Rattle.journal.specs.Judging.{told, noted, endBy, Fit, Tells, Held, Ready, Puts}
-use Rattle.journal.proofs.Entries.{range-names, part-size, fit-names}
-use Rattle.journal.proofs.Judged.{front-fit, front-same, rest-is, rest-room}
+use Rattle.entries.specs.declared.Front.{Front}
+use Rattle.entries.specs.declared.Front.the-variants as front
+use Rattle.entries.specs.declared.Ended.{Ended}
+use Rattle.entries.specs.Entry.{recordKind, entryHead, entryLength, kindIn, ownerIn, numberIn, partIn}
+use Rattle.entries.specs.Replay.{committedIn, entryOk, frontOf, applied, behind, orOn, endOf, puts}
+use Rattle.entries.specs.Entry.{Fit}
+use Rattle.journal.specs.Judging.{told, noted, endBy, Tells, Held, Ready, Puts}
+use Rattle.entries.proofs.Lengths.{range-names, part-size, fit-names}
+use Rattle.entries.proofs.Fronts.{front-fit, front-same}
+use Rattle.journal.proofs.Judged.{rest-is, rest-room}
 
 -- a judged table holds
 pub held-in : (n s c : ℕ) (t : List ℕ) → Judged n s c t → Bytes t → Held n s t

@@ -16,17 +16,18 @@ use Rattle.record.specs.Part.{soundPart}
 use Rattle.table.specs.Calls.{partSize, judged, putPart}
 use Rattle.table.specs.declared.Judging.the-variants as judging
 use Rattle.order.specs.Calls.{markedIn}
-use Rattle.journal.specs.declared.judging.Fault.{Fault}
-use Rattle.journal.specs.declared.judging.Front.{Front}
-use Rattle.journal.specs.declared.judging.Front.the-variants as front
-use Rattle.journal.specs.declared.judging.Ended.{Ended}
-use Rattle.journal.specs.declared.replaying.Replaying.{Replaying}
-use Rattle.journal.specs.declared.replaying.Replaying.the-variants as replaying
-use Rattle.journal.specs.Entry.{recordKind, entryHead, entryLength, kindIn, ownerIn, numberIn, partIn}
-use Rattle.journal.specs.Replay.{committedIn, entryOk, frontOf, applied, behind, orOn, endOf, puts, replayedAt, replayedOpen, replayed}
-use Rattle.journal.specs.Judging.{Fit, Held, Ready}
-use Rattle.journal.proofs.Entries.{length-least, length-record}
-use Rattle.journal.proofs.Judged.{front-none, front-whole, front-fit}
+use Rattle.entries.specs.declared.Fault.{Fault}
+use Rattle.entries.specs.declared.Front.{Front}
+use Rattle.entries.specs.declared.Front.the-variants as front
+use Rattle.entries.specs.declared.Ended.{Ended}
+use Rattle.entries.specs.declared.Replaying.{Replaying}
+use Rattle.entries.specs.declared.Replaying.the-variants as replaying
+use Rattle.entries.specs.Entry.{recordKind, entryHead, entryLength, kindIn, ownerIn, numberIn, partIn}
+use Rattle.entries.specs.Replay.{committedIn, entryOk, frontOf, applied, behind, orOn, endOf, puts, replayedAt, replayedOpen, replayed}
+use Rattle.entries.specs.Entry.{Fit}
+use Rattle.journal.specs.Judging.{Held, Ready}
+use Rattle.entries.proofs.Lengths.{length-least, length-record}
+use Rattle.entries.proofs.Fronts.{front-none, front-whole, front-fit}
 use Rattle.journal.proofs.Put.{puts-none, puts-step, end-past}
 
 -- two choices by one test

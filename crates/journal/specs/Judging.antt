@@ -3,20 +3,19 @@
 -- st: the statuses.
 use Prim.Native.Nat.{ℕ, zero, suc, _+_, _*_, _≤_, _<_}
 use mathlib.Core.Path.{_≡_}
-use mathlib.Core.Bool.{Bool, true, cond}
+use mathlib.Core.Bool.{Bool, cond}
 use mathlib.Core.List.{List}
 use lib.Dec.{eqb}
 use lib.ListN.{length, getD, set}
-use Rattle.paper.specs.Instance.{instanceOk}
 use Rattle.table.specs.Place.{tableLength}
 use Rattle.table.specs.Sizes.{Names}
 use Rattle.table.specs.Table.{recordIn, Whole}
 use Rattle.table.specs.Calls.{recordOf}
 use Rattle.rows.specs.Rows.{slotOf}
-use Rattle.journal.specs.declared.judging.Front.the-variants as front
-use Rattle.journal.specs.declared.judging.Ended.{Ended}
-use Rattle.journal.specs.Entry.{recordKind, entryLength, kindIn, ownerIn, numberIn, partIn}
-use Rattle.journal.specs.Replay.{frontOf, behind, orOn, endOf}
+use Rattle.entries.specs.declared.Front.the-variants as front
+use Rattle.entries.specs.declared.Ended.{Ended}
+use Rattle.entries.specs.Entry.{recordKind, entryLength, kindIn, ownerIn, numberIn, partIn, Fit}
+use Rattle.entries.specs.Replay.{frontOf, behind, orOn, endOf}
 
 -- o.j is committed by its status
 abbrev pub told : List ℕ → ℕ → ℕ → Bool
@@ -38,14 +37,6 @@ pub record Asked (n s c : ℕ) (st : List ℕ) : Type 0 where
   pub numbers : s ≤ 64
   pub copy : c < n
   pub long : length st ≡ 448
-
--- a whole entry of a known kind, with its instance in range
-pub record Fit (n s : ℕ) (b : List ℕ) : Type 0 where
-  pub known : entryLength (kindIn b) ≡ 0 → ⊥
-  pub whole : entryLength (kindIn b) ≤ length b
-  pub copies : n ≤ 7
-  pub numbers : s ≤ 64
-  pub range : instanceOk n s (ownerIn b) (numberIn b) ≡ true
 
 -- the statuses of the instances of a table whose places are below z
 pub record Charted (n s : ℕ) (t : List ℕ) (z : ℕ) (st : List ℕ) : Type 0 where

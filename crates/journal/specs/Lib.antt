@@ -1,5 +1,1 @@
-pub mod Entry
-pub mod Writing
-pub mod Replay
 pub mod Judging
-pub mod Journal

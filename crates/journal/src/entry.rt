@@ -10,7 +10,7 @@ ghost use lib.ListN.{length};
 ghost use Rattle.numbers.specs.Num.{splice};
 ghost use Rattle.record.specs.Part.{soundPart};
 ghost use Rattle.table.specs.Calls.{partSize};
-ghost use Rattle.journal.specs.Entry.{entryHead, entryLength, kindIn, ownerIn, numberIn, partIn, headBytes};
+ghost use Rattle.entries.specs.Entry.{entryHead, entryLength, kindIn, ownerIn, numberIn, partIn, headBytes};
 
 // An instance and its record.
 pub const RECORD: usize = 20;

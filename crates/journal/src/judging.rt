@@ -7,6 +7,9 @@ use crate::entry::number_in;
 use crate::entry::owner_in;
 use crate::entry::part_in;
 use crate::entry::part_sound;
+use entries::Ended;
+use entries::Fault;
+use entries::Front;
 use nouns::setup::instance_ok;
 use record::fields::status_in;
 use rows::slot_of;
@@ -15,28 +18,9 @@ ghost use mathlib.Core.Path.{_≡_};
 ghost use Prim.Native.Nat.{_+_, _*_};
 ghost use lib.ListN.{length};
 ghost use Rattle.table.specs.Table.{Judged};
-ghost use Rattle.journal.specs.Replay.{entryOk, frontOf, endOf};
-ghost use Rattle.journal.specs.Judging.{told, noted, endBy, Asked, Fit, Charted, Tells, RowCharting, Charting};
-
-// What is wrong with an entry: its kind, its instance, or its record or mark.
-pub enum Fault {
-    Kind,
-    Instance,
-    Unsound,
-}
-
-// What stands in front: an entry, less than one, or one that is bad.
-pub enum Front {
-    Whole,
-    Rest,
-    Bad(Fault),
-}
-
-// Where the walk over a journal ends, and what stands there.
-pub struct Ended {
-    pub front: Front,
-    pub at: usize,
-}
+ghost use Rattle.entries.specs.Entry.{Fit};
+ghost use Rattle.entries.specs.Replay.{entryOk, frontOf, endOf};
+ghost use Rattle.journal.specs.Judging.{told, noted, endBy, Asked, Charted, Tells, RowCharting, Charting};
 
 // What 43 asks.
 fn entry_ok(b: &[u8], n: usize, s: usize, c: usize, st: &[u8]) -> bool

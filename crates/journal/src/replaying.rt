@@ -5,11 +5,10 @@ use crate::entry::kind_in;
 use crate::entry::number_in;
 use crate::entry::owner_in;
 use crate::entry::part_in;
-use crate::judging::Ended;
-use crate::judging::Fault;
-use crate::judging::Front;
 use crate::judging::end_of;
-use paper::Refusal;
+use entries::Ended;
+use entries::Front;
+use entries::Replaying;
 use table::Judging;
 use table::judge_table;
 use table::records::put_mark;
@@ -17,15 +16,8 @@ use table::records::put_part;
 ghost use mathlib.Core.Path.{_≡_};
 ghost use lib.ListN.{length};
 ghost use Rattle.table.specs.Table.{Judged};
-ghost use Rattle.journal.specs.Replay.{applied, puts, replayedOpen, replayed};
+ghost use Rattle.entries.specs.Replay.{applied, puts, replayedOpen, replayed};
 ghost use Rattle.journal.specs.Judging.{Ready, Puts};
-
-// Where a shorter rest begins, or the journal ends; or what is wrong, and with the entry at which offset.
-pub enum Replaying {
-    Upto(usize),
-    Bad { why: Fault, offset: usize },
-    Refused(Refusal),
-}
 
 // Puts the entry in front into the table.
 fn put_entry(t: &mut [u8], n: usize, s: usize, b: &[u8])

@@ -4,6 +4,8 @@ use crate::entry::MARK;
 use crate::entry::RECORD;
 use crate::entry::part_sound;
 use crate::entry::write_head;
+use entries::Entering;
+use entries::Gate;
 use nouns::logic::both;
 use nouns::logic::equal;
 use nouns::logic::wide8;
@@ -15,26 +17,12 @@ use table::record_part;
 use table::records::mark_of;
 use table::records::status_of;
 ghost use mathlib.Core.Path.{_≡_};
-ghost use mathlib.Core.Bool.{true, _&&_};
-ghost use Prim.Native.Nat.{_≤_};
-ghost use lib.ListN.{length};
+ghost use mathlib.Core.Bool.{_&&_};
 ghost use Rattle.table.specs.Sizes.{Has};
 ghost use Rattle.rules.specs.Step.{isCommitted};
 ghost use Rattle.rules.specs.Order.{isMarked};
 ghost use Rattle.table.specs.Table.{recordIn};
-ghost use Rattle.journal.specs.Writing.{Enters, gateOf, recordOpen, markOpen, recordEntered, markEntered};
-
-// How many bytes were written; 43 says that a replay would not take the entry.
-pub enum Entering {
-    Entry(usize),
-    Refused(Refusal),
-    Unsound,
-}
-
-pub enum Gate {
-    Open,
-    Shut(Refusal),
-}
+ghost use Rattle.entries.specs.Writing.{Enters, gateOf, recordOpen, markOpen, recordEntered, markEntered};
 
 // What is refused before the record is looked at.
 fn gate_of(

@@ -4,7 +4,7 @@ use mathlib.Core.Path.{_≡_, sym, ap, _∙_}
 use mathlib.Core.Bool.{true}
 use mathlib.Core.List.{List}
 use native.Mathlib.Omega.{arith}
-use lib.ListN.{length, take, drop, length-take, length-drop}
+use lib.ListN.{length, length-take, length-drop}
 use Rattle.numbers.specs.Num.{Bytes, splice}
 use Rattle.paper.specs.Instance.{instanceOk}
 use Rattle.record.specs.Part.{soundPart}

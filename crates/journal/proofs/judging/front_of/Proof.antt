@@ -1,9 +1,10 @@
 use mathlib.Core.Path.{sym, ap, _∙_}
 use borrow.Author.Tests.{not-true, not-false}
 use native.Mathlib.Omega.{arith}
-use Rattle.journal.specs.Entry.{entryLength, kindIn}
-use Rattle.journal.proofs.Entries.{length-least}
-use Rattle.journal.proofs.Judged.{in-range, fits-in, front-none, front-kind, front-short, front-range, front-unsound, front-whole}
+use Rattle.entries.specs.Entry.{entryLength, kindIn}
+use Rattle.entries.proofs.Lengths.{length-least}
+use Rattle.entries.proofs.Fronts.{front-none, front-kind, front-short, front-range, front-unsound, front-whole}
+use Rattle.journal.proofs.Judged.{in-range, fits-in}
 use borrow.Author.Needs.{needs}
 use Rattle.journal.proofs.judging.front_of.Statement.{statement}
 use Rattle.journal.proofs.judging.front_of.Tie as tie

@@ -4,7 +4,7 @@ use mathlib.Core.Logic.{⊎-elim}
 use Prim.Native.Nat.{_-_}
 use native.Mathlib.Omega.{arith}
 use lib.ListN.{length, length-take, length-drop}
-use Rattle.journal.specs.Entry.{entryLength}
+use Rattle.entries.specs.Entry.{entryLength}
 use Rattle.journal.proofs.Judged.{Walked, walk-start, walk-end, walk-stops, walk-fit, walk-room, walk-on}
 use Rattle.journal.proofs.judging.walk.Statement.{statement}
 use Rattle.journal.proofs.judging.walk.Tie as tie

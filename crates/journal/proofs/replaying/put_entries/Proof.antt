@@ -3,7 +3,7 @@ use mathlib.Core.Path.{sym, ap, _∙_}
 use Prim.Native.Nat.{_-_}
 use native.Mathlib.Omega.{arith}
 use lib.ListN.{length, length-take, length-drop}
-use Rattle.journal.specs.Entry.{entryLength}
+use Rattle.entries.specs.Entry.{entryLength}
 use Rattle.journal.proofs.Put.{Putting, put-start, put-end, put-fit, put-room, put-on}
 use Rattle.journal.proofs.replaying.put_entries.Statement.{statement}
 use Rattle.journal.proofs.replaying.put_entries.Tie as tie

@@ -1,7 +1,7 @@
 use mathlib.Core.Path.{sym, _∙_}
 use borrow.Author.Tests.{eq-eqb, ne-eqb}
-use Rattle.journal.specs.Entry.{kindIn}
-use Rattle.journal.proofs.Entries.{fit-head, fit-part}
+use Rattle.entries.specs.Entry.{kindIn}
+use Rattle.entries.proofs.Lengths.{fit-head, fit-part}
 use Rattle.journal.proofs.Put.{put-has, put-whole, record-applied, mark-applied}
 use borrow.Author.Needs.{needs}
 use Rattle.journal.proofs.replaying.put_entry.Statement.{statement}

@@ -1,6 +1,6 @@
 use mathlib.Core.Path.{sym, _∙_}
 use borrow.Author.Tests.{not-true, not-false, lt-ltb, le-ltb}
-use Rattle.journal.specs.Writing.{gateOf}
+use Rattle.entries.specs.Writing.{gateOf}
 use borrow.Author.Needs.{needs}
 use Rattle.journal.proofs.writing.gate_of.Statement.{statement}
 use Rattle.journal.proofs.writing.gate_of.Tie as tie

@@ -1,7 +1,7 @@
 use mathlib.Core.Path.{sym, _∙_}
-use Rattle.journal.specs.Entry.{markKind}
-use Rattle.journal.specs.Writing.{markEntered}
-use Rattle.journal.proofs.Written.{enters, shut, opened}
+use Rattle.entries.specs.Entry.{markKind}
+use Rattle.entries.specs.Writing.{markEntered}
+use Rattle.entries.proofs.Written.{enters, shut, opened}
 use borrow.Author.Needs.{needs}
 use Rattle.journal.proofs.writing.mark_entry.Statement.{statement}
 use Rattle.journal.proofs.writing.mark_entry.Tie as tie

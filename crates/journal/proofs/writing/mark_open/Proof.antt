@@ -1,7 +1,7 @@
 use mathlib.Core.Path.{sym, _∙_}
 use borrow.Author.Tests.{not-true, not-false}
 use native.Mathlib.Omega.{arith}
-use Rattle.journal.proofs.Written.{enters-has, enters-small, mark-unsound, mark-put}
+use Rattle.entries.proofs.Written.{enters-has, enters-small, mark-unsound, mark-put}
 use borrow.Author.Needs.{needs}
 use Rattle.journal.proofs.writing.mark_open.Statement.{statement}
 use Rattle.journal.proofs.writing.mark_open.Tie as tie

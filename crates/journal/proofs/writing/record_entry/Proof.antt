@@ -1,7 +1,7 @@
 use mathlib.Core.Path.{sym, _∙_}
-use Rattle.journal.specs.Entry.{recordKind}
-use Rattle.journal.specs.Writing.{recordEntered}
-use Rattle.journal.proofs.Written.{enters, shut, opened}
+use Rattle.entries.specs.Entry.{recordKind}
+use Rattle.entries.specs.Writing.{recordEntered}
+use Rattle.entries.proofs.Written.{enters, shut, opened}
 use borrow.Author.Needs.{needs}
 use Rattle.journal.proofs.writing.record_entry.Statement.{statement}
 use Rattle.journal.proofs.writing.record_entry.Tie as tie

@@ -2,7 +2,7 @@ use mathlib.Core.Path.{sym, _∙_}
 use borrow.Author.Tests.{not-true, not-false}
 use native.Mathlib.Omega.{arith}
 use Rattle.table.proofs.Laws.{sizes}
-use Rattle.journal.proofs.Written.{enters-small, record-unsound, record-size, record-room, record-put}
+use Rattle.entries.proofs.Written.{enters-small, record-unsound, record-size, record-room, record-put}
 use borrow.Author.Needs.{needs}
 use Rattle.journal.proofs.writing.record_open.Statement.{statement}
 use Rattle.journal.proofs.writing.record_open.Tie as tie

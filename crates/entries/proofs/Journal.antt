@@ -2,7 +2,7 @@
 use Prim.Native.Nat.{ℕ, zero, suc, _+_, _-_, _≤_, _<_}
 use mathlib.Core.Path.{_≡_, refl, sym, ap, ap₂, _∙_}
 use mathlib.Core.Bool.{Bool, true, false, _&&_, cond}
-use mathlib.Core.List.{List, [], _∷_, _++_, append-assoc, append-nil}
+use mathlib.Core.List.{List, [], _++_, append-assoc, append-nil}
 use native.Mathlib.Omega.{arith}
 use lib.Dec.{leb, ltb, eqb}
 use lib.ListN.{length, take, drop, length-append}
@@ -17,15 +17,15 @@ use Rattle.table.specs.declared.Judging.the-variants as judging
 use Rattle.table.proofs.Laws.{sizes}
 use Rattle.rules.specs.Step.{isCommitted}
 use Rattle.order.specs.Calls.{markedIn}
-use Rattle.journal.specs.declared.judging.Fault.{Fault}
-use Rattle.journal.specs.declared.judging.Front.{Front}
-use Rattle.journal.specs.declared.judging.Front.the-variants as front
-use Rattle.journal.specs.declared.judging.Ended.{Ended}
-use Rattle.journal.specs.declared.replaying.Replaying.the-variants as replaying
-use Rattle.journal.specs.Entry.{recordKind, markKind, entryLength, kindIn, ownerIn, numberIn, partIn, recordEntry, markEntry}
-use Rattle.journal.specs.Replay.{committedIn, entryOk, frontOf, applied, behind, orOn, endOf, puts, Replayed, replayedAt, replayedOpen, replayed}
-use Rattle.journal.specs.Journal.{Journal, none, record-then, mark-then, Replays, Cut, AnyCut, GoesOn, FirstBad}
-use Rattle.journal.proofs.Framed.{Reads, mark-reads, record-long, record-reads, record-part, whole-front, short-rest, none-rest, bad-some}
+use Rattle.entries.specs.declared.Fault.{Fault}
+use Rattle.entries.specs.declared.Front.{Front}
+use Rattle.entries.specs.declared.Front.the-variants as front
+use Rattle.entries.specs.declared.Ended.{Ended}
+use Rattle.entries.specs.declared.Replaying.the-variants as replaying
+use Rattle.entries.specs.Entry.{recordKind, markKind, entryLength, kindIn, ownerIn, numberIn, partIn, recordEntry, markEntry}
+use Rattle.entries.specs.Replay.{committedIn, frontOf, applied, behind, orOn, endOf, puts, replayedAt, replayedOpen, replayed}
+use Rattle.entries.specs.Journal.{Journal, none, record-then, mark-then, Replays, AnyCut, GoesOn, FirstBad}
+use Rattle.entries.proofs.Framed.{Reads, mark-reads, record-long, record-reads, record-part, whole-front, short-rest, none-rest, bad-some}
 
 -- how many entries a journal has
 unfoldable pub count : {n s c : ℕ} {t b u : List ℕ} → Journal n s c t b u → ℕ

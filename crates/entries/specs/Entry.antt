@@ -1,11 +1,13 @@
 -- 3/12: an entry in its bytes, as docs/LAYOUT.md has it. Assumes nothing.
-use Prim.Native.Nat.{ℕ, _+_}
-use mathlib.Core.Bool.{cond}
+use Prim.Native.Nat.{ℕ, _+_, _≤_}
+use mathlib.Core.Path.{_≡_}
+use mathlib.Core.Bool.{true, cond}
 use mathlib.Core.List.{List, [], _∷_, _++_}
 use lib.Dec.{eqb}
-use lib.ListN.{take, drop}
+use lib.ListN.{length, take, drop}
 use Rattle.numbers.specs.Num.{numAt}
 use Rattle.numbers.specs.Fields.{sizeOf, fieldsBytes}
+use Rattle.paper.specs.Instance.{instanceOk}
 use Rattle.table.specs.Calls.{partSize}
 
 -- an instance and its record
@@ -49,3 +51,11 @@ recordEntry o j part = headBytes recordKind o j ++ part
 
 abbrev pub markEntry : ℕ → ℕ → List ℕ
 markEntry o j = headBytes markKind o j
+
+-- a whole entry of a known kind, with its instance in range
+pub record Fit (n s : ℕ) (b : List ℕ) : Type 0 where
+  pub known : entryLength (kindIn b) ≡ 0 → ⊥
+  pub whole : entryLength (kindIn b) ≤ length b
+  pub copies : n ≤ 7
+  pub numbers : s ≤ 64
+  pub range : instanceOk n s (ownerIn b) (numberIn b) ≡ true

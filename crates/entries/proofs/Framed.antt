@@ -4,20 +4,18 @@ use mathlib.Core.Path.{_≡_, refl, sym, ap, ap₂, _∙_}
 use mathlib.Core.Bool.{Bool, true, false, not, cond}
 use mathlib.Core.List.{List, [], _∷_, _++_, append-assoc}
 use native.Mathlib.Omega.{arith}
-use lib.Dec.{ltb, eqb}
 use lib.ListN.{length, getD, take, drop, length-append}
 use lib.Seq.{take-at, drop-at, length-take-le, getD-take}
 use borrow.Author.Tests.{lt-ltb, ne-eqb, le-ltb}
 use Rattle.numbers.proofs.Fields.{fieldsAt-fieldsBytes}
 use Rattle.paper.specs.Instance.{instanceOk}
-use Rattle.record.specs.Part.{soundPart}
 use Rattle.table.specs.Calls.{partSize}
-use Rattle.journal.specs.declared.judging.Fault.{Fault}
-use Rattle.journal.specs.declared.judging.Fault.the-variants as fault
-use Rattle.journal.specs.declared.judging.Front.{Front}
-use Rattle.journal.specs.declared.judging.Front.the-variants as front
-use Rattle.journal.specs.Entry.{recordKind, markKind, headWidths, entryHead, entryLength, kindIn, ownerIn, numberIn, partIn, headBytes, recordEntry, markEntry}
-use Rattle.journal.specs.Replay.{entryOk, frontOf, behind}
+use Rattle.entries.specs.declared.Fault.{Fault}
+use Rattle.entries.specs.declared.Fault.the-variants as fault
+use Rattle.entries.specs.declared.Front.{Front}
+use Rattle.entries.specs.declared.Front.the-variants as front
+use Rattle.entries.specs.Entry.{recordKind, markKind, headWidths, entryHead, entryLength, kindIn, ownerIn, numberIn, partIn, headBytes, recordEntry, markEntry}
+use Rattle.entries.specs.Replay.{entryOk, frontOf, behind}
 
 -- what stands at the front of b is an entry of kind k of o.j, and `more` stands behind it
 pub record Reads (b : List ℕ) (k o j : ℕ) (more : List ℕ) : Type 0 where
@@ -69,7 +67,7 @@ module _ (o j : ℕ) (lo : o < 256) (lj : j < 65536) where
         ap partIn a ∙ ap (take partSize) (drop-at (headBytes recordKind o j) (part ++ more) entryHead refl) ∙ take-at part more partSize size
 
 -- a number to tell what stands in front by
-pub frontCode : Front → ℕ
+unfoldable pub frontCode : Front → ℕ
 frontCode front.Whole = 0
 frontCode front.Rest = 1
 frontCode (front.Bad f) = 2

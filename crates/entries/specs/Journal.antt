@@ -12,11 +12,12 @@ use Rattle.table.specs.Table.{recordIn, Judged}
 use Rattle.table.specs.Calls.{partSize, putPart}
 use Rattle.rules.specs.Step.{isCommitted}
 use Rattle.order.specs.Calls.{markedIn}
-use Rattle.journal.specs.declared.judging.Fault.{Fault}
-use Rattle.journal.specs.declared.judging.Front.the-variants as front
-use Rattle.journal.specs.declared.replaying.Replaying.the-variants as replaying
-use Rattle.journal.specs.Entry.{recordEntry, markEntry}
-use Rattle.journal.specs.Replay.{committedIn, frontOf, replayed}
+use Rattle.entries.specs.declared.Fault.{Fault}
+use Rattle.entries.specs.declared.Front.{Front}
+use Rattle.entries.specs.declared.Front.the-variants as front
+use Rattle.entries.specs.declared.Replaying.the-variants as replaying
+use Rattle.entries.specs.Entry.{recordEntry, markEntry}
+use Rattle.entries.specs.Replay.{committedIn, frontOf, replayed}
 
 -- whole entries one after another, each fit where it stands
 pub data Journal (n s c : ℕ) (t : List ℕ) : List ℕ → List ℕ → Type 0 where
@@ -59,7 +60,17 @@ abbrev pub FirstBad : Type 0
 FirstBad = (n s c : ℕ) (t b u rest : List ℕ) (f : Fault) → Judged n s c t → Journal n s c t b u → frontOf n s c (committedIn s u) rest ≡ front.Bad f
     → replayed n s c t (b ++ rest) ≡ record { answer = replaying.Bad f (length b); table = t }
 
--- of any bytes: where a replay answers, what it took is a journal, and less than an entry is left
+-- of any bytes: what stands before an offset is a journal, and this stands behind it
+pub record Upto (n s c : ℕ) (t b u : List ℕ) (at : ℕ) (f : Front) : Type 0 where
+  pub journal : Journal n s c t (take at b) u
+  pub front : frontOf n s c (committedIn s u) (drop at b) ≡ f
+
+-- where a replay answers, what it took is a journal that gives its table, and less than an entry is left
 abbrev pub Answered : Type 0
 Answered = (n s c : ℕ) (t b : List ℕ) (at : ℕ) → Judged n s c t → Bytes b → replayed n s c t b .answer ≡ replaying.Upto at
-    → Journal n s c t (take at b) (replayed n s c t b .table) × (frontOf n s c (committedIn s (replayed n s c t b .table)) (drop at b) ≡ front.Rest)
+    → Upto n s c t b (replayed n s c t b .table) at front.Rest
+
+-- where it refuses an entry, what stands before that entry is a journal: it is the first bad one
+abbrev pub Refused : Type 0
+Refused = (n s c : ℕ) (t b : List ℕ) (f : Fault) (at : ℕ) → Judged n s c t → Bytes b → replayed n s c t b .answer ≡ replaying.Bad f at
+    → (u : List ℕ) × Upto n s c t b u at (front.Bad f)

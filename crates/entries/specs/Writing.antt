@@ -15,11 +15,11 @@ use Rattle.table.specs.Table.{fitsSetup, recordIn}
 use Rattle.table.specs.Calls.{partOf}
 use Rattle.rules.specs.Step.{isCommitted}
 use Rattle.rules.specs.Order.{isMarked}
-use Rattle.journal.specs.declared.writing.Entering.{Entering}
-use Rattle.journal.specs.declared.writing.Entering.the-variants as entering
-use Rattle.journal.specs.declared.writing.Gate.{Gate}
-use Rattle.journal.specs.declared.writing.Gate.the-variants as gate
-use Rattle.journal.specs.Entry.{recordKind, markKind, entryLength, recordEntry, markEntry}
+use Rattle.entries.specs.declared.Entering.{Entering}
+use Rattle.entries.specs.declared.Entering.the-variants as entering
+use Rattle.entries.specs.declared.Gate.{Gate}
+use Rattle.entries.specs.declared.Gate.the-variants as gate
+use Rattle.entries.specs.Entry.{recordKind, markKind, entryLength, recordEntry, markEntry}
 
 -- 1, then 2 where the room is shorter than the entry, then 6
 unfoldable pub gateOf : ℕ → ℕ → ℕ → List ℕ → ℕ → ℕ → ℕ → ℕ → Gate

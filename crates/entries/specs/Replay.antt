@@ -14,14 +14,14 @@ use Rattle.table.specs.declared.Judging.{Judging}
 use Rattle.table.specs.declared.Judging.the-variants as judging
 use Rattle.rules.specs.Step.{isCommitted}
 use Rattle.order.specs.Calls.{markedIn}
-use Rattle.journal.specs.declared.judging.Fault.{Fault}
-use Rattle.journal.specs.declared.judging.Fault.the-variants as fault
-use Rattle.journal.specs.declared.judging.Front.{Front}
-use Rattle.journal.specs.declared.judging.Front.the-variants as front
-use Rattle.journal.specs.declared.judging.Ended.{Ended}
-use Rattle.journal.specs.declared.replaying.Replaying.{Replaying}
-use Rattle.journal.specs.declared.replaying.Replaying.the-variants as replaying
-use Rattle.journal.specs.Entry.{recordKind, entryLength, kindIn, ownerIn, numberIn, partIn}
+use Rattle.entries.specs.declared.Fault.{Fault}
+use Rattle.entries.specs.declared.Fault.the-variants as fault
+use Rattle.entries.specs.declared.Front.{Front}
+use Rattle.entries.specs.declared.Front.the-variants as front
+use Rattle.entries.specs.declared.Ended.{Ended}
+use Rattle.entries.specs.declared.Replaying.{Replaying}
+use Rattle.entries.specs.declared.Replaying.the-variants as replaying
+use Rattle.entries.specs.Entry.{recordKind, entryLength, kindIn, ownerIn, numberIn, partIn}
 
 -- which instances of a table are committed
 abbrev pub committedIn : ℕ → List ℕ → ℕ → ℕ → Bool

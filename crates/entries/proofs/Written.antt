@@ -20,12 +20,12 @@ use Rattle.table.proofs.Laws.{sizes, names}
 use Rattle.table.proofs.Saved.{part-size}
 use Rattle.rules.specs.Step.{isCommitted}
 use Rattle.rules.specs.Order.{isMarked}
-use Rattle.journal.specs.declared.writing.Entering.{Entering}
-use Rattle.journal.specs.declared.writing.Entering.the-variants as entering
-use Rattle.journal.specs.declared.writing.Gate.{Gate}
-use Rattle.journal.specs.declared.writing.Gate.the-variants as gate
-use Rattle.journal.specs.Entry.{recordKind, entryHead, entryLength, headBytes, markEntry}
-use Rattle.journal.specs.Writing.{gateOf, Entered, Enters, through, recordOpen, markOpen}
+use Rattle.entries.specs.declared.Entering.{Entering}
+use Rattle.entries.specs.declared.Entering.the-variants as entering
+use Rattle.entries.specs.declared.Gate.{Gate}
+use Rattle.entries.specs.declared.Gate.the-variants as gate
+use Rattle.entries.specs.Entry.{recordKind, entryHead, entryLength, headBytes, markEntry}
+use Rattle.entries.specs.Writing.{gateOf, Entered, Enters, through, recordOpen, markOpen}
 
 -- a gate is not both
 clash : {A : Type 0} (r : Refusal) → gate.Open ≡ gate.Shut r → A

@@ -11,8 +11,8 @@ use Rattle.paper.specs.Instance.{instanceOk, ownerOk, numberOk}
 use Rattle.paper.proofs.Laws.{and-true}
 use Rattle.table.specs.Sizes.{Names}
 use Rattle.table.specs.Calls.{partSize}
-use Rattle.journal.specs.Entry.{recordKind, markKind, entryHead, entryLength, kindIn, ownerIn, numberIn, partIn}
-use Rattle.journal.specs.Judging.{Fit}
+use Rattle.entries.specs.Entry.{recordKind, markKind, entryHead, entryLength, kindIn, ownerIn, numberIn, partIn}
+use Rattle.entries.specs.Entry.{Fit}
 
 -- an entry of a known kind has a head at least
 pub length-least : (k : ℕ) → (entryLength k ≡ 0 → ⊥) → entryHead ≤ entryLength k

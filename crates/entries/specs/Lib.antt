@@ -1,0 +1,4 @@
+pub mod Entry
+pub mod Writing
+pub mod Replay
+pub mod Journal
