@@ -10,6 +10,9 @@ use Rattle.stream.specs.Stream.{Filled, taken, yielded, begunNumber, tookNumber
 use Rattle.table.specs.Calls.{blanked, blankedTable, judged, partStart, partLength, lengthOf, blankingNumber, judgingNumber}
 use Rattle.log.specs.Events.{Outcome, requested, received, recovered, nudged, answerNumber}
 use Rattle.order.specs.Calls.{settled, Handed, handed, settlingNumber, settlingValues, handingNumber, handingCount}
+use Rattle.entries.specs.Entry.{entryLength}
+use Rattle.entries.specs.Writing.{Entered, recordEntered, markEntered, enteringNumber, enteringLength}
+use Rattle.entries.specs.Replay.{Replayed, replayed, replayingNumber, replayingOffset}
 use Rattle.pumxaqert.specs.Fields.{wroteFields}
 use Rattle.pumxaqert.specs.Flat.{answerValues}
 use Rattle.pumxaqert.specs.Streams.{placeFrom, placeNumbers, begunPlace}
@@ -96,3 +99,28 @@ Yields at x r v f = (r ≡ foundNumber (x .answer)) × ((v ≡ foundValues at (x
 pub pumxaqert-stream-next-unique : (b f : List ℕ) (r q : ℕ) (v w g h : List ℕ) → Yields (placeFrom f .at) (yielded b (placeFrom f)) r v g
     → Yields (placeFrom f .at) (yielded b (placeFrom f)) q w h → (r ≡ q) × (v ≡ w) × (g ≡ h)
 pumxaqert-stream-next-unique b f r q v w g h x y = (x .0 ∙ sym (y .0), x .1 .0 ∙ sym (y .1 .0), x .1 .1 ∙ sym (y .1 .1))
+
+pub pumxaqert-entry-length-unique : (k r q : ℕ) → r ≡ entryLength k → q ≡ entryLength k → r ≡ q
+pumxaqert-entry-length-unique k r q a b = a ∙ sym b
+
+-- what writing an entry ensures of its number, the count and the room
+abbrev Enters : Entered → ℕ → ℕ → List ℕ → Type 0
+Enters x r k o = (r ≡ enteringNumber (x .answer)) × ((k ≡ enteringLength (x .answer)) × (o ≡ x .out))
+
+module _ (n s c : ℕ) (table out : List ℕ) (i j r q k l : ℕ) (o p : List ℕ) where
+  entry-unique : (x : Entered) → Enters x r k o → Enters x q l p → (r ≡ q) × (k ≡ l) × (o ≡ p)
+  entry-unique x f g = (f .0 ∙ sym (g .0), f .1 .0 ∙ sym (g .1 .0), f .1 .1 ∙ sym (g .1 .1))
+
+  pub pumxaqert-record-entry-unique : Enters (recordEntered n s c table out i j) r k o → Enters (recordEntered n s c table out i j) q l p → (r ≡ q) × (k ≡ l) × (o ≡ p)
+  pumxaqert-record-entry-unique = entry-unique (recordEntered n s c table out i j)
+
+  pub pumxaqert-mark-entry-unique : Enters (markEntered n s c table out i j) r k o → Enters (markEntered n s c table out i j) q l p → (r ≡ q) × (k ≡ l) × (o ≡ p)
+  pumxaqert-mark-entry-unique = entry-unique (markEntered n s c table out i j)
+
+-- what a replay ensures of its number, the offset and the table
+abbrev Replays : Replayed → ℕ → ℕ → List ℕ → Type 0
+Replays x r a t = (r ≡ replayingNumber (x .answer)) × ((a ≡ replayingOffset (x .answer)) × (t ≡ x .table))
+
+pub pumxaqert-replay-unique : (n s c : ℕ) (table b : List ℕ) (r q i j : ℕ) (t u : List ℕ) → Replays (replayed n s c table b) r i t → Replays (replayed n s c table b) q j u
+    → (r ≡ q) × (i ≡ j) × (t ≡ u)
+pumxaqert-replay-unique n s c table b r q i j t u x y = (x .0 ∙ sym (y .0), x .1 .0 ∙ sym (y .1 .0), x .1 .1 ∙ sym (y .1 .1))
