@@ -116,13 +116,14 @@ fn cut_among_marks() {
     assert_eq!(folder.start().order(), [own(1), own(2), own(3)]);
 }
 
-/// A nudge of what is committed repeats its entry: the journal grows, and the table stays.
+/// Each recovery of an instance that no copy knows is at a higher ballot: the journal grows, and the edits stay.
 fn grow(site: &mut Site, events: usize) -> bool {
-    let nudged = |_| {
-        let outcome = site.event(|s, table, out| s.nudge(table, out, own(3)));
+    let unknown = Instance { owner: 1, number: 1 };
+    let recovered = |_| {
+        let outcome = site.event(|s, table, out| s.recover(table, out, unknown));
         matches!(outcome, Ok(Outcome::Answered(..)))
     };
-    (0..events).all(nudged)
+    (0..events).all(recovered)
 }
 
 #[test]
