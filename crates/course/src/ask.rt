@@ -1,6 +1,8 @@
 // The settled question and the hand-out at a copy.
+use crate::restart::with_room;
 use crate::turn::Turn;
 use crate::turn::went;
+use crate::work::say_part;
 use nouns::setup::INSTANCES;
 use order::Handing;
 use order::Settling;
@@ -13,9 +15,12 @@ use say::value::put_command;
 use say::value::put_refusal;
 use say::value::say;
 use scene::Scene;
+use scene::copies::Marks;
 use scene::copies::marks_saved;
 use scene::copies::stopped;
-use scene::tables::save;
+use scene::disks::mark_entry;
+use scene::disks::save;
+use scene::disks::save_part;
 use scene::tables::table_in;
 use scene::tables::table_mut;
 use text::put::finish;
@@ -54,23 +59,35 @@ fn say_handed(all: &[u8], w: Scene, c: usize, o: usize, j: usize) {
 }
 
 // One handed-out instance: its mark is saved.
-fn hand_one(all: &mut [u8], w: Scene, c: usize, code: u16) {
-    let o = owner_of(code);
-    let j = number_of(code);
-    save(&mut *all, w, c, o, j);
-    say_handed(&*all, w, c, o, j);
+fn hand_one(all: &mut [u8], w: Scene, c: usize, code: u16) -> Scene {
+    say_handed(&*all, w, c, owner_of(code), number_of(code));
+    let entry = mark_entry(&*all, w, c, code);
+    save(all, w, c, entry)
 }
 
 // The marks are saved in the order of the list, as many as come before a cut.
-fn save_marks(all: &mut [u8], w: Scene, c: usize, list: &[u16], count: usize) {
+fn save_marks(all: &mut [u8], w: Scene, c: usize, list: &[u16], count: usize) -> Scene {
+    let mut now = w;
     let mut i = 0;
     while i < list.len() {
         if count <= i {
             break;
         }
-        hand_one(&mut *all, w, c, list[i]);
+        now = hand_one(&mut *all, now, c, list[i]);
         i += 1;
     }
+    now
+}
+
+fn code_at(list: &[u16], i: usize) -> u16 {
+    if i < list.len() { list[i] } else { 0 }
+}
+
+// What a cut leaves of the mark behind those that are saved.
+fn cut_mark(all: &mut [u8], w: Scene, c: usize, list: &[u16], marks: Marks) -> Scene {
+    let entry = mark_entry(&*all, w, c, code_at(list, marks.count));
+    say_part(c, marks.bytes, entry.length);
+    save_part(all, w, c, entry, marks.bytes)
 }
 
 fn say_empty(c: usize, k: usize) {
@@ -83,9 +100,9 @@ fn say_empty(c: usize, k: usize) {
 fn listed(all: &mut [u8], w: Scene, c: usize, list: &[u16], k: usize) -> Turn {
     let marks = marks_saved(w, c, k);
     say_empty(c, k);
-    save_marks(all, w, c, list, marks.count);
+    let next = save_marks(&mut *all, w, c, list, marks.count);
     if !marks.cut {
-        return went(w);
+        return went(next);
     }
     say(
         b"  copy # is cut off after # of # marks are saved",
@@ -93,7 +110,7 @@ fn listed(all: &mut [u8], w: Scene, c: usize, list: &[u16], k: usize) -> Turn {
         marks.count,
         k,
     );
-    went(stopped(w, c))
+    went(stopped(cut_mark(all, next, c, list, marks), c))
 }
 
 fn hand_out_in(all: &mut [u8], w: Scene, c: usize, list: &mut [u16]) -> Turn {
@@ -108,10 +125,11 @@ fn hand_out_in(all: &mut [u8], w: Scene, c: usize, list: &mut [u16]) -> Turn {
 }
 
 // Copy c hands out what it can, at most `room` instances.
-pub fn hand_out(all: &mut [u8], w: Scene, c: usize, room: usize) -> Turn {
+pub fn hand_out(all: &mut [u8], old: Scene, c: usize, room: usize) -> Turn {
     let mut list = [0u16; INSTANCES];
     if INSTANCES < room {
-        return went(w);
+        return went(old);
     }
+    let w = with_room(&mut *all, old, c);
     hand_out_in(all, w, c, &mut list[..room])
 }

@@ -1,4 +1,5 @@
 // An event's course at a copy: the library's answer, the save, the sending. A cut takes the rest.
+use crate::restart::with_room;
 use crate::turn::Turn;
 use crate::turn::halted;
 use crate::turn::went;
@@ -10,11 +11,14 @@ use say::value::begin;
 use say::value::say;
 use say::wrong::put_wrong;
 use scene::Scene;
+use scene::copies::bytes_saved;
 use scene::copies::cut_before_saving;
 use scene::copies::cut_before_sending;
 use scene::copies::stopped;
-use scene::tables::is_changed;
-use scene::tables::save;
+use scene::disks::is_changed;
+use scene::disks::record_entry;
+use scene::disks::save;
+use scene::disks::save_part;
 use scene::tables::table_in;
 use scene::tables::table_mut;
 use scene::way::is_full;
@@ -34,13 +38,36 @@ fn say_saved(all: &[u8], w: Scene, c: usize, o: usize, j: usize) {
 }
 
 // The copy saves what changed in the record of o.j, and says what it holds then.
-fn save_record(all: &mut [u8], w: Scene, c: usize, o: usize, j: usize) {
-    if !is_changed(&*all, w, c, o, j) {
+fn save_record(all: &mut [u8], w: Scene, c: usize, o: usize, j: usize, changed: bool) -> Scene {
+    if !changed {
         say(b"  copy #: nothing changes", c, 0, 0);
+        return w;
+    }
+    say_saved(&*all, w, c, o, j);
+    let entry = record_entry(&*all, w, c, o, j);
+    save(all, w, c, entry)
+}
+
+// What a cut leaves of an entry that it falls into.
+pub fn say_part(c: usize, part: usize, length: usize) {
+    if part == 0 {
         return;
     }
-    save(&mut *all, w, c, o, j);
-    say_saved(&*all, w, c, o, j);
+    say(
+        b"  copy # has # of the entry's # bytes on its disk",
+        c,
+        part,
+        length,
+    );
+}
+
+// The entry is not whole: nothing leaves.
+fn cut_entry(all: &mut [u8], w: Scene, c: usize, o: usize, j: usize) -> Turn {
+    let entry = record_entry(&*all, w, c, o, j);
+    let reach = bytes_saved(w, c);
+    say(b"  copy # is cut off before it saves #.#", c, o, j);
+    say_part(c, reach, entry.length);
+    went(stopped(save_part(all, w, c, entry, reach), c))
 }
 
 // One message leaves copy c: it is on the way from now on.
@@ -86,16 +113,16 @@ fn save_and_send(
     room: &[u8],
     written: usize,
 ) -> Turn {
-    if cut_before_saving(w, c) {
-        say(b"  copy # is cut off before it saves #.#", c, o, j);
-        return went(stopped(w, c));
+    let changed = is_changed(&*all, w, c, o, j);
+    if cut_before_saving(w, c, changed) {
+        return cut_entry(all, w, c, o, j);
     }
-    save_record(&mut *all, w, c, o, j);
+    let next = save_record(&mut *all, w, c, o, j, changed);
     if cut_before_sending(w, c) {
         say(b"  copy # is cut off before it sends", c, 0, 0);
-        return went(stopped(w, c));
+        return went(stopped(next, c));
     }
-    send_all(all, w, c, room, written)
+    send_all(all, next, c, room, written)
 }
 
 fn refused(w: Scene, c: usize, b: &[u8], why: Refusal) -> Turn {
@@ -127,8 +154,9 @@ fn on_table(t: &mut [u8], w: Scene, c: usize, what: Event, b: &[u8], room: &mut 
 }
 
 // An event at a copy that is up.
-pub fn event(all: &mut [u8], w: Scene, c: usize, what: Event, b: &[u8]) -> Turn {
+pub fn event(all: &mut [u8], old: Scene, c: usize, what: Event, b: &[u8]) -> Turn {
     let mut room = [0u8; 256];
+    let w = with_room(&mut *all, old, c);
     let answer = on_table(table_mut(&mut *all, w, c), w, c, what, b, &mut room);
     answered(all, w, c, b, answer, &room)
 }

@@ -5,7 +5,7 @@ use course::turn::went;
 use say::reason::put_reason;
 use say::value::begin;
 use scene::copies::begun;
-use scene::tables::ALL;
+use scene::disks::ALL;
 use text::lines::before_first;
 use text::lines::next_line;
 use text::put::finish;

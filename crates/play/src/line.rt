@@ -3,10 +3,15 @@ use course::ask::ask;
 use course::ask::hand_out;
 use course::deliver::between;
 use course::deliver::deliver_all;
+use course::restart::begin_journal;
+use course::restart::restart;
 use course::turn::Turn;
 use course::turn::halted;
 use course::turn::went;
 use course::work::event;
+use journal::entry::MARK;
+use journal::entry::RECORD;
+use journal::entry::entry_length;
 use nouns::setup::setup_ok;
 use say::show::show_all;
 use say::show::show_copy;
@@ -15,10 +20,8 @@ use scene::Scene;
 use scene::copies::awaiting;
 use scene::copies::begun;
 use scene::copies::is_down;
-use scene::copies::restarted;
 use scene::copies::stopped;
-use scene::tables::blank_all;
-use scene::tables::restore;
+use scene::disks::blank_all;
 use script::Act;
 use script::Moment;
 use script::Reason;
@@ -47,12 +50,25 @@ fn act(all: &mut [u8], w: Scene, c: usize, what: Act) -> Turn {
         Act::Event(what) => event(all, w, c, what, &none[..0]),
         Act::Ask { o, j } => ask(&*all, w, c, o, j),
         Act::HandOut(room) => hand_out(all, w, c, room),
+        Act::Anew => begin_journal(all, w, c),
+    }
+}
+
+// An entry has the byte that the cut falls at.
+fn has_byte(when: Moment) -> bool {
+    match when {
+        Moment::Entry(bytes) => bytes < entry_length(RECORD),
+        Moment::Marks { whole: _, bytes } => bytes < entry_length(MARK),
+        _ => true,
     }
 }
 
 fn cut(w: Scene, c: usize, when: Moment) -> Turn {
     if is_down(w, c) {
         return halted(w, Reason::IsDown);
+    }
+    if !has_byte(when) {
+        return halted(w, Reason::NoEntryByte);
     }
     match when {
         Moment::Now => {
@@ -61,15 +77,6 @@ fn cut(w: Scene, c: usize, when: Moment) -> Turn {
         }
         _ => went(awaiting(w, c, when)),
     }
-}
-
-fn restart(all: &mut [u8], w: Scene, c: usize) -> Turn {
-    if !is_down(w, c) {
-        return halted(w, Reason::IsUp);
-    }
-    restore(all, w, c);
-    say(b"  copy # goes on with what it saved", c, 0, 0);
-    went(restarted(w, c))
 }
 
 // The copy that a step names.

@@ -1,6 +1,9 @@
 // The settled question and the hand-out.
 use crate::event::put_no;
+use crate::kept::keep_marks;
+use crate::told::Outcome;
 use crate::told::Told;
+use crate::told::said;
 use nouns::command::op_number;
 use nouns::logic::wide16;
 use nouns::logic::wide32;
@@ -60,18 +63,24 @@ fn put_listed(list: &[u16], k: usize) -> Text {
     put_codes(list, k)
 }
 
-fn hand_out_in(t: &mut [u8], w: Told, list: &mut [u16]) -> Text {
-    match order::hand_out::hand_out(t, w.n, w.s, w.c, &mut *list) {
-        Handing::Codes(k) => put_listed(&*list, k),
-        Handing::Refused(why) => put_no(why),
+// The marks go into the journal.
+fn handed(w: Told, answer: Handing, t: &[u8], d: &mut [u8], list: &[u16]) -> Outcome {
+    match answer {
+        Handing::Codes(k) => said(put_listed(list, k), keep_marks(w, t, d, list, k)),
+        Handing::Refused(why) => said(put_no(why), w),
     }
 }
 
+fn hand_out_in(t: &mut [u8], w: Told, d: &mut [u8], list: &mut [u16]) -> Outcome {
+    let answer = order::hand_out::hand_out(&mut *t, w.n, w.s, w.c, &mut *list);
+    handed(w, answer, &*t, d, &*list)
+}
+
 // C handout ROOM
-pub fn hand_out(t: &mut [u8], w: Told, room: usize) -> Text {
+pub fn hand_out(t: &mut [u8], w: Told, d: &mut [u8], room: usize) -> Outcome {
     let mut list = [0u16; INSTANCES];
     if INSTANCES < room {
-        return bad_line();
+        return said(bad_line(), w);
     }
-    hand_out_in(t, w, &mut list[..room])
+    hand_out_in(t, w, d, &mut list[..room])
 }

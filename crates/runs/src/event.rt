@@ -1,10 +1,13 @@
 // The calls for events: request, message, recover and nudge.
+use crate::kept::keep_record;
+use crate::told::Outcome;
 use crate::told::Told;
+use crate::told::said;
 use log::Answer;
+use nouns::logic::both;
 use paper::Refusal;
 use text::bytes::front;
 use text::bytes::low32;
-use text::forms::NUMBERS;
 use text::forms::Read;
 use text::put::Text;
 use text::put::bad_line;
@@ -19,7 +22,7 @@ pub fn put_no(why: Refusal) -> Text {
     put_refused(put_bytes(empty(), b"="), why)
 }
 
-pub fn put_answer(answer: Answer, room: &[u8]) -> Text {
+fn put_answer(answer: Answer, room: &[u8]) -> Text {
     match answer {
         Answer::Refused(why) => put_no(why),
         Answer::Event {
@@ -34,31 +37,38 @@ pub fn put_answer(answer: Answer, room: &[u8]) -> Text {
     }
 }
 
-// C request OP KEY EDIT. A key is a u32.
-pub fn request(t: &mut [u8], w: Told, room: &mut [u8], v: [usize; NUMBERS]) -> Text {
-    if 4294967295 < v[2] {
-        return bad_line();
+// What happened goes into the journal.
+fn kept(w: Told, answer: Answer, t: &[u8], d: &mut [u8]) -> Told {
+    match answer {
+        Answer::Refused(_) => w,
+        Answer::Event {
+            owner,
+            number,
+            written: _,
+        } => keep_record(w, t, d, owner, number),
     }
-    let answer = request::ask::request(t, w.n, w.s, w.c, &mut *room, v[1], low32(v[2]), wide(v[3]));
-    put_answer(answer, &*room)
 }
 
-// C message BYTES
-pub fn message(t: &mut [u8], w: Told, room: &mut [u8], got: Read) -> Text {
+// The library's answer, by the place of the call's form.
+fn answer_of(got: Read, w: Told, t: &mut [u8], room: &mut [u8]) -> Answer {
+    let v = got.v;
     let bytes = got.bytes;
-    let told = front(&bytes, got.length);
-    let answer = receive::message::message(t, w.n, w.s, w.c, &mut *room, told);
-    put_answer(answer, &*room)
+    let form = got.form;
+    match form {
+        6 => request::ask::request(t, w.n, w.s, w.c, room, v[1], low32(v[2]), wide(v[3])),
+        7 => receive::message::message(t, w.n, w.s, w.c, room, front(&bytes, got.length)),
+        8 => recover::recover(t, w.n, w.s, w.c, room, v[1], v[2]),
+        _ => nudge::nudge(t, w.n, w.s, w.c, room, v[1], v[2]),
+    }
 }
 
-// C recover OWNER NUMBER
-pub fn recover(t: &mut [u8], w: Told, room: &mut [u8], o: usize, j: usize) -> Text {
-    let answer = recover::recover(t, w.n, w.s, w.c, &mut *room, o, j);
-    put_answer(answer, &*room)
-}
-
-// C nudge OWNER NUMBER
-pub fn nudge(t: &mut [u8], w: Told, room: &mut [u8], o: usize, j: usize) -> Text {
-    let answer = nudge::nudge(t, w.n, w.s, w.c, &mut *room, o, j);
-    put_answer(answer, &*room)
+// C request OP KEY EDIT, C message BYTES, C recover OWNER NUMBER, C nudge OWNER NUMBER. A key is a u32.
+pub fn event(got: Read, w: Told, t: &mut [u8], d: &mut [u8], room: &mut [u8]) -> Outcome {
+    let v = got.v;
+    if both(got.form == 6, 4294967295 < v[2]) {
+        return said(bad_line(), w);
+    }
+    let answer = answer_of(got, w, &mut *t, &mut *room);
+    let text = put_answer(answer, &*room);
+    said(text, kept(w, answer, &*t, d))
 }

@@ -1,17 +1,24 @@
 // Plays the lines of the input: a run, how calls are made, or a call and its answer.
 use crate::asked;
 use crate::event;
+use crate::kept::cut;
+use crate::kept::ready;
 use crate::streamed::stream_line;
 use crate::streamed::take_line;
+use crate::told::Outcome;
 use crate::told::Told;
 use crate::told::at_copy;
 use crate::told::begun;
+use crate::told::poked;
+use crate::told::said;
 use crate::told::way;
+use storage::DISK;
 use table::LONGEST;
 use text::bytes::checksum;
 use text::bytes::fill;
 use text::bytes::front;
 use text::bytes::front_mut;
+use text::bytes::part;
 use text::bytes::part_mut;
 use text::bytes::write;
 use text::forms::BYTES;
@@ -30,9 +37,17 @@ const TABLES: usize = 7 * LONGEST;
 
 const AREAS: usize = TABLES + BYTES;
 
+// A disk for each copy.
+const DISKS: usize = 7 * DISK;
+
 // Where the area of a copy starts; a copy past the seventh has none, and gets the end of all.
 fn start_of(c: usize) -> usize {
     if 6 < c { AREAS } else { c * LONGEST }
+}
+
+fn disk_of(disks: &mut [u8], c: usize) -> &mut [u8] {
+    let start = if 6 < c { DISKS } else { c * DISK };
+    part_mut(disks, start, DISK)
 }
 
 // Blanks the tables of copies 0 to 6, as far as the setup has them.
@@ -50,17 +65,15 @@ fn play_run(got: Read, all: &mut [u8]) -> Told {
 }
 
 // The answer to a call, by the place of its form.
-fn answer_of(got: Read, w: Told, t: &mut [u8], room: &mut [u8]) -> Text {
+fn answer_of(got: Read, w: Told, t: &mut [u8], d: &mut [u8], room: &mut [u8]) -> Outcome {
     let v = got.v;
     let form = got.form;
     match form {
-        6 => event::request(t, w, room, v),
-        7 => event::message(t, w, room, got),
-        8 => event::recover(t, w, room, v[1], v[2]),
-        9 => event::nudge(t, w, room, v[1], v[2]),
-        10 => asked::settled(&*t, w, v[1], v[2]),
-        11 => asked::hand_out(t, w, v[1]),
-        _ => bad_line(),
+        6 | 7 | 8 | 9 => event::event(got, w, t, d, room),
+        10 => said(asked::settled(&*t, w, v[1], v[2]), w),
+        11 => asked::hand_out(t, w, d, v[1]),
+        12 => cut(w, v[0], v[1], t, &*d),
+        _ => said(bad_line(), w),
     }
 }
 
@@ -72,44 +85,60 @@ fn put_watched(out: Text, w: Told, t: &[u8], room: &[u8]) -> Text {
     put_number(put_number(out, checksum(t)), checksum(room))
 }
 
-fn play_in(got: Read, w: Told, t: &mut [u8], room: &mut [u8]) {
-    let told = answer_of(got, w, &mut *t, &mut *room);
-    finish(put_watched(told, w, &*t, &*room));
+fn play_in(got: Read, w: Told, t: &mut [u8], d: &mut [u8], room: &mut [u8]) -> Told {
+    let answer = answer_of(got, w, &mut *t, d, &mut *room);
+    let text = answer.text;
+    finish(put_watched(text, w, &*t, &*room));
+    answer.told
 }
 
 // C poke AT BYTES
-fn poke(got: Read, t: &mut [u8]) {
+fn poke(got: Read, w: Told, t: &mut [u8]) -> Told {
     let bytes = got.bytes;
-    write(t, got.v[1], front(&bytes, got.length));
+    let v = got.v;
+    write(t, v[1], front(&bytes, got.length));
+    poked(w, v[0])
 }
 
 // A call with the part of the copy's area that is lent.
-fn play_call(got: Read, w: Told, t: &mut [u8]) {
+fn play_call(got: Read, w: Told, t: &mut [u8], d: &mut [u8]) -> Told {
     let mut room = [0xEEu8; BYTES];
     if got.form == 5 {
-        poke(got, t);
-        return;
+        return poke(got, w, t);
     }
     if BYTES < w.room {
         finish(bad_line());
-        return;
+        return w;
     }
-    play_in(got, w, t, front_mut(&mut room, w.room));
+    play_in(got, w, t, d, front_mut(&mut room, w.room))
 }
 
-fn play_copy(got: Read, w: Told, all: &mut [u8]) {
-    let copy = got.v[0];
+// A call is about to be made; a cut is none.
+fn before_call(got: Read, w: Told, all: &[u8], disks: &mut [u8]) -> Told {
+    let v = got.v;
+    let copy = v[0];
+    if got.form == 12 {
+        return w;
+    }
+    let t = part(all, start_of(copy), LONGEST);
+    ready(w, copy, t, disk_of(disks, copy))
+}
+
+fn play_copy(got: Read, old: Told, all: &mut [u8], disks: &mut [u8]) -> Told {
+    let v = got.v;
+    let copy = v[0];
+    let w = before_call(got, old, &*all, &mut *disks);
     let t = part_mut(all, start_of(copy), w.length);
     if t.len() != w.length {
         finish(bad_line());
-        return;
+        return w;
     }
-    play_call(got, at_copy(w, copy), t);
+    play_call(got, at_copy(w, copy), t, disk_of(disks, copy))
 }
 
 // stream ROOM, or take BYTES
 fn play_stream(got: Read, w: Told, all: &mut [u8]) -> Told {
-    if got.form == 13 {
+    if got.form == 14 {
         return take_line(got, w, part_mut(all, TABLES, w.buffer));
     }
     let room = got.v[0];
@@ -122,16 +151,13 @@ fn play_stream(got: Read, w: Told, all: &mut [u8]) -> Told {
 }
 
 // Plays one line that is read, by the place of its form; how the calls after it are made.
-fn play_read(got: Read, w: Told, all: &mut [u8]) -> Told {
+fn play_read(got: Read, w: Told, all: &mut [u8], disks: &mut [u8]) -> Told {
     let form = got.form;
     match form {
         0 => play_run(got, all),
         1 | 2 | 3 | 4 => way(got, w),
-        5 | 6 | 7 | 8 | 9 | 10 | 11 => {
-            play_copy(got, w, all);
-            w
-        }
-        12 | 13 => play_stream(got, w, all),
+        5 | 6 | 7 | 8 | 9 | 10 | 11 | 12 => play_copy(got, w, all, disks),
+        13 | 14 => play_stream(got, w, all),
         _ => {
             finish(bad_line());
             w
@@ -139,7 +165,7 @@ fn play_read(got: Read, w: Told, all: &mut [u8]) -> Told {
     }
 }
 
-fn play_line(line: &[u8], w: Told, all: &mut [u8]) -> Told {
+fn play_line(line: &[u8], w: Told, all: &mut [u8], disks: &mut [u8]) -> Told {
     if is_passed_over(line) {
         return w;
     }
@@ -157,14 +183,15 @@ fn play_line(line: &[u8], w: Told, all: &mut [u8]) -> Told {
             |# nudge # #\
             |# settled # #\
             |# handout #\
+            |# cut #\
             |stream #\
             |take @",
     );
-    play_read(got, w, all)
+    play_read(got, w, all, disks)
 }
 
 // A proved loop has to end, and nothing says that the input does: the lines count down from a number that no run uses up.
-fn play_lines(buf: &mut [u8], all: &mut [u8]) {
+fn play_lines(buf: &mut [u8], all: &mut [u8], disks: &mut [u8]) {
     let mut lines = u64::MAX;
     let mut w = begun(0, 0);
     let mut line = before_first();
@@ -175,17 +202,18 @@ fn play_lines(buf: &mut [u8], all: &mut [u8]) {
         }
         let from = line.from;
         let end = line.end;
-        w = play_line(&buf[from..end], w, &mut *all);
+        w = play_line(&buf[from..end], w, &mut *all, &mut *disks);
         lines -= 1;
     }
 }
 
-fn play_areas(buf: &mut [u8], all: &mut [u8; AREAS]) {
-    play_lines(buf, all);
+fn play_areas(buf: &mut [u8], all: &mut [u8; AREAS], disks: &mut [u8; DISKS]) {
+    play_lines(buf, all, disks);
 }
 
 pub fn play_input() {
     let mut buf = io::large_buffer();
     let mut all = [0u8; AREAS];
-    play_areas(&mut buf, &mut all);
+    let mut disks = [0u8; DISKS];
+    play_areas(&mut buf, &mut all, &mut disks);
 }

@@ -4,6 +4,7 @@ pub mod held;
 pub mod message;
 pub mod range;
 pub mod reason;
+pub mod restart;
 pub mod show;
 pub mod value;
 pub mod wrong;

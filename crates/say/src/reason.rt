@@ -22,8 +22,9 @@ fn name_at(why: Reason) -> usize {
         Reason::NoMessage => 13,
         Reason::NoByte => 14,
         Reason::ByteValue => 15,
-        Reason::WayFull => 16,
-        Reason::Restless => 17,
+        Reason::NoEntryByte => 16,
+        Reason::WayFull => 17,
+        Reason::Restless => 18,
     }
 }
 
@@ -34,10 +35,10 @@ pub fn put_reason(out: Text, why: Reason) -> Text {
         b"a line begins with copies, copy, deliver, drop, repeat, damage, shorten, cut, stop, restart, show or #\
             |say: copies 3, numbers 4\
             |say: copy 0 requests write key 7 edit 100, requests read key 7, recovers 0.1, nudges 0.1, \
-            is asked about 0.1, hands out, or hands out up to 2\
+            is asked about 0.1, hands out, hands out up to 2, or begins its journal anew\
             |say: deliver 0 to 1, deliver 0 to 1 at 2, deliver all, drop 0 to 1, or repeat 0 to 1\
             |say: damage 0 to 1 byte 15 as 9, or shorten 0 to 1 to 6 bytes\
-            |say: cut copy 0 before saving, before sending, or after 1 mark\
+            |say: cut copy 0 before saving, before sending, after 1 mark, at byte 100 of its entry, or at byte 2 of mark 1\
             |say: stop copy 0, or restart copy 0\
             |say: show, or show copy 0\
             |there are no copies yet: begin with copies 3, numbers 4\
@@ -48,6 +49,7 @@ pub fn put_reason(out: Text, why: Reason) -> Text {
             |no message is on the way between the two\
             |the message has fewer bytes\
             |a byte is 0 to 255\
+            |the entry has fewer bytes\
             |more than 512 messages are on the way\
             |the copies do not come to rest",
         name_at(why),

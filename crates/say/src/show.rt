@@ -6,14 +6,15 @@ use crate::value::begin;
 use crate::value::say;
 use scene::Scene;
 use scene::copies::is_down;
-use scene::tables::saved;
-use scene::tables::table_in;
+use scene::disks::saved;
 use scene::way::from_at;
 use scene::way::message_at;
 use scene::way::number_at;
 use scene::way::to_at;
 use table::HEAD;
+use table::length_of;
 use table::record_part;
+use text::bytes::front;
 use text::put::finish;
 
 fn show_record(t: &[u8], w: Scene, c: usize, o: usize, j: usize) {
@@ -66,7 +67,9 @@ fn say_copy(w: Scene, c: usize, nothing: bool) {
 
 // What a copy has saved; a copy that is up holds nothing else.
 pub fn show_copy(all: &[u8], w: Scene, c: usize) {
-    let t = table_in(all, w, saved(c));
+    let kept = saved(all, w, c);
+    let table = kept.table;
+    let t = front(&table, length_of(w.n, w.s));
     say_copy(w, c, holds_nothing(t));
     show_rows(t, w, c);
 }

@@ -7,9 +7,12 @@
 //     shorten 0 to 1 to 6 bytes                 it stays on the way; only its first 6 bytes are left
 //     deliver all                               until nothing is on the way
 //     cut copy 0 before saving                  its next step, that is; or: before sending, after 1 mark
+//     cut copy 0 at byte 100 of its entry       100 bytes of the next event's entry reach the disk
+//     cut copy 0 at byte 2 of mark 3            of the next hand-out's third mark, 2 bytes
 //     stop copy 0 · restart copy 0
 //     copy 2 recovers 0.1 · copy 0 nudges 0.1
 //     copy 1 is asked about 0.1 · copy 1 hands out · copy 1 hands out up to 2
+//     copy 1 begins its journal anew            with the table that it has now
 //     show · show copy 1
 // A line that begins with # is the story's text.
 pub mod line;
@@ -27,6 +30,7 @@ pub enum Act {
     Event(Event),
     Ask { o: usize, j: usize },
     HandOut(usize),
+    Anew,
 }
 
 // What becomes of a message.
@@ -39,12 +43,14 @@ pub enum Fate {
     Shorten(usize),
 }
 
-// When a copy is cut off: at once, or in its next step.
+// When a copy is cut off: at once, or in its next step. `Entry`: so many bytes of an event's entry are saved; `Marks`: so many
+// marks of a hand-out, and bytes of the next one.
 pub enum Moment {
     Now,
     Saving,
     Sending,
-    Marks(usize),
+    Entry(usize),
+    Marks { whole: usize, bytes: usize },
 }
 
 // Why a step is not taken.
@@ -65,6 +71,7 @@ pub enum Reason {
     NoMessage,
     NoByte,
     ByteValue,
+    NoEntryByte,
     WayFull,
     Restless,
 }

@@ -89,6 +89,19 @@ fn cut(c: usize, when: Moment) -> Step {
     Step::Cut(c, when)
 }
 
+fn cut_after(c: usize, whole: usize) -> Step {
+    cut(c, Moment::Marks { whole, bytes: 0 })
+}
+
+// Marks are counted from 1.
+fn cut_inside(c: usize, bytes: usize, mark: usize) -> Step {
+    if mark == 0 {
+        return Step::Bad(Reason::Cut);
+    }
+    let whole = mark - 1;
+    cut(c, Moment::Marks { whole, bytes })
+}
+
 // A step by the place of its form below.
 fn step(line: &[u8], form: usize, a: usize, b: usize, c: usize, d: usize) -> Step {
     match form {
@@ -97,12 +110,15 @@ fn step(line: &[u8], form: usize, a: usize, b: usize, c: usize, d: usize) -> Ste
         8 | 9 | 10 | 11 | 12 | 13 | 14 => between(form, a, b, c, d),
         15 => cut(a, Moment::Saving),
         16 => cut(a, Moment::Sending),
-        17 | 18 => cut(a, Moment::Marks(b)),
-        19 => cut(a, Moment::Now),
-        20 => Step::Restart(a),
-        21 => Step::Show,
-        22 => Step::ShowCopy(a),
-        23 => Step::Copies { n: a, s: b },
+        17 | 18 => cut_after(a, b),
+        19 => cut(a, Moment::Entry(b)),
+        20 => cut_inside(a, b, c),
+        21 => cut(a, Moment::Now),
+        22 => Step::Restart(a),
+        23 => Step::Show,
+        24 => Step::ShowCopy(a),
+        25 => Step::Copies { n: a, s: b },
+        26 => Step::At(a, Act::Anew),
         _ => Step::Bad(reason_of(line)),
     }
 }
@@ -158,11 +174,14 @@ pub fn step_of(line: &[u8]) -> Step {
             |cut copy # before sending\
             |cut copy # after # marks\
             |cut copy # after # mark\
+            |cut copy # at byte # of its entry\
+            |cut copy # at byte # of mark #\
             |stop copy #\
             |restart copy #\
             |show\
             |show copy #\
-            |copies #, numbers #",
+            |copies #, numbers #\
+            |copy # begins its journal anew",
     );
     let v = got.v;
     step(line, got.form, v[0], v[1], v[2], v[3])

@@ -11,6 +11,9 @@ went-requires c κs = search needs
 returns : tie.Need-returns
 returns c = search needs
 
+with-room-requires : tie.Need-with-room-requires
+with-room-requires c κs = search needs
+
 array-borrow-prefix-list : tie.Need-array-borrow-prefix-list
 array-borrow-prefix-list c = search needs
 
@@ -32,6 +35,7 @@ hand-out-spec =
     (tie.spec
     went-requires
     returns
+    with-room-requires
     array-borrow-prefix-list
     slice-aggregate-hand-out-in
     hand-out-in-requires

@@ -6,10 +6,10 @@ use Rattle.course.proofs.ask.save_marks.Statement.{statement}
 use Rattle.course.proofs.ask.save_marks.Tie as tie
 
 abbrev Inv-loop : tie.InvT-loop
-Inv-loop all₀ w c list count i₀ all i = length all ≡ length all₀
+Inv-loop all₀ c list count now₀ i₀ all now i = length all ≡ length all₀
 
 abbrev μ-loop : tie.MeasureT-loop
-μ-loop all₀ w c list count i₀ all i = length list - i
+μ-loop all₀ c list count now₀ i₀ all now i = length list - i
 
 loop-holds : tie.Need-loop-holds Inv-loop μ-loop
 loop-holds c = search needs

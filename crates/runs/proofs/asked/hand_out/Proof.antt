@@ -8,6 +8,9 @@ use Rattle.runs.proofs.asked.hand_out.Tie as tie
 bad-line-requires : tie.Need-bad-line-requires
 bad-line-requires c κs = search needs
 
+said-requires : tie.Need-said-requires
+said-requires c κs = search needs
+
 returns : tie.Need-returns
 returns c = search needs
 
@@ -23,6 +26,9 @@ hand-out-in-requires c κs = search needs
 same-length : tie.Need-same-length
 same-length c = search needs
 
+same-length-2 : tie.Need-same-length-2
+same-length-2 c = search needs
+
 returns-2 : tie.Need-returns-2
 returns-2 c = search needs
 
@@ -31,9 +37,11 @@ hand-out-spec =
     tie.close
     (tie.spec
     bad-line-requires
+    said-requires
     returns
     array-borrow-prefix-list
     slice-aggregate-hand-out-in
     hand-out-in-requires
     same-length
+    same-length-2
     returns-2)

@@ -5,10 +5,10 @@ use Rattle.runs.proofs.play.play_lines.Statement.{statement}
 use Rattle.runs.proofs.play.play_lines.Tie as tie
 
 abbrev Inv-loop : tie.InvT-loop
-Inv-loop buf₀ all₀ lines₀ w₀ line₀ buf all lines w line = (length buf ≡ length buf₀) × (length all ≡ length all₀)
+Inv-loop buf₀ all₀ disks₀ lines₀ w₀ line₀ buf all disks lines w line = (length buf ≡ length buf₀) × ((length all ≡ length all₀) × (length disks ≡ length disks₀))
 
 abbrev μ-loop : tie.MeasureT-loop
-μ-loop buf₀ all₀ lines₀ w₀ line₀ buf all lines w line = lines
+μ-loop buf₀ all₀ disks₀ lines₀ w₀ line₀ buf all disks lines w line = lines
 
 begun-requires : tie.Need-begun-requires Inv-loop μ-loop
 begun-requires c κs = search needs
@@ -49,14 +49,20 @@ same-length c = search needs
 same-length-2 : tie.Need-same-length-2 Inv-loop μ-loop
 same-length-2 c = search needs
 
-returns : tie.Need-returns Inv-loop μ-loop
-returns c = search needs
-
 same-length-3 : tie.Need-same-length-3 Inv-loop μ-loop
 same-length-3 c = search needs
 
+returns : tie.Need-returns Inv-loop μ-loop
+returns c = search needs
+
 same-length-4 : tie.Need-same-length-4 Inv-loop μ-loop
 same-length-4 c = search needs
+
+same-length-5 : tie.Need-same-length-5 Inv-loop μ-loop
+same-length-5 c = search needs
+
+same-length-6 : tie.Need-same-length-6 Inv-loop μ-loop
+same-length-6 c = search needs
 
 returns-2 : tie.Need-returns-2 Inv-loop μ-loop
 returns-2 c = search needs
@@ -80,7 +86,9 @@ play-lines-spec =
     loop-again
     same-length
     same-length-2
-    returns
     same-length-3
+    returns
     same-length-4
+    same-length-5
+    same-length-6
     returns-2)

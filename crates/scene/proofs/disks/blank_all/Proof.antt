@@ -2,8 +2,8 @@ use borrow.Author.Needs.{needs}
 use Prim.Native.Nat.{_-_, _≤_}
 use mathlib.Core.Path.{_≡_}
 use lib.ListN.{length}
-use Rattle.scene.proofs.tables.blank_all.Statement.{statement}
-use Rattle.scene.proofs.tables.blank_all.Tie as tie
+use Rattle.scene.proofs.disks.blank_all.Statement.{statement}
+use Rattle.scene.proofs.disks.blank_all.Tie as tie
 
 abbrev Inv-loop : tie.InvT-loop
 Inv-loop all₀ w c₀ all c = (length all ≡ length all₀) × (c ≤ 7)
@@ -20,14 +20,8 @@ table-mut-requires c κs = search needs
 blank-table-requires : tie.Need-blank-table-requires Inv-loop μ-loop
 blank-table-requires c κs = search needs
 
-saved-requires : tie.Need-saved-requires Inv-loop μ-loop
-saved-requires c κs = search needs
-
-table-mut-requires-2 : tie.Need-table-mut-requires-2 Inv-loop μ-loop
-table-mut-requires-2 c κs = search needs
-
-blank-table-requires-2 : tie.Need-blank-table-requires-2 Inv-loop μ-loop
-blank-table-requires-2 c κs = search needs
+begin-with-table-requires : tie.Need-begin-with-table-requires Inv-loop μ-loop
+begin-with-table-requires c κs = search needs
 
 add-c : tie.Need-add-c Inv-loop μ-loop
 add-c c = search needs
@@ -53,9 +47,7 @@ blank-all-spec =
     loop-holds
     table-mut-requires
     blank-table-requires
-    saved-requires
-    table-mut-requires-2
-    blank-table-requires-2
+    begin-with-table-requires
     add-c
     loop-less
     loop-again

@@ -1,8 +1,8 @@
 use borrow.Author.Needs.{needs}
 use Prim.Native.Nat.{_-_}
 use lib.ListN.{length}
-use Rattle.scene.proofs.tables.differ.Statement.{statement}
-use Rattle.scene.proofs.tables.differ.Tie as tie
+use Rattle.scene.proofs.disks.differ.Statement.{statement}
+use Rattle.scene.proofs.disks.differ.Tie as tie
 
 abbrev Inv-loop : tie.InvT-loop
 Inv-loop a b i₀ i = Unit {0}
