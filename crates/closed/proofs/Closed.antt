@@ -9,7 +9,7 @@ use lib.ListN.{length}
 use borrow.Author.Tests.{eqb-true, lt-ltb, le-leb}
 use Rattle.paper.specs.Setup.{setupOk}
 use Rattle.paper.specs.Instance.{instanceOk}
-use Rattle.paper.specs.Command.{isNoop, commandOk}
+use Rattle.paper.specs.Command.{isNoop, commandOk, Interference}
 use Rattle.paper.specs.Deps.{depsOk}
 use Rattle.paper.specs.Message.{kindOf, partsOf, partsIn}
 use Rattle.paper.specs.Valid.{valid}
@@ -66,23 +66,23 @@ module _ (n s c : ℕ) (setup : setupOk n s c ≡ true) where
     own l = both _ _ (lt-ltb c n (setup-is n s c setup .3)) (both _ _ (le-leb _ _ (first s 1 (t c))) (le-leb _ _ l))
 
     -- what each event leaves at its instance, and what it sends
-    pub request-event : (k : Command) → commandOk k ≡ true → CommandFits k → isNoop k ≡ false → requestNumber s c t ≤ s → Closed n s c c (onRequest n s c t k)
+    pub request-event : (w : Interference) (k : Command) → commandOk k ≡ true → CommandFits k → isNoop k ≡ false → requestNumber s c t ≤ s → Closed n s c c (onRequest w n s c t k)
     unfolding onRequest
-    request-event k hk fk op l =
+    request-event w k hk fk op l =
         let j = requestNumber s c t in
         let p = spot n s c c j setup (own l) in
-        let d = seen-ok n s t c j k in
-        request-closed n s c j p k hk fk op (seen n s t c j k) d (deps-fit n s _ (p .numbers) (seen-length n s t c j k) d)
+        let d = seen-ok n s w t c j k in
+        request-closed n s c j p k hk fk op (seen w n s t c j k) d (deps-fit n s _ (p .numbers) (seen-length n s w t c j k) d)
 
     -- also where refusal 10 is given: the rule would keep the record
-    pub message-event : (m : Message) → valid n s c m ≡ true → MessageFits m → Closed n s c (m .owner) (onMessage n s c t m)
+    pub message-event : (w : Interference) (m : Message) → valid n s c m ≡ true → MessageFits m → Closed n s c (m .owner) (onMessage w n s c t m)
     unfolding onMessage
-    message-event m v g =
+    message-event w m v g =
         let i = valid-instance n s c m v in
         let p = spot n s c (m .owner) (m .number) setup i in
-        let d : (k : Command) → depsOk n s (seen n s t (m .owner) (m .number) k) ≡ true = λ k. seen-ok n s t (m .owner) (m .number) k in
-        byKind-closed n s c (m .owner) (m .number) p (seen n s t (m .owner) (m .number)) (λ k e. d k)
-        (λ k e. deps-fit n s _ (p .numbers) (seen-length n s t (m .owner) (m .number) k) (d k)) (t (m .owner) (m .number)) (all (m .owner) (m .number) i) m (m .body) refl
+        let d : (k : Command) → depsOk n s (seen w n s t (m .owner) (m .number) k) ≡ true = λ k. seen-ok n s w t (m .owner) (m .number) k in
+        byKind-closed n s c (m .owner) (m .number) p (seen w n s t (m .owner) (m .number)) (λ k e. d k)
+        (λ k e. deps-fit n s _ (p .numbers) (seen-length n s w t (m .owner) (m .number) k) (d k)) (t (m .owner) (m .number)) (all (m .owner) (m .number) i) m (m .body) refl
         (heard n s c m v g)
 
     pub recover-event : (o j : ℕ) → instanceOk n s o j ≡ true → isCommitted (t o j) ≡ false → outOfBallots (t o j) ≡ false → Closed n s c o (onRecover n c t o j)
@@ -94,12 +94,12 @@ module _ (n s c : ℕ) (setup : setupOk n s c ≡ true) where
     nudge-event o j i = nudge-closed n s c o j (spot n s c o j setup i) (t o j) (all o j i)
 
     -- each event keeps the whole table sound
-    pub request-sound : (k : Command) → commandOk k ≡ true → CommandFits k → isNoop k ≡ false → requestNumber s c t ≤ s
-        → SoundRecords n s c (put t c (requestNumber s c t) (onRequest n s c t k .entry))
-    request-sound k hk fk op l = put-sound t all c (requestNumber s c t) _ (request-event k hk fk op l .held)
+    pub request-sound : (w : Interference) (k : Command) → commandOk k ≡ true → CommandFits k → isNoop k ≡ false → requestNumber s c t ≤ s
+        → SoundRecords n s c (put t c (requestNumber s c t) (onRequest w n s c t k .entry))
+    request-sound w k hk fk op l = put-sound t all c (requestNumber s c t) _ (request-event w k hk fk op l .held)
 
-    pub message-sound : (m : Message) → valid n s c m ≡ true → MessageFits m → SoundRecords n s c (put t (m .owner) (m .number) (onMessage n s c t m .entry))
-    message-sound m v g = put-sound t all (m .owner) (m .number) _ (message-event m v g .held)
+    pub message-sound : (w : Interference) (m : Message) → valid n s c m ≡ true → MessageFits m → SoundRecords n s c (put t (m .owner) (m .number) (onMessage w n s c t m .entry))
+    message-sound w m v g = put-sound t all (m .owner) (m .number) _ (message-event w m v g .held)
 
     pub recover-sound : (o j : ℕ) → instanceOk n s o j ≡ true → isCommitted (t o j) ≡ false → outOfBallots (t o j) ≡ false
         → SoundRecords n s c (put t o j (onRecover n c t o j .entry))

@@ -11,6 +11,7 @@ use lib.ListN.{length, getD, getD-replicate, List·getD-eq-default}
 use borrow.Author.Tests.{leb-true, eqb-true, le-leb}
 use Rattle.paper.specs.Deps.{noDeps, entryLimit, entryOk, depsOk, sameDeps, join}
 use Rattle.paper.specs.Vote.{noVote}
+use Rattle.paper.specs.Command.{Interference}
 use Rattle.paper.specs.declared.Command.{Command}
 use Rattle.paper.specs.declared.Vote.{Vote}
 use Rattle.paper.proofs.Laws.{allBelow-at}
@@ -67,24 +68,24 @@ module _ (n s : ℕ) where
   highest-le zero f = omega arith
   highest-le (suc k) f = by-cond (λ (x : ℕ). x ≤ suc k) (f (suc k)) (λ e. omega arith) (λ e. omega (arith, highest-le k f))
 
-  module _ (t : Records) (o j : ℕ) (k : Command) where
-    seen-at : (i p q : ℕ) → q < i → getD (seenFrom i p n s t o j k) q 0 ≡ seenEntry n s t o j k (p + q)
+  module _ (w : Interference) (t : Records) (o j : ℕ) (k : Command) where
+    seen-at : (i p q : ℕ) → q < i → getD (seenFrom w i p n s t o j k) q 0 ≡ seenEntry w n s t o j k (p + q)
     unfolding seenFrom
     seen-at zero p q l = absurd (omega arith)
     seen-at (suc i) p zero l = let z : p + 0 ≡ p = omega arith in rw z
     seen-at (suc i) p (suc q) l = let z : p + suc q ≡ p + 1 + q = omega arith in rw z (seen-at i (p + 1) q (omega arith))
 
-    entry-le : (p : ℕ) → seenEntry n s t o j k p ≤ entryLimit n s p
+    entry-le : (p : ℕ) → seenEntry w n s t o j k p ≤ entryLimit n s p
     unfolding seenEntry
     entry-le p = go (ltb p n)
       where
-        go : (b : Bool) → cond b (highest s (met t o j k p)) 0 ≤ cond b s 0
-        go true = highest-le s (met t o j k p)
+        go : (b : Bool) → cond b (highest s (met w t o j k p)) 0 ≤ cond b s 0
+        go true = highest-le s (met w t o j k p)
         go false = omega arith
 
-    pub seen-ok : depsOk n s (seen n s t o j k) ≡ true
-    seen-ok = deps-in (seen n s t o j k) (λ i l. let z : 0 + i ≡ i = omega arith in rw (seen-at 7 0 i l, z) (entry-le i))
+    pub seen-ok : depsOk n s (seen w n s t o j k) ≡ true
+    seen-ok = deps-in (seen w n s t o j k) (λ i l. let z : 0 + i ≡ i = omega arith in rw (seen-at 7 0 i l, z) (entry-le i))
 
-    pub seen-length : length (seen n s t o j k) ≡ 7
+    pub seen-length : length (seen w n s t o j k) ≡ 7
     unfolding seenFrom
     seen-length = refl

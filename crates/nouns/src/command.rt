@@ -1,4 +1,5 @@
 use crate::logic::both;
+use crate::logic::either;
 use crate::logic::equal;
 use crate::logic::equal64;
 use crate::logic::implies;
@@ -6,7 +7,7 @@ use crate::logic::wide32;
 use paper::Command;
 use paper::Op;
 ghost use mathlib.Core.Path.{_≡_};
-ghost use Rattle.paper.specs.Command.{opNumber, isNoop, sameCommand, keyOk, editOk, commandOk, interfere};
+ghost use Rattle.paper.specs.Command.{opNumber, isNoop, isWrite, sameCommand, keyOk, editOk, commandOk, sameObject, interfere};
 
 pub fn op_number(op: Op) -> usize
     ensures { λ r. ⌜ r ≡ opNumber op ⌝ }
@@ -23,6 +24,13 @@ pub fn is_noop(c: Command) -> bool
 {
     let op = c.op;
     equal(op_number(op), 0)
+}
+
+pub fn is_write(c: Command) -> bool
+    ensures { λ r. ⌜ r ≡ isWrite c ⌝ }
+{
+    let op = c.op;
+    equal(op_number(op), 2)
 }
 
 pub fn same_command(a: Command, b: Command) -> bool
@@ -54,9 +62,15 @@ pub fn command_ok(c: Command) -> bool
     implies(is_noop(c), zero)
 }
 
-pub fn interfere(a: Command, b: Command) -> bool
-    ensures { λ r. ⌜ r ≡ interfere a b ⌝ }
+pub fn same_object(a: Command, b: Command) -> bool
+    ensures { λ r. ⌜ r ≡ sameObject a b ⌝ }
 {
     let neither = both(!is_noop(a), !is_noop(b));
     both(neither, equal(wide32(a.key), wide32(b.key)))
+}
+
+pub fn interfere(a: Command, b: Command) -> bool
+    ensures { λ r. ⌜ r ≡ interfere a b ⌝ }
+{
+    both(same_object(a, b), either(is_write(a), is_write(b)))
 }

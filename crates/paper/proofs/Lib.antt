@@ -5,5 +5,6 @@ pub mod Valid
 pub mod First
 pub mod Clauses
 pub mod Deps
+pub mod Interference
 pub mod Widest
 pub mod Pins

@@ -3,7 +3,7 @@ use mathlib.Core.Path.{refl}
 use lib.Count.{ones}
 use Rattle.paper.specs.Logic.{allBelow}
 use Rattle.paper.specs.Instance.{instanceOk}
-use Rattle.paper.specs.Command.{sameCommand, interfere}
+use Rattle.paper.specs.Command.{sameCommand, sameObject, interfere}
 use Rattle.paper.specs.Deps.{sameDeps, covers, joinFrom}
 use Rattle.paper.specs.Vote.{member}
 use Rattle.rules.specs.Sets.{bitsBelow, others, absent, lowestFrom, largestBelow, highest}
@@ -124,13 +124,15 @@ nudges =
     }
 
 pub sights : Sights
-unfolding interfere highest met seenEntry seenFrom put
+unfolding sameObject interfere highest met seenEntry seenFrom put
 sights =
     record {
       last-of-row = refl;
       of-its-key = refl;
       not-itself = refl;
       committed-too = refl;
+      past-reads = refl;
+      before = refl;
     }
 
 pub orders : Orders

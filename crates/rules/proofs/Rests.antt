@@ -10,7 +10,7 @@ use lib.Dec.{leb, ltb, eqb}
 use lib.ListN.{getD}
 use borrow.Author.Tests.{lt-ltb}
 use Rattle.paper.specs.Logic.{implies, allBelow}
-use Rattle.paper.specs.Command.{interfere}
+use Rattle.paper.specs.Command.{Interference, interfere, Wide}
 use Rattle.paper.specs.Message.{voteIn}
 use Rattle.paper.proofs.Laws.{and-true, allBelow-at}
 use Rattle.paper.proofs.Deps.{join-entry}
@@ -109,10 +109,10 @@ highest-above (suc k) f i a b h = go (f (suc k)) refl (λ l. highest-above k f i
     go false e more = ⊎-elim (λ (z : i ≡ suc k). tf (f i) h (rw z e)) (λ (z : i < suc k). more (omega arith)) (eq-or-lt-of-le b)
 
 -- Seen covers every record with a vote for a command that interferes
-pub seen-covers : (n s : ℕ) (t : Records) (o j : ℕ) (k : Command) (p i : ℕ) → p < n → 1 ≤ i → i ≤ s → (eqb p o && eqb i j) ≡ false → leb 1 (t p i .vote .status) ≡ true
-    → interfere k (t p i .vote .command) ≡ true → i ≤ seenEntry n s t o j k p
+pub seen-covers : (w : Interference) → Wide w → (n s : ℕ) (t : Records) (o j : ℕ) (k : Command) (p i : ℕ) → p < n → 1 ≤ i → i ≤ s → (eqb p o && eqb i j) ≡ false
+    → leb 1 (t p i .vote .status) ≡ true → interfere k (t p i .vote .command) ≡ true → i ≤ seenEntry w n s t o j k p
 unfolding seenEntry met
-seen-covers n s t o j k p i lp a b ne st it = rw (lt-ltb p n lp) (highest-above s (met t o j k p) i a b (both _ _ (both _ _ (ap not ne) st) it))
+seen-covers w wide n s t o j k p i lp a b ne st it = rw (lt-ltb p n lp) (highest-above s (met w t o j k p) i a b (both _ _ (both _ _ (ap not ne) st) (wide _ _ it)))
 
 -- a first vote for a PreAccept holds its dependencies and Seen
 pub vote-covers : (c o j : ℕ) (r : Record) (m : Message) (k : Command) (seen : List ℕ) → isCommitted r ≡ false → ltb (m .ballot) (r .joined) ≡ false → votedAt r (m .ballot) ≡ false

@@ -1,8 +1,9 @@
--- Each event on a whole table: its instance, and what it does there. Assumes nothing.
+-- Each event on a whole table: its instance, and what it does there; w is what interferes. Assumes nothing.
 use Prim.Native.Nat.{ℕ, zero, suc, _+_}
 use mathlib.Core.Bool.{_&&_, cond}
 use mathlib.Core.List.{List, [], _∷_}
 use lib.Dec.{eqb}
+use Rattle.paper.specs.Command.{Interference}
 use Rattle.paper.specs.Vote.{member}
 use Rattle.paper.specs.declared.Command.{Command}
 use Rattle.paper.specs.declared.Record.{Record}
@@ -22,11 +23,11 @@ put t o j r p i = cond (eqb p o && eqb i j) r (t p i)
 unfoldable pub requestNumber : ℕ → ℕ → Records → ℕ
 requestNumber s c t = lowestBlank s 1 (t c)
 
-unfoldable pub onRequest : ℕ → ℕ → ℕ → Records → Command → Step
-onRequest n s c t k = request n c (requestNumber s c t) k (seen n s t c (requestNumber s c t) k)
+unfoldable pub onRequest : Interference → ℕ → ℕ → ℕ → Records → Command → Step
+onRequest w n s c t k = request n c (requestNumber s c t) k (seen w n s t c (requestNumber s c t) k)
 
-unfoldable pub onMessage : ℕ → ℕ → ℕ → Records → Message → Step
-onMessage n s c t m = receive n c (seen n s t (m .owner) (m .number)) (t (m .owner) (m .number)) m
+unfoldable pub onMessage : Interference → ℕ → ℕ → ℕ → Records → Message → Step
+onMessage w n s c t m = receive n c (seen w n s t (m .owner) (m .number)) (t (m .owner) (m .number)) m
 
 unfoldable pub onRecover : ℕ → ℕ → Records → ℕ → ℕ → Step
 onRecover n c t o j = recover n c o j (t o j)

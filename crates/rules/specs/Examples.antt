@@ -6,16 +6,17 @@ use mathlib.Core.List.{List, [], _∷_}
 use lib.ListN.{replicate}
 use Rattle.paper.specs.Vote.{blank, noVote}
 use Rattle.paper.specs.Deps.{noDeps}
-use Rattle.paper.specs.declared.Op.the-variants.{Write}
+use Rattle.paper.specs.declared.Op.the-variants.{Read, Write}
+use Rattle.paper.specs.Command.{interfere}
 use Rattle.paper.specs.declared.Command.{Command}
 use Rattle.paper.specs.declared.Vote.{Vote}
 use Rattle.paper.specs.declared.Record.{Record}
 use Rattle.paper.specs.declared.Message.{Message}
 use Rattle.paper.specs.declared.Body.the-variants.{PreAccept, PreAcceptOk, Accept, Prepare, PrepareOk}
 use Rattle.rules.specs.declared.Step.{Step}
-use Rattle.rules.specs.declared.First.the-variants.{At}
+use Rattle.rules.specs.declared.First.the-variants.{At, Nowhere}
 use Rattle.rules.specs.Seen.{Records}
-use Rattle.rules.specs.Events.{put, onRequest, onMessage, onRecover, messages}
+use Rattle.rules.specs.Events.{put, onRequest, onMessage, onRecover, addressed, messages}
 use Rattle.rules.specs.Recover.{outOfBallots}
 use Rattle.rules.specs.PrepareOk.{decide}
 use Rattle.rules.specs.Order.{handOut, firstOpen}
@@ -32,7 +33,7 @@ blanks o j = blank
 
 -- the first request of a blank group of three
 abbrev pub first : Step
-first = onRequest 3 4 0 blanks (write 100)
+first = onRequest interfere 3 4 0 blanks (write 100)
 
 abbrev pub asked : Records
 asked = put blanks 0 1 (first .entry)
@@ -43,11 +44,11 @@ ok q d = record { from = q; to = 0; owner = 0; number = 1; ballot = 0; body = Pr
 
 -- a reply is collected
 abbrev pub then : Records → Message → Records
-then t m = put t 0 1 (onMessage 3 4 0 t m .entry)
+then t m = put t 0 1 (onMessage interfere 3 4 0 t m .entry)
 
 -- copy 1 after a request of its own for the same key
 abbrev pub ownWrite : Records
-ownWrite = put blanks 1 1 (onRequest 3 4 1 blanks (write 5) .entry)
+ownWrite = put blanks 1 1 (onRequest interfere 3 4 1 blanks (write 5) .entry)
 
 -- a record that nobody has voted for, with this joined ballot
 abbrev pub joinedAt : ℕ → Record
@@ -103,14 +104,14 @@ pub record Worked : Type 0 where
   -- a PreAccept to each of the others, by rising destination
   pub W1 : messages first ≡ preAcceptTo 1 ∷ preAcceptTo 2 ∷ []
   -- one PreAcceptOK with zero dependencies then commits 0.1
-  pub W2 : onMessage 3 4 0 asked (ok 1 noDeps) .entry .vote ≡ record { voted = 0; status = 4; command = write 100; deps = noDeps }
+  pub W2 : onMessage interfere 3 4 0 asked (ok 1 noDeps) .entry .vote ≡ record { voted = 0; status = 4; command = write 100; deps = noDeps }
   -- an answer that adds something is waited out; one that does not is enough
-  pub W3-answers : onMessage 3 4 1 ownWrite (preAcceptTo 1) .message .deps ≡ deps3 0 1 0
-  pub W3-waits : onMessage 3 4 0 asked (ok 1 (deps3 0 1 0)) .to ≡ 0
-  pub W3-commits : onMessage 3 4 0 (then asked (ok 1 (deps3 0 1 0))) (ok 2 noDeps) .entry .vote
+  pub W3-answers : onMessage interfere 3 4 1 ownWrite (preAcceptTo 1) .message .deps ≡ deps3 0 1 0
+  pub W3-waits : onMessage interfere 3 4 0 asked (ok 1 (deps3 0 1 0)) .to ≡ 0
+  pub W3-commits : onMessage interfere 3 4 0 (then asked (ok 1 (deps3 0 1 0))) (ok 2 noDeps) .entry .vote
       ≡ record { voted = 0; status = 4; command = write 100; deps = noDeps }
   -- two answers that differ are joined and asked for
-  pub W4 : onMessage 3 4 0 (then asked (ok 1 (deps3 0 1 0))) (ok 2 (deps3 0 0 1)) .message
+  pub W4 : onMessage interfere 3 4 0 (then asked (ok 1 (deps3 0 1 0))) (ok 2 (deps3 0 0 1)) .message
       ≡ record { from = 0; to = 0; owner = 0; number = 1; ballot = 0; body = Accept (write 100); deps = deps3 0 1 1 }
   -- the next ballot of copy 2, and where there is none
   pub W5-first : onRecover 7 2 blanks 0 1 .entry .joined ≡ 10
@@ -129,8 +130,40 @@ pub record Worked : Type 0 where
   -- a gap holds up what covers it
   pub W10 : firstOpen 3 4 (put cycle 2 1 (committed (deps3 2 1 0))) 2 1 ≡ At 0 2
   -- a copy that joined 10 and voted at 0 tells 0, and not 10
-  pub told-voted : onMessage 3 4 1 (put blanks 0 1 voted) prepare .message .body ≡ PrepareOk 0 2 (write 100)
+  pub told-voted : onMessage interfere 3 4 1 (put blanks 0 1 voted) prepare .message .body ≡ PrepareOk 0 2 (write 100)
   -- a repeated PreAccept is answered with the stored dependencies, though copy 1 has since seen its own write
-  pub repeated : onMessage 3 4 1 (put ownWrite 0 1 (onMessage 3 4 1 blanks (preAcceptTo 1) .entry)) (preAcceptTo 1) .message .deps ≡ noDeps
+  pub repeated : onMessage interfere 3 4 1 (put ownWrite 0 1 (onMessage interfere 3 4 1 blanks (preAcceptTo 1) .entry)) (preAcceptTo 1) .message .deps ≡ noDeps
   -- replies that agree with each other, and not with what was sent, do not commit
-  pub agreeing : onMessage 5 4 0 (put blanks 0 1 agreed) (ok 3 (deps3 0 1 0)) .entry .vote .status ≡ 2
+  pub agreeing : onMessage interfere 5 4 0 (put blanks 0 1 agreed) (ok 3 (deps3 0 1 0)) .entry .vote .status ≡ 2
+
+-- 4/12: copies 0 and 1 are asked for reads of key 7 at once. Copy q after its request:
+abbrev pub read : ℕ → Command
+read e = record { op = Read; key = 7; edit = e }
+
+abbrev pub reader : ℕ → Records
+reader q = put blanks q 1 (onRequest interfere 3 4 q blanks (read q) .entry)
+
+-- its PreAccept as it comes to copy p, and what p, which has its own read, answers
+abbrev pub readTo : ℕ → ℕ → Message
+readTo q p = addressed (onRequest interfere 3 4 q blanks (read q) .message) p
+
+abbrev pub readOk : ℕ → ℕ → Message
+readOk q p = addressed (onMessage interfere 3 4 p (reader p) (readTo q p) .message) q
+
+-- copy q has its own read and p's, and then p's answer
+abbrev pub bothReads : ℕ → ℕ → Records
+bothReads q p = put (reader q) p 1 (onMessage interfere 3 4 q (reader q) (readTo p q) .entry)
+
+abbrev pub answeredRead : ℕ → ℕ → Records
+answeredRead q p = put (bothReads q p) q 1 (onMessage interfere 3 4 q (bothReads q p) (readOk q p) .entry)
+
+pub record Reads : Type 0 where
+  -- each commits on that one answer, as it was asked for
+  pub first : answeredRead 0 1 0 1 .vote ≡ record { voted = 0; status = 4; command = read 0; deps = noDeps }
+  pub second : answeredRead 1 0 1 1 .vote ≡ record { voted = 0; status = 4; command = read 1; deps = noDeps }
+  -- neither waits for the other, which is open there
+  pub open-there : (answeredRead 0 1 1 1 .vote .status ≡ 2) × (answeredRead 1 0 0 1 .vote .status ≡ 2)
+  pub settled : (firstOpen 3 4 (answeredRead 0 1) 0 1 ≡ Nowhere) × (firstOpen 3 4 (answeredRead 1 0) 1 1 ≡ Nowhere)
+  pub handed : (handOut 4 3 4 (answeredRead 0 1) ≡ 1 ∷ []) × (handOut 4 3 4 (answeredRead 1 0) ≡ 257 ∷ [])
+  -- a write of that key waits for both
+  pub write-waits : onRequest interfere 3 4 0 (answeredRead 0 1) (write 5) .message .deps ≡ deps3 1 1 0

@@ -5,7 +5,7 @@ use mathlib.Core.Path.{_≡_}
 use mathlib.Core.Bool.{true, false}
 use mathlib.Core.List.{List, [], _∷_}
 use lib.ListN.{replicate}
-use Rattle.paper.specs.Command.{noop}
+use Rattle.paper.specs.Command.{noop, sameObject, interfere}
 use Rattle.paper.specs.Vote.{noVote}
 use Rattle.paper.specs.Deps.{noDeps}
 use Rattle.paper.specs.Message.{noMessage}
@@ -25,7 +25,7 @@ use Rattle.rules.specs.Nudge.{nothingToNudge, nudge}
 use Rattle.rules.specs.Received.{receive, refused10}
 use Rattle.rules.specs.Events.{put}
 use Rattle.rules.specs.Order.{firstOpen, isSettled, handOut}
-use Rattle.rules.specs.Examples.{write, deps3, blanks, added, votes, committed, cycle}
+use Rattle.rules.specs.Examples.{write, deps3, blanks, added, votes, committed, cycle, read}
 
 -- a different entry for each owner, and one that is larger at the last place
 abbrev pub each : List ℕ
@@ -212,13 +212,22 @@ sights =
     1 2 (held 0 (record { voted = 0; status = 2; command = otherKey; deps = noDeps })))
     3 1 (held 0 (vote 5 0 4 noDeps))
 
+-- a read of key 7 above a write of it, and one alone
+abbrev pub readAbove : Records
+readAbove =
+    put (put (put blanks 0 1 (held 0 (vote 5 0 2 noDeps))) 0 2 (held 0 (record { voted = 0; status = 2; command = read 5; deps = noDeps })))
+    1 1 (held 0 (record { voted = 0; status = 4; command = read 4; deps = noDeps }))
+
 pub record Sights : Type 0 where
   -- the last of a row, and none of another key or of no copy
-  pub last-of-row : seen 3 4 sights 0 1 (write 6) ≡ deps3 3 1 0
-  pub of-its-key : seen 3 4 sights 2 1 otherKey ≡ deps3 0 2 0
+  pub last-of-row : seen interfere 3 4 sights 0 1 (write 6) ≡ deps3 3 1 0
+  pub of-its-key : seen interfere 3 4 sights 2 1 otherKey ≡ deps3 0 2 0
   -- the instance itself does not count
-  pub not-itself : seen 3 4 sights 0 3 (write 6) ≡ deps3 1 1 0
-  pub committed-too : seen 5 4 sights 0 1 (write 6) ≡ 3 ∷ 1 ∷ 0 ∷ 1 ∷ 0 ∷ 0 ∷ 0 ∷ []
+  pub not-itself : seen interfere 3 4 sights 0 3 (write 6) ≡ deps3 1 1 0
+  pub committed-too : seen interfere 5 4 sights 0 1 (write 6) ≡ 3 ∷ 1 ∷ 0 ∷ 1 ∷ 0 ∷ 0 ∷ 0 ∷ []
+  -- a read looks past the reads of its key for a write, where document 01 stops
+  pub past-reads : seen interfere 3 4 readAbove 2 1 (read 6) ≡ deps3 1 0 0
+  pub before : seen sameObject 3 4 readAbove 2 1 (read 6) ≡ deps3 2 1 0
 
 -- a command with these dependencies that is voted for and open
 abbrev pub ongoing : List ℕ → Record

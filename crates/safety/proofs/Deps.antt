@@ -10,6 +10,7 @@ use Rattle.paper.specs.Logic.{allBelow}
 use Rattle.paper.specs.Command.{sameCommand, opNumber}
 use Rattle.paper.specs.Deps.{noDeps, sameDeps, join}
 use Rattle.paper.specs.Vote.{noVote}
+use Rattle.paper.specs.Command.{Interference}
 use Rattle.paper.specs.declared.Command.{Command}
 use Rattle.paper.specs.declared.Vote.{Vote}
 use Rattle.rules.specs.Accepting.{joinAll}
@@ -63,20 +64,20 @@ joins-each d (v ∷ vs) zero = under-trans (v .deps) (join d (v .deps)) (joinAll
 joins-each d (v ∷ vs) (suc q) = joins-each (join d (v .deps)) vs q
 
 -- Seen
-seen-at : (k p q n s : ℕ) (t : Records) (o j : ℕ) (c : Command) → q < k → getD (seenFrom k p n s t o j c) q 0 ≡ seenEntry n s t o j c (p + q)
+seen-at : (w : Interference) (k p q n s : ℕ) (t : Records) (o j : ℕ) (c : Command) → q < k → getD (seenFrom w k p n s t o j c) q 0 ≡ seenEntry w n s t o j c (p + q)
 unfolding seenFrom
-seen-at zero p q n s t o j c l = absurd (omega arith)
-seen-at (suc k) p zero n s t o j c l = let z : p + 0 ≡ p = omega arith in rw z refl
-seen-at (suc k) p (suc q) n s t o j c l = let z : p + suc q ≡ p + 1 + q = omega arith in rw z (seen-at k (p + 1) q n s t o j c (omega arith))
+seen-at w zero p q n s t o j c l = absurd (omega arith)
+seen-at w (suc k) p zero n s t o j c l = let z : p + 0 ≡ p = omega arith in rw z refl
+seen-at w (suc k) p (suc q) n s t o j c l = let z : p + suc q ≡ p + 1 + q = omega arith in rw z (seen-at w k (p + 1) q n s t o j c (omega arith))
 
-pub seen-length : (n s : ℕ) (t : Records) (o j : ℕ) (c : Command) → length (seen n s t o j c) ≡ 7
+pub seen-length : (w : Interference) (n s : ℕ) (t : Records) (o j : ℕ) (c : Command) → length (seen w n s t o j c) ≡ 7
 unfolding seenFrom
-seen-length n s t o j c = refl
+seen-length w n s t o j c = refl
 
 -- a command that is met at p.i is counted
-pub seen-counts : (n s : ℕ) (t : Records) (o j : ℕ) (c : Command) (p i : ℕ) → p < n → p < 7 → 1 ≤ i → i ≤ s → met t o j c p i ≡ true
-    → i ≤ getD (seen n s t o j c) p 0
+pub seen-counts : (w : Interference) (n s : ℕ) (t : Records) (o j : ℕ) (c : Command) (p i : ℕ) → p < n → p < 7 → 1 ≤ i → i ≤ s → met w t o j c p i ≡ true
+    → i ≤ getD (seen w n s t o j c) p 0
 unfolding seenEntry
-seen-counts n s t o j c p i ln l7 l1 ls m =
+seen-counts w n s t o j c p i ln l7 l1 ls m =
     let z : 0 + p ≡ p = omega arith in
-    rw (seen-at 7 0 p n s t o j c l7) (rw (z, ltb-in p n ln) (highest-above s (met t o j c p) i l1 ls m))
+    rw (seen-at w 7 0 p n s t o j c l7) (rw (z, ltb-in p n ln) (highest-above s (met w t o j c p) i l1 ls m))

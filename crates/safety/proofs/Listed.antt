@@ -51,8 +51,8 @@ module _ (n s : ℕ) (lim : n < 8) where
 
   pub listed-range : {x₀ x : State} → Start n s x₀ → Run n s x₀ x → (a : ℕ) (i : Instance) → List·Memᴰ i (x .marks a) → instanceOk n s (i .0) (i .1) ≡ true
   listed-range blanks stay a i h = absurd (List·Memᴰ·not-nil h)
-  listed-range st (further r (request c k out lc nk ls am)) a i h = listed-range st r a i h
-  listed-range st (further r (receive c m out lc sent v rf am)) a i h = listed-range st r a i h
+  listed-range st (further r (request c w k out lc wide nk ls am)) a i h = listed-range st r a i h
+  listed-range st (further r (receive c w m out lc wide sent v rf am)) a i h = listed-range st r a i h
   listed-range st (further r (recover c o j out lc ok e ob am)) a i h = listed-range st r a i h
   listed-range st (further r (nudge c o j out lc ok e am)) a i h = listed-range st r a i h
   listed-range st (further r (question c o j lc)) a i h = listed-range st r a i h

@@ -6,6 +6,7 @@ use mathlib.Core.List.{List, List·Memᴰ}
 use native.Mathlib.Omega.{arith}
 use Rattle.paper.specs.Instance.{instanceOk}
 use Rattle.paper.specs.Valid.{valid}
+use Rattle.paper.specs.Command.{Interference, Wide}
 use Rattle.paper.specs.declared.Command.{Command}
 use Rattle.paper.specs.declared.Message.{Message}
 use Rattle.rules.specs.Seen.{seen}
@@ -30,14 +31,14 @@ module _ {C : Case} {x : State} (t : Tie C x) where
   abbrev n : ℕ
   n = copies C
 
-  pub receive-next : (c : ℕ) (m : Message) (out : List Message) → c < n → List·Memᴰ m (x .sent) → valid n s c m ≡ true
-      → Among out (messages (onMessage n s c (x .tables c) m)) → Next t (saved x c (saveOf (m .owner) (m .number) (onMessage n s c (x .tables c) m)) out)
+  pub receive-next : (c : ℕ) (w : Interference) (m : Message) (out : List Message) → c < n → Wide w → List·Memᴰ m (x .sent) → valid n s c m ≡ true
+      → Among out (messages (onMessage w n s c (x .tables c) m)) → Next t (saved x c (saveOf (m .owner) (m .number) (onMessage w n s c (x .tables c) m)) out)
   unfolding onMessage
-  receive-next c m out lc h v am =
+  receive-next c w m out lc wide h v am =
       let f : Fit n s c m = fits n s c m v in
-      event t c (m .owner) (m .number) lc (f .inst) (onMessage n s c (x .tables c) m) out am
-      (on-received (spot t c (m .owner) (m .number) lc (f .inst)) (seen n s (x .tables c) (m .owner) (m .number))
-      (λ k. seen-length n s (x .tables c) (m .owner) (m .number) k) (λ k d u. counted t c (m .owner) (m .number) lc k d u)
+      event t c (m .owner) (m .number) lc (f .inst) (onMessage w n s c (x .tables c) m) out am
+      (on-received (spot t c (m .owner) (m .number) lc (f .inst)) (seen w n s (x .tables c) (m .owner) (m .number))
+      (λ k. seen-length w n s (x .tables c) (m .owner) (m .number) k) (λ k d u. counted t w wide c (m .owner) (m .number) lc k d u)
       s m refl refl f (msgs m h (f .inst)))
 
   pub recover-next : (c o j : ℕ) (out : List Message) → c < n → instanceOk n s o j ≡ true → isCommitted (x .tables c o j) ≡ false
@@ -61,16 +62,16 @@ module _ {C : Case} {x : State} (t : Tie C x) where
   pub question-next : (c o j : ℕ) → Next t (happened x (answered c o j (settling n s (x .tables c) o j)))
   question-next c o j = tie-happened (answered c o j (settling n s (x .tables c) o j)) (record { tie = t; grow = λ J q. le-refl (t .G J .now q) })
 
-  pub request-next : (c : ℕ) (k : Command) (out : List Message) → c < n → requestNumber s c (x .tables c) ≤ s
-      → Among out (messages (onRequest n s c (x .tables c) k)) → List·Memᴰ (requested c (requestNumber s c (x .tables c)) k) (C .past)
-      → Next t (happened (saved x c (saveOf c (requestNumber s c (x .tables c)) (onRequest n s c (x .tables c) k)) out) (requested c (requestNumber s c (x .tables c)) k))
+  pub request-next : (c : ℕ) (w : Interference) (k : Command) (out : List Message) → c < n → Wide w → requestNumber s c (x .tables c) ≤ s
+      → Among out (messages (onRequest w n s c (x .tables c) k)) → List·Memᴰ (requested c (requestNumber s c (x .tables c)) k) (C .past)
+      → Next t (happened (saved x c (saveOf c (requestNumber s c (x .tables c)) (onRequest w n s c (x .tables c) k)) out) (requested c (requestNumber s c (x .tables c)) k))
   unfolding onRequest requestNumber
-  request-next c k out lc ls am rq =
+  request-next c w k out lc wide ls am rq =
       go (requestNumber s c (x .tables c)) (request-blank s c (x .tables c) ls) (in-range n s c (requestNumber s c (x .tables c)) lc (blank-above s 1 (x .tables c c)) ls) am rq
     where
-      go : (j : ℕ) → isBlank (x .tables c c j) ≡ true → instanceOk n s c j ≡ true → Among out (messages (Rattle.rules.specs.Request.request n c j k (seen n s (x .tables c) c j k)))
-          → List·Memᴰ (requested c j k) (C .past) → Next t (happened (saved x c (saveOf c j (Rattle.rules.specs.Request.request n c j k (seen n s (x .tables c) c j k))) out) (requested c j k))
-      go j bl ok am rq = tie-happened (requested c j k) (event t c c j lc ok (Rattle.rules.specs.Request.request n c j k (seen n s (x .tables c) c j k)) out am
-          (on-request (spot t c c j lc ok) refl n k (seen n s (x .tables c) c j k) bl
+      go : (j : ℕ) → isBlank (x .tables c c j) ≡ true → instanceOk n s c j ≡ true → Among out (messages (Rattle.rules.specs.Request.request n c j k (seen w n s (x .tables c) c j k)))
+          → List·Memᴰ (requested c j k) (C .past) → Next t (happened (saved x c (saveOf c j (Rattle.rules.specs.Request.request n c j k (seen w n s (x .tables c) c j k))) out) (requested c j k))
+      go j bl ok am rq = tie-happened (requested c j k) (event t c c j lc ok (Rattle.rules.specs.Request.request n c j k (seen w n s (x .tables c) c j k)) out am
+          (on-request (spot t c c j lc ok) refl n k (seen w n s (x .tables c) c j k) bl
           (rw (code-owner c j (omega arith), code-number c j (omega arith)) rq)
-          (counted t c c j lc k _ (under-refl (seen n s (x .tables c) c j k))) (seen-length n s (x .tables c) c j k)))
+          (counted t w wide c c j lc k _ (under-refl (seen w n s (x .tables c) c j k))) (seen-length w n s (x .tables c) c j k)))

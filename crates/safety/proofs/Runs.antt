@@ -20,8 +20,8 @@ use Rattle.safety.proofs.Marks.{mark-next}
 -- what happened is never forgotten
 pub history-more : {n s : ℕ} {x y : State} → Run n s x y → (a : Happening Settling) → List·Memᴰ a (x .history) → List·Memᴰ a (y .history)
 history-more stay a h = h
-history-more (further r (request c k out lc nk ls am)) a h = Memᴰ·append-left _ (history-more r a h)
-history-more (further r (receive c m out lc sent v rf am)) a h = history-more r a h
+history-more (further r (request c w k out lc wide nk ls am)) a h = Memᴰ·append-left _ (history-more r a h)
+history-more (further r (receive c w m out lc wide sent v rf am)) a h = history-more r a h
 history-more (further r (recover c o j out lc ok e ob am)) a h = history-more r a h
 history-more (further r (nudge c o j out lc ok e am)) a h = history-more r a h
 history-more (further r (handOut c o j lc e)) a h = history-more r a h
@@ -30,8 +30,8 @@ history-more (further r (question c o j lc)) a h = Memᴰ·append-left _ (histor
 -- marks are only added at the end
 pub marks-more : {n s : ℕ} {x y : State} → Run n s x y → (a : ℕ) → (l : List Instance) × (y .marks a ≡ x .marks a ++ l)
 marks-more {x = x} stay a = ([], sym (append-nil (x .marks a)))
-marks-more (further r (request c k out lc nk ls am)) a = marks-more r a
-marks-more (further r (receive c m out lc sent v rf am)) a = marks-more r a
+marks-more (further r (request c w k out lc wide nk ls am)) a = marks-more r a
+marks-more (further r (receive c w m out lc wide sent v rf am)) a = marks-more r a
 marks-more (further r (recover c o j out lc ok e ob am)) a = marks-more r a
 marks-more (further r (nudge c o j out lc ok e am)) a = marks-more r a
 marks-more (further r (question c o j lc)) a = marks-more r a
@@ -65,8 +65,8 @@ module _ (C : Case) where
   }
 
   move-next : {x y : State} (t : Tie C x) → Move n s x y → Known y → Next t y
-  move-next {x = x} t (request c k out lc nk ls am) kn = request-next t c k out lc ls am (kn _ (Memᴰ·append-right (x .history) (List·Memᴰ·head refl)))
-  move-next t (receive c m out lc sent v rf am) kn = receive-next t c m out lc sent v am
+  move-next {x = x} t (request c w k out lc wide nk ls am) kn = request-next t c w k out lc wide ls am (kn _ (Memᴰ·append-right (x .history) (List·Memᴰ·head refl)))
+  move-next t (receive c w m out lc wide sent v rf am) kn = receive-next t c w m out lc wide sent v am
   move-next t (recover c o j out lc ok e ob am) kn = recover-next t c o j out lc ok e am
   move-next t (nudge c o j out lc ok e am) kn = nudge-next t c o j out lc ok e am
   move-next t (handOut c o j lc e) kn = mark-next t c lc o j e

@@ -9,6 +9,7 @@ use native.Mathlib.Decide.{ℕ-discrete}
 use lib.Dec.{eqb}
 use Rattle.paper.specs.Instance.{instanceOk}
 use Rattle.paper.specs.Vote.{member}
+use Rattle.paper.specs.Command.{Interference, Wide}
 use Rattle.paper.specs.declared.Command.{Command}
 use Rattle.paper.specs.declared.Record.{Record}
 use Rattle.paper.specs.declared.Message.{Message}
@@ -119,9 +120,9 @@ module _ {C : Case} {x : State} (t : Tie C x) where
   abbrev pub Counts : ℕ → ℕ → ℕ → Value → Type 0
   Counts c o j v = (J : ℕ) → (code o j ≡ J → ⊥) → (G J .now c .status ≡ unvoted → ⊥) → Interf (cmd v) (cmd (G J .now c .value)) → Cover C v J
 
-  pub counted : (c o j : ℕ) → c < n → (k : Command) (d : List ℕ) → Under (seen n s (x .tables c) o j k) d → Counts c o j (val k d)
+  pub counted : (w : Interference) → Wide w → (c o j : ℕ) → c < n → (k : Command) (d : List ℕ) → Under (seen w n s (x .tables c) o j k) d → Counts c o j (val k d)
   unfolding met
-  counted c o j lc k d u J ne nz it = go (bool (instanceOk n s p i))
+  counted w wide c o j lc k d u J ne nz it = go (bool (instanceOk n s p i))
     where
       p : ℕ
       p = J % 8
@@ -142,9 +143,9 @@ module _ {C : Case} {x : State} (t : Tie C x) where
       go (inr e) = absurd (omega (arith, some, none c p i (λ h. tf (instanceOk n s p i) (h .1) e)))
       go (inl e) =
           let (a, b, f) = range n s p i e in
-          let m : met (x .tables c) o j k p i ≡ true
-          = and-in _ _ (and-in (not (eqb p o && eqb i j)) _ (rw apart refl) (leb-in 1 (x .tables c p i .vote .status) some)) (rw (rl .value) at it) in
-          let h = seen-counts n s (x .tables c) o j k p i a (omega arith) b f m in
+          let m : met w (x .tables c) o j k p i ≡ true
+          = and-in _ _ (and-in (not (eqb p o && eqb i j)) _ (rw apart refl) (leb-in 1 (x .tables c p i .vote .status) some)) (wide _ _ (rw (rl .value) at it)) in
+          let h = seen-counts w n s (x .tables c) o j k p i a (omega arith) b f m in
           record { owner = a; first = b; last = f; far = omega (arith, h, u p (omega arith)) }
 
   module _ (c o j : ℕ) (lc : c < n) (ok : instanceOk n s o j ≡ true) where

@@ -5,15 +5,14 @@ use mathlib.Core.List.{List}
 use lib.ListN.{getD}
 use native.Mathlib.Omega.{arith}
 use Rattle.paper.specs.declared.Command.{Command}
-use Rattle.paper.specs.Command.{noop, isNoop, opNumber, interfere}
+use Rattle.paper.specs.Command.{noop, opNumber, interfere}
 use Rattle.paper.specs.declared.Op.{Op}
 use Rattle.paper.specs.declared.Op.the-variants.{Noop, Read, Write}
 use native.Mathlib.Decide.{ℕ-discrete}
-use mathlib.Core.Bool.{Bool, true, false, _&&_, not}
-use lib.Dec.{eqb}
+use mathlib.Core.Bool.{true}
 use Rattle.paper.specs.Deps.{noDeps}
 use Rattle.paper.specs.Ballot.{lead}
-use Rattle.reach.proofs.Tests.{eqb-false}
+use Rattle.paper.proofs.Interference.{symmetric}
 
 pub record Value : Type 0 where
   pub command : Command
@@ -41,22 +40,8 @@ lead-0 o = refl
 abbrev pub Interf : Command → Command → Type 0
 Interf a b = interfere a b ≡ true
 
-and-comm3 : (x y z w : Bool) → z ≡ w → (x && y && z) ≡ true → (y && x && w) ≡ true
-and-comm3 true true z w e h = sym e ∙ h
-and-comm3 true false z w e h = h
-and-comm3 false true z w e h = h
-and-comm3 false false z w e h = h
-
-eqb-sym : (m n : ℕ) → eqb m n ≡ eqb n m
-eqb-sym m n = go (ℕ-discrete m n)
-  where
-    go : Dec (m ≡ n) → eqb m n ≡ eqb n m
-    go (yes e) = rw e refl
-    go (no k) = eqb-false m n k ∙ sym (eqb-false n m (λ e. k (sym e)))
-
 pub interf-sym : (a b : Command) → Interf a b → Interf b a
-unfolding interfere
-interf-sym a b h = and-comm3 (not (isNoop a)) (not (isNoop b)) (eqb (a .key) (b .key)) (eqb (b .key) (a .key)) (eqb-sym (a .key) (b .key)) h
+interf-sym a b h = sym (symmetric a b) ∙ h
 
 -- equality of commands is decided by the fields
 op-eq : (a b : Op) → opNumber a ≡ opNumber b → a ≡ b

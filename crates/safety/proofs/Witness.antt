@@ -9,13 +9,14 @@ use lib.Dec.{leb, ltb, eqb}
 use lib.ListN.{getD, length}
 use Rattle.paper.specs.Logic.{allBelow}
 use Rattle.paper.specs.Instance.{instanceOk}
-use Rattle.paper.specs.Command.{noop, isNoop, sameCommand, commandOk, interfere}
+use Rattle.paper.specs.Command.{noop, isNoop, sameCommand, commandOk, Interference, sameObject, interfere, Wide}
+use Rattle.paper.proofs.Interference.{interfere-wide, sameObject-wide}
 use Rattle.paper.specs.Deps.{depsOk, sameDeps, covers, joinFrom}
 use Rattle.paper.specs.Ballot.{ballotOk, lead}
 use Rattle.paper.specs.Vote.{blank, member, sameVote, noneIsBlank, voteOk, toldOk}
 use Rattle.paper.specs.Message.{noMessage, rowOf}
 use Rattle.paper.specs.Valid.{valid, firstFailing, firstOf, holdsOf, entryClauses}
-use Rattle.paper.specs.declared.Op.the-variants.{Write}
+use Rattle.paper.specs.declared.Op.the-variants.{Read, Write}
 use Rattle.paper.specs.declared.Command.{Command}
 use Rattle.paper.specs.declared.Message.{Message}
 use Rattle.rules.specs.declared.First.{First}
@@ -45,27 +46,29 @@ use Rattle.safety.specs.Demand.{Committed}
 use Rattle.reach.proofs.Tests.{clash, and-l, and-r, not-not, eqb-eq, leb-le, ltb-lt}
 
 -- a line of a script: copy c is asked for k; the message sent as number i arrives; copy c recovers or nudges o.j; copy c saves the
--- mark of o.j, or says whether it is settled
+-- mark of o.j, or says whether it is settled; or one of these at a copy that works by document 01's interference
 data Line : Type 0 where
   ask : ℕ → Command → Line
   arrives : ℕ → Line
   recovers nudges marks says : ℕ → ℕ → ℕ → Line
+  before : Line → Line
 
 abbrev sentAs : State → ℕ → Message
 sentAs x i = getD (x .sent) i noMessage
 
 module _ (n s : ℕ) where
-  -- what it makes of a state
-  abbrev after : State → Line → State
-  after x (ask c k) =
-      happened (saved x c (saveOf c (requestNumber s c (x .tables c)) (onRequest n s c (x .tables c) k)) (messages (onRequest n s c (x .tables c) k))) (requested c (requestNumber s c (x .tables c)) k)
-  after x (arrives i) =
-      saved x (sentAs x i .to) (saveOf (sentAs x i .owner) (sentAs x i .number) (onMessage n s (sentAs x i .to) (x .tables (sentAs x i .to)) (sentAs x i)))
-      (messages (onMessage n s (sentAs x i .to) (x .tables (sentAs x i .to)) (sentAs x i)))
-  after x (recovers c o j) = saved x c (saveOf o j (onRecover n c (x .tables c) o j)) (messages (onRecover n c (x .tables c) o j))
-  after x (nudges c o j) = saved x c (saveOf o j (onNudge n c (x .tables c) o j)) (messages (onNudge n c (x .tables c) o j))
-  after x (marks c o j) = marked x c o j
-  after x (says c o j) = happened x (answered c o j (settling n s (x .tables c) o j))
+  -- what it makes of a state, by the interference w
+  abbrev after : Interference → State → Line → State
+  after w x (ask c k) =
+      happened (saved x c (saveOf c (requestNumber s c (x .tables c)) (onRequest w n s c (x .tables c) k)) (messages (onRequest w n s c (x .tables c) k))) (requested c (requestNumber s c (x .tables c)) k)
+  after w x (arrives i) =
+      saved x (sentAs x i .to) (saveOf (sentAs x i .owner) (sentAs x i .number) (onMessage w n s (sentAs x i .to) (x .tables (sentAs x i .to)) (sentAs x i)))
+      (messages (onMessage w n s (sentAs x i .to) (x .tables (sentAs x i .to)) (sentAs x i)))
+  after w x (recovers c o j) = saved x c (saveOf o j (onRecover n c (x .tables c) o j)) (messages (onRecover n c (x .tables c) o j))
+  after w x (nudges c o j) = saved x c (saveOf o j (onNudge n c (x .tables c) o j)) (messages (onNudge n c (x .tables c) o j))
+  after w x (marks c o j) = marked x c o j
+  after w x (says c o j) = happened x (answered c o j (settling n s (x .tables c) o j))
+  after w x (before e) = after sameObject x e
 
   -- whether it is a move there
   abbrev fair : State → Line → Bool
@@ -77,6 +80,7 @@ module _ (n s : ℕ) where
   fair x (nudges c o j) = ltb c n && instanceOk n s o j && not (nothingToNudge (x .tables c o j))
   fair x (marks c o j) = ltb c n && found (nextOut n s (x .tables c)) false (λ p i. eqb p o && eqb i j)
   fair x (says c o j) = ltb c n
+  fair x (before e) = fair x e
 
   mem-at : (l : List Message) (i : ℕ) (d : Message) → i < length l → List·Memᴰ (getD l i d) l
   mem-at [] i d h = absurd (omega arith)
@@ -87,43 +91,48 @@ module _ (n s : ℕ) where
   at-found Nowhere o j h = clash (cc)
   at-found (At p i) o j h = λ k. At (eqb-eq p o (and-l _ (eqb i j) h) k) (eqb-eq i j (and-r (eqb p o) _ h) k)
 
-  fair-move : (x : State) (e : Line) → fair x e ≡ true → Move n s x (after x e)
-  fair-move x (ask c k) h =
+  fair-move : (w : Interference) → Wide w → (x : State) (e : Line) → fair x e ≡ true → Move n s x (after w x e)
+  fair-move w wide x (ask c k) h =
       let g = and-l _ (leb (requestNumber s c (x .tables c)) s) h in
-      request c k _ (ltb-lt c n (and-l _ (not (isNoop k)) g)) (not-not _ (and-r (ltb c n) _ g)) (leb-le _ _ (and-r (ltb c n && not (isNoop k)) _ h)) (λ m z. z)
-  fair-move x (arrives i) h =
+      request c w k _ (ltb-lt c n (and-l _ (not (isNoop k)) g)) wide (not-not _ (and-r (ltb c n) _ g)) (leb-le _ _ (and-r (ltb c n && not (isNoop k)) _ h)) (λ m z. z)
+  fair-move w wide x (arrives i) h =
       let m : Message = sentAs x i in
       let g = and-l _ (not (refused10 (x .tables (m .to) (m .owner) (m .number)) m)) h in
       let f = and-l _ (valid n s (m .to) m) g in
-      receive (m .to) m _ (ltb-lt (m .to) n (and-r (ltb i (length (x .sent))) _ f)) (mem-at (x .sent) i noMessage (ltb-lt i (length (x .sent)) (and-l _ (ltb (m .to) n) f)))
+      receive (m .to) w m _ (ltb-lt (m .to) n (and-r (ltb i (length (x .sent))) _ f)) wide (mem-at (x .sent) i noMessage (ltb-lt i (length (x .sent)) (and-l _ (ltb (m .to) n) f)))
       (and-r (ltb i (length (x .sent)) && ltb (m .to) n) _ g) (not-not _ (and-r (ltb i (length (x .sent)) && ltb (m .to) n && valid n s (m .to) m) _ h)) (λ y z. z)
-  fair-move x (recovers c o j) h =
+  fair-move w wide x (recovers c o j) h =
       let g = and-l _ (not (outOfBallots (x .tables c o j))) h in
       let f = and-l _ (not (isCommitted (x .tables c o j))) g in
       recover c o j _ (ltb-lt c n (and-l _ (instanceOk n s o j) f)) (and-r (ltb c n) _ f) (not-not _ (and-r (ltb c n && instanceOk n s o j) _ g))
       (not-not _ (and-r (ltb c n && instanceOk n s o j && not (isCommitted (x .tables c o j))) _ h)) (λ y z. z)
-  fair-move x (nudges c o j) h =
+  fair-move w wide x (nudges c o j) h =
       let f = and-l _ (not (nothingToNudge (x .tables c o j))) h in
       nudge c o j _ (ltb-lt c n (and-l _ (instanceOk n s o j) f)) (and-r (ltb c n) _ f) (not-not _ (and-r (ltb c n && instanceOk n s o j) _ h)) (λ y z. z)
-  fair-move x (marks c o j) h =
+  fair-move w wide x (marks c o j) h =
       handOut c o j (ltb-lt c n (and-l _ (found (nextOut n s (x .tables c)) false (λ p i. eqb p o && eqb i j)) h)) (at-found (nextOut n s (x .tables c)) o j (and-r (ltb c n) _ h))
-  fair-move x (says c o j) h = question c o j (ltb-lt c n h)
+  fair-move w wide x (says c o j) h = question c o j (ltb-lt c n h)
+  fair-move w wide x (before e) h = fair-move sameObject sameObject-wide x e h
 
   -- a script played from a state
   abbrev played : State → List Line → State
   played x [] = x
-  played x (e ∷ l) = played (after x e) l
+  played x (e ∷ l) = played (after interfere x e) l
 
   abbrev fairly : State → List Line → Bool
   fairly x [] = true
-  fairly x (e ∷ l) = fair x e && fairly (after x e) l
+  fairly x (e ∷ l) = fair x e && fairly (after interfere x e) l
 
   play : {x₀ : State} (x : State) (l : List Line) → Run n s x₀ x → fairly x l ≡ true → Run n s x₀ (played x l)
   play x [] r h = r
-  play x (e ∷ l) r h = play (after x e) l (further r (fair-move x e (and-l _ (fairly (after x e) l) h))) (and-r (fair x e) _ h)
+  play x (e ∷ l) r h =
+      play (after interfere x e) l (further r (fair-move interfere interfere-wide x e (and-l _ (fairly (after interfere x e) l) h))) (and-r (fair x e) _ h)
 
 pub write : ℕ → Command
 write e = record { op = Write; key = 7; edit = e }
+
+pub read : ℕ → Command
+read e = record { op = Read; key = 7; edit = e }
 
 pub deps : ℕ → ℕ → ℕ → List ℕ
 deps a b c = a ∷ b ∷ c ∷ 0 ∷ 0 ∷ 0 ∷ 0 ∷ []
@@ -151,6 +160,14 @@ saved-edit = ask 0 (write 1) ∷ arrives 0 ∷ recovers 2 0 1 ∷ arrives 4 ∷ 
 -- copy 0 is asked before and after its commit
 told : List Line
 told = ask 0 (write 1) ∷ says 0 0 1 ∷ arrives 0 ∷ arrives 2 ∷ says 0 0 1 ∷ says 0 0 2 ∷ []
+
+-- two reads of one object at once: each owner commits on the other's answer, and hands its own out while the other's is open there
+reads : List Line
+reads = ask 0 (read 1) ∷ ask 1 (read 2) ∷ arrives 0 ∷ arrives 2 ∷ arrives 4 ∷ arrives 5 ∷ says 0 0 1 ∷ says 1 1 1 ∷ marks 0 0 1 ∷ marks 1 1 1 ∷ []
+
+-- copy 1 works by document 01 until it has answered, and adds its own read; it goes on by 4/12, and all that follows is as in `slow`
+mixed : List Line
+mixed = ask 0 (read 1) ∷ before (ask 1 (read 2)) ∷ before (arrives 0) ∷ arrives 4 ∷ nudges 0 0 1 ∷ arrives 5 ∷ arrives 7 ∷ []
 
 -- five copies: two matching replies wait, the third commits
 five-waits : List Line
@@ -240,6 +257,13 @@ pub record Shown : Type 0 where
   -- questions and the request that they stand after, in their order
   pub told : Reached 3 1 (λ x. x .history
       ≡ requested 0 1 (write 1) ∷ answered 0 0 1 (waits 0 1) ∷ answered 0 0 1 (settled (write 1)) ∷ answered 0 0 2 unknown ∷ [])
+  -- two reads of one object, each handed out by its owner, where the other is open
+  pub reads : Reached 3 1 (λ x. Committed x 0 0 1 (read 1) (deps 0 0 0) × Committed x 1 1 1 (read 2) (deps 0 0 0)
+      × (x .tables 0 1 1 .vote .status ≡ 2) × (x .tables 1 0 1 .vote .status ≡ 2) × (x .marks 0 ≡ (0, 1) ∷ []) × (x .marks 1 ≡ (1, 1) ∷ [])
+      × (x .history ≡ requested 0 1 (read 1) ∷ requested 1 1 (read 2) ∷ answered 0 0 1 (settled (read 1)) ∷ answered 1 1 1 (settled (read 2)) ∷ []))
+  -- a copy that works by document 01 and then by 4/12, beside copies that work by 4/12: one read covers the other
+  pub mixed : Reached 3 1 (λ x. Committed x 0 0 1 (read 1) (deps 0 1 0) × Committed x 1 1 1 (read 2) (deps 0 0 0)
+      × (x .marks 0 ≡ (1, 1) ∷ (0, 1) ∷ []) × (x .marks 1 ≡ (1, 1) ∷ (0, 1) ∷ []))
 
 -- and of five and of seven copies, each beside the moment before, when it is not yet so
 pub record Larger : Type 0 where
@@ -258,10 +282,10 @@ pub record Larger : Type 0 where
   pub seven-afresh : Reached 7 1 (λ x. Committed x 4 0 1 (write 1) (deps 0 0 0))
 
 pub shown : Shown × Larger
-unfolding fast slow out lost saved-edit told five-waits five-fast five-slow five-perhaps five-asks five-afresh seven-waits seven-fast seven-two seven-slow
-    seven-perhaps seven-asks seven-afresh write deps put requestNumber lowestBlank isBlank sameVote sameCommand sameDeps allBelow onRequest
+unfolding fast slow out lost saved-edit told reads mixed five-waits five-fast five-slow five-perhaps five-asks five-afresh seven-waits seven-fast seven-two seven-slow
+    seven-perhaps seven-asks seven-afresh write read deps put requestNumber lowestBlank isBlank sameVote sameCommand sameDeps allBelow onRequest
     Rattle.rules.specs.Request.request afresh others absent bitsBelow messagesFrom member valid firstFailing firstOf holdsOf entryClauses rowOf ballotOk lead commandOk
-    depsOk voteOk toldOk noneIsBlank instanceOk conflict differs onMessage byKind preAccept seenFrom seenEntry highest met interfere joinFrom
+    depsOk voteOk toldOk noneIsBlank instanceOk conflict differs onMessage byKind preAccept seenFrom seenEntry highest met sameObject interfere joinFrom
     onPreAcceptOk awaited collect preAcceptedBy fastEnough slowEnough someEnough matching different committing acceptingJoin accepting joinAll
     accept onAcceptOk acceptedBy commit prepare onPrepareOk preparedBy quorum decide acceptedFrom afreshCommand topVoted maybeFast lowestFrom
     largestBelow nack onRecover Rattle.rules.specs.Recover.recover onNudge Rattle.rules.specs.Nudge.nudge again commitBack nackBack ones onesIn
@@ -274,6 +298,8 @@ shown = (
     saved = by-script 3 1 saved-edit _ refl refl (record { status = refl; command = refl; deps = refl });
     out = by-script 3 1 (slow ++ out) _ refl refl (record { status = refl; command = refl; deps = refl }, record { status = refl; command = refl; deps = refl }, refl, refl);
     told = by-script 3 1 told _ refl refl refl;
+    reads = by-script 3 1 reads _ refl refl (record { status = refl; command = refl; deps = refl }, record { status = refl; command = refl; deps = refl }, refl, refl, refl, refl, refl);
+    mixed = by-script 3 1 (mixed ++ out) _ refl refl (record { status = refl; command = refl; deps = refl }, record { status = refl; command = refl; deps = refl }, refl, refl);
   },
   record {
     five-waits = by-script 5 1 five-waits _ refl refl refl;

@@ -7,7 +7,7 @@ use mathlib.Core.List.{List, [], _∷_, _++_, List·Memᴰ}
 use lib.Dec.{eqb}
 use Rattle.paper.specs.Setup.{copiesOk, numbersOk}
 use Rattle.paper.specs.Instance.{instanceOk}
-use Rattle.paper.specs.Command.{isNoop}
+use Rattle.paper.specs.Command.{isNoop, Interference, Wide}
 use Rattle.paper.specs.Vote.{blank}
 use Rattle.paper.specs.Valid.{valid}
 use Rattle.paper.specs.declared.Command.{Command}
@@ -116,17 +116,18 @@ Among out all = (m : Message) → List·Memᴰ m out → List·Memᴰ m all
 
 -- A cut before a save, a restart and a refused call change nothing that is saved: they are no moves.
 -- A hand-out is as many mark moves as marks were saved.
+-- Each copy works, at each event, by some interference w that has at least what interferes: document 01's or 4/12's.
 pub data Move (n s : ℕ) (x : State) : State → Type 0 where
   -- a command that is no no-op; which ops the public call takes is asked there
-  request : (c : ℕ) (k : Command) (out : List Message) → c < n → isNoop k ≡ false
+  request : (c : ℕ) (w : Interference) (k : Command) (out : List Message) → c < n → Wide w → isNoop k ≡ false
       → requestNumber s c (x .tables c) ≤ s
-      → Among out (messages (onRequest n s c (x .tables c) k))
-      → Move n s x (happened (saved x c (saveOf c (requestNumber s c (x .tables c)) (onRequest n s c (x .tables c) k)) out) (requested c (requestNumber s c (x .tables c)) k))
+      → Among out (messages (onRequest w n s c (x .tables c) k))
+      → Move n s x (happened (saved x c (saveOf c (requestNumber s c (x .tables c)) (onRequest w n s c (x .tables c) k)) out) (requested c (requestNumber s c (x .tables c)) k))
   -- any message that was sent, if it is valid here and not refused
-  receive : (c : ℕ) (m : Message) (out : List Message) → c < n → List·Memᴰ m (x .sent) → valid n s c m ≡ true
+  receive : (c : ℕ) (w : Interference) (m : Message) (out : List Message) → c < n → Wide w → List·Memᴰ m (x .sent) → valid n s c m ≡ true
       → refused10 (x .tables c (m .owner) (m .number)) m ≡ false
-      → Among out (messages (onMessage n s c (x .tables c) m))
-      → Move n s x (saved x c (saveOf (m .owner) (m .number) (onMessage n s c (x .tables c) m)) out)
+      → Among out (messages (onMessage w n s c (x .tables c) m))
+      → Move n s x (saved x c (saveOf (m .owner) (m .number) (onMessage w n s c (x .tables c) m)) out)
   -- any instance in range that is not committed, while ballots are left
   recover : (c o j : ℕ) (out : List Message) → c < n → instanceOk n s o j ≡ true
       → isCommitted (x .tables c o j) ≡ false → outOfBallots (x .tables c o j) ≡ false
