@@ -11,7 +11,7 @@ use lib.ListN.{length, getD, List·getD-eq-default}
 use borrow.Author.Tests.{leb-true, ltb-true, eqb-true, lt-ltb, le-ltb}
 use Rattle.paper.specs.Logic.{allBelow}
 use Rattle.paper.specs.Instance.{instanceOk}
-use Rattle.paper.specs.Command.{isNoop, commandOk}
+use Rattle.paper.specs.Command.{isNoop, commandOk, interfere}
 use Rattle.paper.specs.Vote.{blank}
 use Rattle.paper.specs.Message.{carriedIn}
 use Rattle.paper.specs.Valid.{valid}
@@ -125,19 +125,19 @@ module _ (n s c : ℕ) (t : List ℕ) (u : Records) (h : Holds n s c t u) (out :
       }
 
   pub request-does : (op key edit : ℕ) → opTaken op ≡ true → CommandFits (commandOf op key edit) → c < n → leb (requestNumber s c u) s ≡ true
-      → Does n s c t out u (requested n s c t out op key edit) c (requestNumber s c u) (onRequest n s c u (commandOf op key edit))
+      → Does n s c t out u (requested n s c t out op key edit) c (requestNumber s c u) (onRequest interfere n s c u (commandOf op key edit))
   unfolding requestNumber commandOk
   request-does op key edit taken fits copy small =
       let k : Command = commandOf op key edit in
       let num : requestNumber s c (recordsIn s t) ≡ requestNumber s c u = number-alike n s (recordsIn s t) (records n s t) (alike n s t) c copy ∙ ap (requestNumber s c) (h .is) in
-      let same : onRequest n s c (recordsIn s t) k ≡ onRequest n s c u k =
-      request-alike n s (recordsIn s t) (records n s t) (alike n s t) c copy k ∙ ap (λ (v : Records). onRequest n s c v k) (h .is) in
+      let same : onRequest interfere n s c (recordsIn s t) k ≡ onRequest interfere n s c u k =
+      request-alike n s (recordsIn s t) (records n s t) (alike n s t) interfere c copy k ∙ ap (λ (v : Records). onRequest interfere n s c v k) (h .is) in
       let l : requestNumber s c u ≤ s = leb-true _ _ small in
       let m : requestNumber s c (recordsIn s t) ≤ s = rw num l in
       let noop : isNoop k ≡ false = op-asked op taken key edit in
       let e = open-gate _ ∙ sym (request-ok n s c t out op key edit refl taken) ∙ sym (asked-ok n s c t out k refl m) in
-      does _ c (requestNumber s c u) (onRequest n s c u k) (in-range n s c (requestNumber s c u) copy (blank-above s 1 (u c)) l)
-      (rw (← same) (request-event n s c (setup-of n s c t (h .kept .setup)) (recordsIn s t) (held n s c t (h .kept)) k (rw noop) fits noop m .held))
+      does _ c (requestNumber s c u) (onRequest interfere n s c u k) (in-range n s c (requestNumber s c u) copy (blank-above s 1 (u c)) l)
+      (rw (← same) (request-event n s c (setup-of n s c t (h .kept .setup)) (recordsIn s t) (held n s c t (h .kept)) interfere k (rw noop) fits noop m .held))
       (e ∙ ap₂ (λ (i : ℕ) (z : Step). acted s t out c i z) num same)
 
   pub request-full : (op key edit : ℕ) → opTaken op ≡ true → c < n → ltb s (requestNumber s c u) ≡ true → requested n s c t out op key edit ≡ refuse why.NoBlank t out
@@ -149,23 +149,23 @@ module _ (n s c : ℕ) (t : List ℕ) (u : Records) (h : Holds n s c t u) (out :
 
   -- a message that is valid here, as it was written
   pub message-does : (m : Message) → fitting m ≡ true → valid n s c m ≡ true → refused10 (u (m .owner) (m .number)) m ≡ false
-      → Does n s c t out u (received n s c t out (messageBytes m)) (m .owner) (m .number) (onMessage n s c u m)
+      → Does n s c t out u (received n s c t out (messageBytes m)) (m .owner) (m .number) (onMessage interfere n s c u m)
   message-does m f v new =
       let setup = setup-of n s c t (h .kept .setup) in
       let fits = message-fits m f in
       let r = reads n s c m fits setup v in
       let i = valid-instance n s c m v in
-      let same : onMessage n s c (recordsIn s t) m ≡ onMessage n s c u m =
-      message-alike n s (recordsIn s t) (records n s t) (alike n s t) c m i ∙ ap (λ (w : Records). onMessage n s c w m) (h .is) in
-      let taken : received n s c t out (messageBytes m) ≡ acted s t out (m .owner) (m .number) (onMessage n s c (recordsIn s t) m) =
-      open-gate _ ∙ receive-open n s c t out (messageBytes m) setup ∙ go _ _ (r .is) (r .taken) (ap (λ (w : Record). refused10 w m) (held-here n s c t u h (m .owner) (m .number) i) ∙ new) in
-      does _ (m .owner) (m .number) (onMessage n s c u m) i (rw (← same) (message-event n s c setup (recordsIn s t) (held n s c t (h .kept)) m v fits .held))
+      let same : onMessage interfere n s c (recordsIn s t) m ≡ onMessage interfere n s c u m =
+      message-alike n s (recordsIn s t) (records n s t) (alike n s t) interfere c m i ∙ ap (λ (w : Records). onMessage interfere n s c w m) (h .is) in
+      let taken : received n s c t out (messageBytes m) ≡ acted s t out (m .owner) (m .number) (onMessage interfere n s c (recordsIn s t) m) =
+      open-gate _ ∙ receive-open interfere n s c t out (messageBytes m) setup ∙ go _ _ (r .is) (r .taken) (ap (λ (w : Record). refused10 w m) (held-here n s c t u h (m .owner) (m .number) i) ∙ new) in
+      does _ (m .owner) (m .number) (onMessage interfere n s c u m) i (rw (← same) (message-event n s c setup (recordsIn s t) (held n s c t (h .kept)) interfere m v fits .held))
       (taken ∙ ap (acted s t out (m .owner) (m .number)) same)
     where
       go : (w : Message) (b : Bool) → w ≡ m → b ≡ true → refused10 (recordIn s t (m .owner) (m .number)) m ≡ false
           → cond (not b) (refuse (whyRead n s c (messageBytes m)) t out)
-          (cond (refused10 (recordIn s t (w .owner) (w .number)) w) (refuse why.OtherCommit t out) (acted s t out (w .owner) (w .number) (onMessage n s c (recordsIn s t) w)))
-          ≡ acted s t out (m .owner) (m .number) (onMessage n s c (recordsIn s t) m)
+          (cond (refused10 (recordIn s t (w .owner) (w .number)) w) (refuse why.OtherCommit t out) (acted s t out (w .owner) (w .number) (onMessage interfere n s c (recordsIn s t) w)))
+          ≡ acted s t out (m .owner) (m .number) (onMessage interfere n s c (recordsIn s t) m)
       go w b ew eb e = rw (ew, eb, e)
 
   pub recover-does : (o j : ℕ) → instanceOk n s o j ≡ true → isCommitted (u o j) ≡ false → outOfBallots (u o j) ≡ false

@@ -8,7 +8,7 @@ use mathlib.Core.List.{List, [], _∷_, _++_, map, List·Memᴰ, List·Memᴰ·h
 use lib.Dec.{eqb}
 use lib.ListN.{length, take, replicate}
 use borrow.Author.Tests.{eqb-false, le-ltb}
-use Rattle.paper.specs.Command.{isNoop}
+use Rattle.paper.specs.Command.{isNoop, Interference, Wide}
 use Rattle.paper.specs.Instance.{instanceOk}
 use Rattle.paper.specs.Valid.{valid}
 use Rattle.paper.specs.declared.Command.{Command}
@@ -219,19 +219,19 @@ module _ (n s : ℕ) (setup : Setup n s) where
     there : (o j : ℕ) → instanceOk n s o j ≡ true → y .tables c o j ≡ recordIn s (savedTable k) o j
     there o j i = ap (λ (u : Records). u o j) (f .tie .copies c .table) ∙ at-range n s (savedTable k) o j i
 
-    request-back : (v : Command) → CommandFits v → isNoop v ≡ false → requestNumber s c (y .tables c) ≤ s → (l : List Message)
-        → rules.Among l (messages (onRequest n s c (y .tables c) v)) → Back x (moved n s y c (request v) l)
+    request-back : (w : Interference) → Wide w → (v : Command) → CommandFits v → isNoop v ≡ false → requestNumber s c (y .tables c) ≤ s → (l : List Message)
+        → rules.Among l (messages (onRequest w n s c (y .tables c) v)) → Back x (moved n s y c (request w v) l)
     unfolding asked log.acted
-    request-back v fits noop small l among =
+    request-back w wide v fits noop small l among =
         let t : List ℕ = savedTable k in
         let num : requestNumber s c (recordsIn s t) ≤ s =
         rw (number-alike n s (recordsIn s t) (records n s t) (alike n s t) c copy, ← f .tie .copies c .table) small in
-        event-back (request v) (noop, fits) (noop, fits) (rw (gate-is n s c t room (asked n s c t room v) kept, le-ltb s (requestNumber s c (recordsIn s t)) num)) l among
+        event-back (request w v) (wide, noop, fits) (wide, noop, fits) (rw (gate-is n s c t room (asked w n s c t room v) kept, le-ltb s (requestNumber s c (recordsIn s t)) num)) l among
 
-    receive-back : (m : Message) → List·Memᴰ m (y .sent) → valid n s c m ≡ true → refused10 (y .tables c (m .owner) (m .number)) m ≡ false → (l : List Message)
-        → rules.Among l (messages (onMessage n s c (y .tables c) m)) → Back x (rules.saved y c (rules.saveOf (m .owner) (m .number) (onMessage n s c (y .tables c) m)) l)
+    receive-back : (w : Interference) → Wide w → (m : Message) → List·Memᴰ m (y .sent) → valid n s c m ≡ true → refused10 (y .tables c (m .owner) (m .number)) m ≡ false → (l : List Message)
+        → rules.Among l (messages (onMessage w n s c (y .tables c) m)) → Back x (rules.saved y c (rules.saveOf (m .owner) (m .number) (onMessage w n s c (y .tables c) m)) l)
     unfolding log.acted
-    receive-back m i v r l among =
+    receive-back w wide m i v r l among =
         let t : List ℕ = savedTable k in
         let b : List ℕ = messageBytes m in
         let read : messageAt b ≡ m = f .read m i in
@@ -239,10 +239,10 @@ module _ (n s : ℕ) (setup : Setup n s) where
         let fits : MessageFits m = rw read at (brought .fits) in
         let taken = reads n s c m fits (setup-at n s setup c copy) v .taken in
         let test : refused10 (recordIn s t (m .owner) (m .number)) m ≡ false = rw (← there (m .owner) (m .number) (valid-instance n s c m v)) r in
-        let answer-is : answerNumber (outcome n s c t room (receive b) .answer) ≡ 0 =
-        rw (gate-is n s c t room (receiveOpen n s c t room b) kept, receive-open n s c t room b (setup-at n s setup c copy), taken, read, test) in
-        subst (λ (z : Message). rules.Among l (messages (onMessage n s c (y .tables c) z)) → Back x (rules.saved y c (rules.saveOf (z .owner) (z .number) (onMessage n s c (y .tables c) z)) l))
-        read (λ a. event-back (receive b) (f .bytes m i) brought answer-is l a) among
+        let answer-is : answerNumber (outcome n s c t room (receive w b) .answer) ≡ 0 =
+        rw (gate-is n s c t room (receiveOpen w n s c t room b) kept, receive-open w n s c t room b (setup-at n s setup c copy), taken, read, test) in
+        subst (λ (z : Message). rules.Among l (messages (onMessage w n s c (y .tables c) z)) → Back x (rules.saved y c (rules.saveOf (z .owner) (z .number) (onMessage w n s c (y .tables c) z)) l))
+        read (λ a. event-back (receive w b) (wide, f .bytes m i) (wide, brought) answer-is l a) among
 
     recover-back : (o j : ℕ) → instanceOk n s o j ≡ true → isCommitted (y .tables c o j) ≡ false → outOfBallots (y .tables c o j) ≡ false → (l : List Message)
         → rules.Among l (messages (onRecover n c (y .tables c) o j)) → Back x (rules.saved y c (rules.saveOf o j (onRecover n c (y .tables c) o j)) l)
@@ -273,9 +273,9 @@ module _ (n s : ℕ) (setup : Setup n s) where
   Fitting l = (o j : ℕ) (k : Command) → List·Memᴰ (requested o j k) l → CommandFits k
 
   move-back : {y z : rules.State} (x : State) → Full x y → rules.Move n s y z → Fitting (z .history) → Back x z
-  move-back {y = y} x f (rules.request c v l copy noop small among) fit =
-      request-back x y f c copy v (fit _ _ _ (Memᴰ·append-right (y .history) (List·Memᴰ·head refl))) noop small l among
-  move-back {y = y} x f (rules.receive c m l copy i v r among) fit = receive-back x y f c copy m i v r l among
+  move-back {y = y} x f (rules.request c w v l copy wide noop small among) fit =
+      request-back x y f c copy w wide v (fit _ _ _ (Memᴰ·append-right (y .history) (List·Memᴰ·head refl))) noop small l among
+  move-back {y = y} x f (rules.receive c w m l copy wide i v r among) fit = receive-back x y f c copy w wide m i v r l among
   move-back {y = y} x f (rules.recover c o j l copy i free low among) fit = recover-back x y f c copy o j i free low l among
   move-back {y = y} x f (rules.nudge c o j l copy i busy among) fit = nudge-back x y f c copy o j i busy l among
   move-back {y = y} x f (rules.handOut c o j copy e) fit = mark-back x y f c copy o j e

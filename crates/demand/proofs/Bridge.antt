@@ -124,8 +124,8 @@ module _ (n s : ℕ) (setup : Setup n s) where
 
     -- an event
     brought : (call : Call) → Possible (x .sent) call → Brought n s (y .sent) call
-    brought (request v) p = p
-    brought (receive b) p = tie .sent b p
+    brought (request w v) p = p
+    brought (receive w b) p = (p .0, tie .sent b (p .1))
     brought (recover o j) p = tt
     brought (nudge o j) p = tt
 

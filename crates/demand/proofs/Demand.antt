@@ -8,7 +8,7 @@ use native.Mathlib.Omega.{arith}
 use lib.Dec.{ltb, eqb}
 use lib.ListN.{length}
 use borrow.Author.Tests.{not-false}
-use Rattle.paper.specs.Command.{isNoop}
+use Rattle.paper.specs.Command.{isNoop, Interference, interfere}
 use Rattle.paper.specs.Instance.{instanceOk}
 use Rattle.paper.specs.Refusal.{numberOf}
 use Rattle.paper.specs.Valid.{valid}
@@ -95,25 +95,25 @@ module _ (n s : ℕ) (setup : Setup n s) where
   unfolding acted
   done t out o j x = record { is = other 0 refl }
 
-  asked-fine : (c : ℕ) (t out : List ℕ) (v : Command) → Fine (asked n s c t out v)
+  asked-fine : (w : Interference) (c : ℕ) (t out : List ℕ) (v : Command) → Fine (asked w n s c t out v)
   unfolding asked
-  asked-fine c t out v = or-else (ltb s (requestNumber s c (recordsIn s t))) why.NoBlank t out _ refl (done t out _ _ _)
+  asked-fine w c t out v = or-else (ltb s (requestNumber s c (recordsIn s t))) why.NoBlank t out _ refl (done t out _ _ _)
 
   request-fine : (c : ℕ) (t out : List ℕ) → Kept n s c t → (op key edit : ℕ) → Fine (log.requested n s c t out op key edit)
   unfolding requestOpen
   request-fine c t out k op key edit =
       rw (gate-is n s c t out (requestOpen n s c t out op key edit) k)
-      (or-else (ltb (length out) 256) why.Room t out _ refl (or-else (not (opTaken op)) why.Op t out _ refl (asked-fine c t out (commandOf op key edit))))
+      (or-else (ltb (length out) 256) why.Room t out _ refl (or-else (not (opTaken op)) why.Op t out _ refl (asked-fine interfere c t out (commandOf op key edit))))
 
   open-fine : (c : ℕ) (t out : List ℕ) → Kept n s c t → (call : Call) → Fine (outcome n s c t out call)
   unfolding recoverOpen nudgeOpen
-  open-fine c t out k (request v) =
-      rw (gate-is n s c t out (asked n s c t out v) k) (or-else (ltb (length out) 256) why.Room t out _ refl (asked-fine c t out v))
-  open-fine c t out k (receive b) =
+  open-fine c t out k (request w v) =
+      rw (gate-is n s c t out (asked w n s c t out v) k) (or-else (ltb (length out) 256) why.Room t out _ refl (asked-fine w c t out v))
+  open-fine c t out k (receive w b) =
       let r : Record = recordIn s t (messageAt b .owner) (messageAt b .number) in
       let other : (k : ℕ) → k < 31 → eqb (numberOf (whyRead n s c b)) k ≡ false = why-other (partsOf (kindAt b)) (verdictAt n s c b) in
       let ungated : (eqb (numberOf (whyRead n s c b)) 1 || eqb (numberOf (whyRead n s c b)) 11) ≡ false = rw (other 1 (omega arith), other 11 (omega arith)) in
-      rw (gate-is n s c t out (receiveOpen n s c t out b) k, receive-open n s c t out b (setup-of n s c t (k .setup)))
+      rw (gate-is n s c t out (receiveOpen w n s c t out b) k, receive-open w n s c t out b (setup-of n s c t (k .setup)))
       (or-else (ltb (length out) 256) why.Room t out _ refl
       (or-else (not (validBytes n s c b)) (whyRead n s c b) t out _ ungated (or-else (refused10 r (messageAt b)) why.OtherCommit t out _ refl (done t out _ _ _))))
   open-fine c t out k (recover o j) =
@@ -157,17 +157,17 @@ module _ (n s : ℕ) (setup : Setup n s) where
   ten : (a : ℕ) → eqb a 10 ≡ false → a ≡ 10 → ⊥
   ten a h e = tf (eqb a 10) (rw e) h
 
-  sent-agrees : (x : State) (y₀ y : rules.State) → Tie n s setup x y → rules.Start n s y₀ → rules.Run n s y₀ y → (c : ℕ) → c < n → (out b : List ℕ) → List·Memᴰ b (x .sent)
-      → Agrees (outcome n s c (savedTable (x .copies c)) out (receive b))
+  sent-agrees : (x : State) (y₀ y : rules.State) → Tie n s setup x y → rules.Start n s y₀ → rules.Run n s y₀ y → (c : ℕ) → c < n
+      → (w : Interference) (out b : List ℕ) → List·Memᴰ b (x .sent) → Agrees (outcome n s c (savedTable (x .copies c)) out (receive w b))
   unfolding validBytes acted
-  sent-agrees x y₀ y t st r c l out b i =
+  sent-agrees x y₀ y t st r c l w out b i =
       let v : List ℕ = savedTable (x .copies c) in
       let m : Message = messageAt b in
       let same : validBytes n s c b ≡ true → refused10 (recordIn s v (m .owner) (m .number)) m ≡ false =
       λ h.
       let g : valid n s c m ≡ true = and-true (framed b && opFits b) _ h .1 in
       rw (← record-is x y t c (m .owner) (m .number) (valid-instance n s c m g)) (rules-proved.lasting n s setup .unrefused y₀ y st r c m (t .sent b i .among) g) in
-      rw (gate-is n s c v out (receiveOpen n s c v out b) (t .copies c .kept l), receive-open n s c v out b (setup-of n s c v (t .copies c .kept l .setup)))
+      rw (gate-is n s c v out (receiveOpen w n s c v out b) (t .copies c .kept l), receive-open w n s c v out b (setup-of n s c v (t .copies c .kept l .setup)))
       (by-cond Agrees (ltb (length out) 256) (λ e. ten 2 refl)
       (λ e. by-cond Agrees (not (validBytes n s c b)) (λ f. ten _ (why-other (partsOf (kindAt b)) (verdictAt n s c b) 10 (omega arith)))
       (λ f. by-cond Agrees (refused10 (recordIn s v (m .owner) (m .number)) m) (λ g. tf _ g (same (not-false _ f))) (λ g. ten 0 refl))))
@@ -195,11 +195,11 @@ module _ (n s : ℕ) (setup : Setup n s) where
         let q = atY n s setup x₀ x y st rx ry in
         let (l, e) = D .lasting .marks (z .first) (p .later) (q .later) (z .start) (p .run) (q .run) a in
         (l, sym (q .tie .copies a .marks) ∙ e ∙ ap (λ (m : List Instance). m ++ l) (p .tie .copies a .marks));
-    never-10 = λ x₀ x st r c l none out b i e.
+    never-10 = λ x₀ x st r c l none w out b i e.
         let z = begin n s setup st in
         let p = atX n s setup x₀ x x st r stay in
         let m = in-memory n s setup x (p .later) (p .tie) c l none in
-        sent-agrees n s setup x (z .first) (p .later) (p .tie) (z .start) (p .run) c l out b i (rw m at e);
+        sent-agrees n s setup x (z .first) (p .later) (p .tie) (z .start) (p .run) c l w out b i (rw m at e);
     never-1 = λ x₀ x st r c l. unrefused n s setup c (x .copies c .lent) 1 (in-run n s setup x₀ x st r c l) (λ a o e. o .0 e);
     never-11 = λ x₀ x st r c l. unrefused n s setup c (x .copies c .lent) 11 (in-run n s setup x₀ x st r c l) (λ a o e. o .1 e);
   }

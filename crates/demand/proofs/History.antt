@@ -35,8 +35,8 @@ heard (answered c o j a) = answered c o j (answerOf a)
 
 -- it is recorded at both alike
 pub recorded-heard : (l : List (Happening Settling)) (o j : ℕ) (call : Call) → recorded (map heard l) o j call ≡ map heard (recorded l o j call)
-recorded-heard l o j (request k) = sym (map-append heard l (requested o j k ∷ []))
-recorded-heard l o j (receive b) = refl
+recorded-heard l o j (request w k) = sym (map-append heard l (requested o j k ∷ []))
+recorded-heard l o j (receive w b) = refl
 recorded-heard l o j (recover p i) = refl
 recorded-heard l o j (nudge p i) = refl
 

@@ -8,6 +8,7 @@ use lib.Dec.{ltb}
 use borrow.Author.Tests.{ltb-true, lt-ltb, le-leb}
 use Rattle.paper.specs.Logic.{implies, allBelow}
 use Rattle.paper.specs.Instance.{instanceOk}
+use Rattle.paper.specs.Command.{Interference}
 use Rattle.paper.specs.declared.Command.{Command}
 use Rattle.paper.specs.declared.Record.{Record}
 use Rattle.paper.specs.declared.Message.{Message}
@@ -110,34 +111,34 @@ module _ (n s : ℕ) where
     votes o j i = ap (λ (r : Record). r .vote) (h o j i)
 
     -- Seen
-    entry-alike : (o j : ℕ) (k : Command) (p : ℕ) → seenEntry n s t o j k p ≡ seenEntry n s u o j k p
+    entry-alike : (w : Interference) (o j : ℕ) (k : Command) (p : ℕ) → seenEntry w n s t o j k p ≡ seenEntry w n s u o j k p
     unfolding seenEntry met
-    entry-alike o j k p = go (ltb p n) refl
+    entry-alike w o j k p = go (ltb p n) refl
       where
-        go : (b : Bool) → ltb p n ≡ b → cond b (highest s (met t o j k p)) 0 ≡ cond b (highest s (met u o j k p)) 0
+        go : (b : Bool) → ltb p n ≡ b → cond b (highest s (met w t o j k p)) 0 ≡ cond b (highest s (met w u o j k p)) 0
         go false e = refl
-        go true e = highest-alike s (met t o j k p) (met u o j k p) (λ i x y. rw (h p i (in-range n s p i (ltb-true p n e) x y)))
+        go true e = highest-alike s (met w t o j k p) (met w u o j k p) (λ i x y. rw (h p i (in-range n s p i (ltb-true p n e) x y)))
 
-    from-alike : (i p o j : ℕ) (k : Command) → seenFrom i p n s t o j k ≡ seenFrom i p n s u o j k
+    from-alike : (w : Interference) (i p o j : ℕ) (k : Command) → seenFrom w i p n s t o j k ≡ seenFrom w i p n s u o j k
     unfolding seenFrom
-    from-alike zero p o j k = refl
-    from-alike (suc i) p o j k = rw (entry-alike o j k p, from-alike i (p + 1) o j k)
+    from-alike w zero p o j k = refl
+    from-alike w (suc i) p o j k = rw (entry-alike w o j k p, from-alike w i (p + 1) o j k)
 
-    seen-alike : (o j : ℕ) → seen n s t o j ≡ seen n s u o j
-    seen-alike o j = fun-ext (λ k. from-alike 7 0 o j k)
+    seen-alike : (w : Interference) (o j : ℕ) → seen w n s t o j ≡ seen w n s u o j
+    seen-alike w o j = fun-ext (λ k. from-alike w 7 0 o j k)
 
     -- the events
     pub number-alike : (c : ℕ) → c < n → requestNumber s c t ≡ requestNumber s c u
     unfolding requestNumber
     number-alike c l = blank-alike s 1 (t c) (u c) (λ i x y. h c i (in-range n s c i l x (omega arith)))
 
-    pub request-alike : (c : ℕ) → c < n → (k : Command) → onRequest n s c t k ≡ onRequest n s c u k
+    pub request-alike : (w : Interference) (c : ℕ) → c < n → (k : Command) → onRequest w n s c t k ≡ onRequest w n s c u k
     unfolding onRequest
-    request-alike c l k = rw (number-alike c l, from-alike 7 0 c (requestNumber s c u) k)
+    request-alike w c l k = rw (number-alike c l, from-alike w 7 0 c (requestNumber s c u) k)
 
-    pub message-alike : (c : ℕ) (m : Message) → instanceOk n s (m .owner) (m .number) ≡ true → onMessage n s c t m ≡ onMessage n s c u m
+    pub message-alike : (w : Interference) (c : ℕ) (m : Message) → instanceOk n s (m .owner) (m .number) ≡ true → onMessage w n s c t m ≡ onMessage w n s c u m
     unfolding onMessage
-    message-alike c m i = rw (h (m .owner) (m .number) i, seen-alike (m .owner) (m .number))
+    message-alike w c m i = rw (h (m .owner) (m .number) i, seen-alike w (m .owner) (m .number))
 
     pub recover-alike : (c o j : ℕ) → instanceOk n s o j ≡ true → onRecover n c t o j ≡ onRecover n c u o j
     unfolding onRecover

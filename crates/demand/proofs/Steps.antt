@@ -9,7 +9,7 @@ use lib.ListN.{length}
 use borrow.Author.Tests.{ltb-false, not-false}
 use Rattle.paper.specs.Setup.{setupOk}
 use Rattle.paper.specs.Instance.{instanceOk}
-use Rattle.paper.specs.Command.{isNoop, commandOk}
+use Rattle.paper.specs.Command.{isNoop, commandOk, Interference, interfere, Wide}
 use Rattle.paper.specs.Valid.{valid}
 use Rattle.paper.specs.Refusal.{numberOf}
 use Rattle.paper.proofs.Laws.{and-true}
@@ -43,7 +43,7 @@ use Rattle.log.specs.Events.{Outcome, refuse, acted, gateOf, gated, through, co
 use Rattle.log.proofs.Calls.{setup-of, receive-open}
 use Rattle.safety.specs.Run.{replaced}
 use Rattle.safety.specs.Run as rules
-use Rattle.demand.specs.Run.{Call, request, receive, recover, nudge, outcome, PublicRequest, recorded}
+use Rattle.demand.specs.Run.{Call, request, receive, recover, nudge, outcome, PublicRequest, PublicMessage, recorded}
 use Rattle.demand.proofs.Range.{in-range, number-alike, request-alike, message-alike, recover-alike, nudge-alike}
 use Rattle.demand.proofs.Records.{records, at-range, alike, held}
 use Rattle.demand.proofs.Written.{Carried}
@@ -69,27 +69,27 @@ gate-is n s c t out rest k = rw (k .setup, k .sound) (go (ltb (length out) 256))
 
 -- what was asked of a call before it is made
 abbrev pub Brought : ℕ → ℕ → List Message → Call → Type 0
-Brought n s l (request k) = (isNoop k ≡ false) × CommandFits k
-Brought n s l (receive b) = Carried n s l b
+Brought n s l (request w k) = Wide w × (isNoop k ≡ false) × CommandFits k
+Brought n s l (receive w b) = Wide w × Carried n s l b
 Brought n s l (recover o j) = Unit {0}
 Brought n s l (nudge o j) = Unit {0}
 
 -- the instance of a call at copy c, and what it does there to a table of records
 abbrev pub ownerIn : ℕ → Call → ℕ
-ownerIn c (request k) = c
-ownerIn c (receive b) = messageAt b .owner
+ownerIn c (request w k) = c
+ownerIn c (receive w b) = messageAt b .owner
 ownerIn c (recover o j) = o
 ownerIn c (nudge o j) = o
 
 abbrev pub numberIn : ℕ → ℕ → Records → Call → ℕ
-numberIn s c u (request k) = requestNumber s c u
-numberIn s c u (receive b) = messageAt b .number
+numberIn s c u (request w k) = requestNumber s c u
+numberIn s c u (receive w b) = messageAt b .number
 numberIn s c u (recover o j) = j
 numberIn s c u (nudge o j) = j
 
 abbrev pub stepIn : ℕ → ℕ → ℕ → Records → Call → Step
-stepIn n s c u (request k) = onRequest n s c u k
-stepIn n s c u (receive b) = onMessage n s c u (messageAt b)
+stepIn n s c u (request w k) = onRequest w n s c u k
+stepIn n s c u (receive w b) = onMessage w n s c u (messageAt b)
 stepIn n s c u (recover o j) = onRecover n c u o j
 stepIn n s c u (nudge o j) = onNudge n c u o j
 
@@ -124,15 +124,18 @@ public-request n s c t out op key edit o j w = by (gateOf n s c t (length out))
     k : Command
     k = commandOf op key edit
 
-    taken : (b : Bool) → opTaken op ≡ b → cond (not b) (refuse why.Op t out) (asked n s c t out k) .answer ≡ Event o j w
-        → (isNoop k ≡ false) × (cond (not b) (refuse why.Op t out) (asked n s c t out k) ≡ asked n s c t out k)
+    taken : (b : Bool) → opTaken op ≡ b → cond (not b) (refuse why.Op t out) (asked interfere n s c t out k) .answer ≡ Event o j w
+        → (isNoop k ≡ false) × (cond (not b) (refuse why.Op t out) (asked interfere n s c t out k) ≡ asked interfere n s c t out k)
     taken true e h = (op-asked op e key edit, refl)
     taken false e h = clash (cc)
 
-    by : (g : Gate) → through g t out (cond (not (opTaken op)) (refuse why.Op t out) (asked n s c t out k)) .answer ≡ Event o j w
-        → (isNoop k ≡ false) × (through g t out (cond (not (opTaken op)) (refuse why.Op t out) (asked n s c t out k)) ≡ through g t out (asked n s c t out k))
+    by : (g : Gate) → through g t out (cond (not (opTaken op)) (refuse why.Op t out) (asked interfere n s c t out k)) .answer ≡ Event o j w
+        → (isNoop k ≡ false) × (through g t out (cond (not (opTaken op)) (refuse why.Op t out) (asked interfere n s c t out k)) ≡ through g t out (asked interfere n s c t out k))
     by Open h = taken (opTaken op) refl h
     by (Shut r) h = clash (cc)
+
+pub public-message : PublicMessage
+public-message n s c t out b = refl
 
 module _ (n s c : ℕ) (t out : List ℕ) (k : Kept n s c t) (copy : c < n) (y : rules.State) (at : y .tables c ≡ records n s t) where
   abbrev setup : setupOk n s c ≡ true
@@ -141,41 +144,43 @@ module _ (n s c : ℕ) (t out : List ℕ) (k : Kept n s c t) (copy : c < n) (y :
   here : (o j : ℕ) → instanceOk n s o j ≡ true → y .tables c o j ≡ recordIn s t o j
   here o j i = ap (λ (u : Records). u o j) at ∙ at-range n s t o j i
 
-  request-step : (v : Command) → Brought n s (y .sent) (request v) → answerNumber (outcome n s c t out (request v) .answer) ≡ 0 → Stepped n s c t out (request v) y
+  request-step : (w : Interference) (v : Command) → Brought n s (y .sent) (request w v) → answerNumber (outcome n s c t out (request w v) .answer) ≡ 0
+      → Stepped n s c t out (request w v) y
   unfolding asked requestNumber commandOk
-  request-step v (noop, f) h =
+  request-step w v (wide, noop, f) h =
       let j : ℕ = requestNumber s c (recordsIn s t) in
-      let x : Step = onRequest n s c (recordsIn s t) v in
-      let a = past _ why.Room t out _ _ (gate-is n s c t out (asked n s c t out v) k) h in
-      let d = past (ltb s j) why.NoBlank t out (asked n s c t out v) (acted s t out c j x) refl (a .answered) in
+      let x : Step = onRequest w n s c (recordsIn s t) v in
+      let a = past _ why.Room t out _ _ (gate-is n s c t out (asked w n s c t out v) k) h in
+      let d = past (ltb s j) why.NoBlank t out (asked w n s c t out v) (acted s t out c j x) refl (a .answered) in
       let small : j ≤ s = ltb-false s j (d .test) in
       let num : requestNumber s c (y .tables c) ≡ j = ap (requestNumber s c) at ∙ sym (number-alike n s (recordsIn s t) (records n s t) (alike n s t) c copy) in
-      let same : onRequest n s c (y .tables c) v ≡ x = ap (λ (u : Records). onRequest n s c u v) at ∙ sym (request-alike n s (recordsIn s t) (records n s t) (alike n s t) c copy v) in
+      let same : onRequest w n s c (y .tables c) v ≡ x = ap (λ (u : Records). onRequest w n s c u v) at ∙ sym (request-alike n s (recordsIn s t) (records n s t) (alike n s t) w c copy v) in
       record {
         is = a .is ∙ d .is ∙ ap₂ (λ (i : ℕ) (z : Step). acted s t out c i z) (sym num) (sym same);
         range = rw num (in-range n s c j copy (blank-above s 1 (recordsIn s t c)) small);
-        closed = rw same (request-event n s c setup (recordsIn s t) (held n s c t k) v (rw noop) f noop small);
+        closed = rw same (request-event n s c setup (recordsIn s t) (held n s c t k) w v (rw noop) f noop small);
         long = ltb-false (length out) 256 (a .test);
-        move = λ l among. rules.request c v l copy noop (rw num small) among;
+        move = λ l among. rules.request c w v l copy wide noop (rw num small) among;
       }
 
-  receive-step : (b : List ℕ) → Brought n s (y .sent) (receive b) → answerNumber (outcome n s c t out (receive b) .answer) ≡ 0 → Stepped n s c t out (receive b) y
+  receive-step : (w : Interference) (b : List ℕ) → Brought n s (y .sent) (receive w b) → answerNumber (outcome n s c t out (receive w b) .answer) ≡ 0
+      → Stepped n s c t out (receive w b) y
   unfolding validBytes
-  receive-step b f h =
+  receive-step w b (wide, f) h =
       let m : Message = messageAt b in
-      let x : Step = onMessage n s c (recordsIn s t) m in
-      let a = past _ why.Room t out _ _ (gate-is n s c t out (receiveOpen n s c t out b) k) h in
-      let d = past (not (validBytes n s c b)) (whyRead n s c b) t out (receiveOpen n s c t out b) _ (receive-open n s c t out b setup) (a .answered) in
+      let x : Step = onMessage w n s c (recordsIn s t) m in
+      let a = past _ why.Room t out _ _ (gate-is n s c t out (receiveOpen w n s c t out b) k) h in
+      let d = past (not (validBytes n s c b)) (whyRead n s c b) t out (receiveOpen w n s c t out b) _ (receive-open w n s c t out b setup) (a .answered) in
       let e = past (refused10 (recordIn s t (m .owner) (m .number)) m) why.OtherCommit t out _ (acted s t out (m .owner) (m .number) x) refl (d .answered) in
       let v : valid n s c m ≡ true = and-true (framed b && opFits b) _ (not-false _ (d .test)) .1 in
       let i : instanceOk n s (m .owner) (m .number) ≡ true = valid-instance n s c m v in
-      let same : onMessage n s c (y .tables c) m ≡ x = ap (λ (u : Records). onMessage n s c u m) at ∙ sym (message-alike n s (recordsIn s t) (records n s t) (alike n s t) c m i) in
+      let same : onMessage w n s c (y .tables c) m ≡ x = ap (λ (u : Records). onMessage w n s c u m) at ∙ sym (message-alike n s (recordsIn s t) (records n s t) (alike n s t) w c m i) in
       record {
         is = a .is ∙ d .is ∙ e .is ∙ ap (acted s t out (m .owner) (m .number)) (sym same);
         range = i;
-        closed = rw same (message-event n s c setup (recordsIn s t) (held n s c t k) m v (f .fits));
+        closed = rw same (message-event n s c setup (recordsIn s t) (held n s c t k) w m v (f .fits));
         long = ltb-false (length out) 256 (a .test);
-        move = λ l among. rules.receive c m l copy (f .among) v (rw (here (m .owner) (m .number) i) (e .test)) among;
+        move = λ l among. rules.receive c w m l copy wide (f .among) v (rw (here (m .owner) (m .number) i) (e .test)) among;
       }
 
   recover-step : (o j : ℕ) → answerNumber (outcome n s c t out (recover o j) .answer) ≡ 0 → Stepped n s c t out (recover o j) y
@@ -216,7 +221,7 @@ module _ (n s c : ℕ) (t out : List ℕ) (k : Kept n s c t) (copy : c < n) (y :
       }
 
   pub stepped : (call : Call) → Brought n s (y .sent) call → answerNumber (outcome n s c t out call .answer) ≡ 0 → Stepped n s c t out call y
-  stepped (request v) f h = request-step v f h
-  stepped (receive b) f h = receive-step b f h
+  stepped (request w v) f h = request-step w v f h
+  stepped (receive w b) f h = receive-step w b f h
   stepped (recover o j) f h = recover-step o j h
   stepped (nudge o j) f h = nudge-step o j h

@@ -17,7 +17,7 @@ use Rattle.closed.proofs.Laws.{three, clash}
 use Rattle.safety.specs.Run.{Happening, requested, answered, Setup}
 use Rattle.safety.specs.Run as rules
 use Rattle.safety.specs.Demand as rules-demand
-use Rattle.safety.proofs.Witness.{fitting, write, deps, shown}
+use Rattle.safety.proofs.Witness.{fitting, write, read, deps, shown}
 use Rattle.safety.proofs.Witness as scripts
 use Rattle.demand.specs.Run.{State, savedTable, Start, Run}
 use Rattle.demand.specs.Demand.{inPlace, Committed}
@@ -85,6 +85,14 @@ pub record Shown : Type 0 where
   -- a question before a commit, one after it and one of no instance, beside the request
   pub told : Reached 3 1 (λ x. map heard (x .history)
       ≡ requested 0 1 (write 1) ∷ answered 0 0 1 (rules.waits 0 1) ∷ answered 0 0 1 (rules.settled (write 1)) ∷ answered 0 0 2 rules.unknown ∷ [])
+  -- two reads of one object, settled and handed out where each was asked for, while the other is open there
+  pub reads : Reached 3 1 (λ x. Committed 3 1 (inPlace 3 1) x 0 0 1 (read 1) (deps 0 0 0) × Committed 3 1 (inPlace 3 1) x 1 1 1 (read 2) (deps 0 0 0)
+      × (recordIn 1 (savedTable (x .copies 0)) 1 1 .vote .status ≡ 2) × (recordIn 1 (savedTable (x .copies 1)) 0 1 .vote .status ≡ 2)
+      × (x .copies 0 .marks ≡ (0, 1) ∷ []) × (x .copies 1 .marks ≡ (1, 1) ∷ [])
+      × (map heard (x .history) ≡ requested 0 1 (read 1) ∷ requested 1 1 (read 2) ∷ answered 0 0 1 (rules.settled (read 1)) ∷ answered 1 1 1 (rules.settled (read 2)) ∷ []))
+  -- a copy that works by document 01 and then by 4/12, beside others that work by 4/12: one read covers the other
+  pub mixed : Reached 3 1 (λ x. Committed 3 1 (inPlace 3 1) x 0 0 1 (read 1) (deps 0 1 0) × Committed 3 1 (inPlace 3 1) x 1 1 1 (read 2) (deps 0 0 0)
+      × (x .copies 0 .marks ≡ (1, 1) ∷ (0, 1) ∷ []) × (x .copies 1 .marks ≡ (1, 1) ∷ (0, 1) ∷ []))
 
 -- of five and of seven copies, each beside the moment before, when it is not yet so
 pub record Larger : Type 0 where
@@ -116,6 +124,21 @@ shown-bytes = let r = shown .0 in record {
     sym (t .copies 1 .marks) ∙ h .3,
   )) (r .out);
   told = lifted 3 1 three-one _ _ (λ x y t h. sym (t .history) ∙ h) (r .told);
+  reads = lifted 3 1 three-one _ _ (λ x y t h. (
+    of-rules 3 1 three-one x y t 0 0 1 (read 1) (deps 0 0 0) (omega arith) refl (h .0),
+    of-rules 3 1 three-one x y t 1 1 1 (read 2) (deps 0 0 0) (omega arith) refl (h .1),
+    rw (← record-is 3 1 three-one x y t 0 1 1 refl) (h .2),
+    rw (← record-is 3 1 three-one x y t 1 0 1 refl) (h .3),
+    sym (t .copies 0 .marks) ∙ h .4,
+    sym (t .copies 1 .marks) ∙ h .5,
+    sym (t .history) ∙ h .6,
+  )) (r .reads);
+  mixed = lifted 3 1 three-one _ _ (λ x y t h. (
+    of-rules 3 1 three-one x y t 0 0 1 (read 1) (deps 0 1 0) (omega arith) refl (h .0),
+    of-rules 3 1 three-one x y t 1 1 1 (read 2) (deps 0 0 0) (omega arith) refl (h .1),
+    sym (t .copies 0 .marks) ∙ h .2,
+    sym (t .copies 1 .marks) ∙ h .3,
+  )) (r .mixed);
 }
 
 pub larger-bytes : Larger

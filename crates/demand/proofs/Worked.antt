@@ -9,7 +9,7 @@ use Rattle.codec.specs.Parts.{commandBytes, depsBytes}
 use Rattle.wire.specs.Wire.{headBytes, restBytes, messageBytes}
 use lib.Count.{ones}
 use Rattle.paper.specs.Vote.{sameVote, member, voteOk, toldOk, noneIsBlank}
-use Rattle.paper.specs.Command.{sameCommand, commandOk, interfere}
+use Rattle.paper.specs.Command.{sameCommand, commandOk, sameObject, interfere}
 use Rattle.paper.specs.Deps.{sameDeps, depsOk, joinFrom, covers}
 use Rattle.paper.specs.Logic.{allBelow}
 use Rattle.paper.specs.Valid.{valid, firstFailing, firstOf, holdsOf, entryClauses}
@@ -71,7 +71,7 @@ two-out t u h o j p i e f g =
     handed-does 3 4 0 t u h (9 ∷ 9 ∷ 9 ∷ []) ∙ (λ k. record { answer = Codes (length (codes k)); table = table k; list = splice (9 ∷ 9 ∷ 9 ∷ []) 0 (codes k) })
 
 pub examples : (out : List ℕ) → 256 ≤ length out → paper.Examples out
-unfolding put requestNumber lowestBlank isBlank sameVote sameCommand sameDeps allBelow onRequest request afresh others bitsBelow messagesFrom member valid firstFailing firstOf holdsOf entryClauses rowOf ballotOk lead commandOk depsOk voteOk toldOk noneIsBlank instanceOk conflict differs onMessage byKind preAccept seenFrom seenEntry highest met interfere joinFrom onPreAcceptOk awaited collect preAcceptedBy fastEnough slowEnough someEnough matching different committing acceptingJoin accepting joinAll prepare onPrepareOk preparedBy quorum decide acceptedFrom afreshCommand topVoted maybeFast lowestFrom largestBelow onRecover recover ones nextOut firstNumber firstOwner firstOpen candidate isSettled waitsFor reaches reachesIn coversIn covers everywhere somewhere commit commandBytes depsBytes headBytes restBytes messageBytes allBytes acted splice handedOpen
+unfolding put requestNumber lowestBlank isBlank sameVote sameCommand sameDeps allBelow onRequest request afresh others bitsBelow messagesFrom member valid firstFailing firstOf holdsOf entryClauses rowOf ballotOk lead commandOk depsOk voteOk toldOk noneIsBlank instanceOk conflict differs onMessage byKind preAccept seenFrom seenEntry highest met sameObject interfere joinFrom onPreAcceptOk awaited collect preAcceptedBy fastEnough slowEnough someEnough matching different committing acceptingJoin accepting joinAll prepare onPrepareOk preparedBy quorum decide acceptedFrom afreshCommand topVoted maybeFast lowestFrom largestBelow onRecover recover ones nextOut firstNumber firstOwner firstOpen candidate isSettled waitsFor reaches reachesIn coversIn covers everywhere somewhere commit commandBytes depsBytes headBytes restBytes messageBytes allBytes acted splice handedOpen
 examples out room =
     let three : Setup 3 4 = record { copies = refl; numbers = refl } in
     let five : Setup 5 4 = record { copies = refl; numbers = refl } in
@@ -115,7 +115,7 @@ examples out room =
     }
 
 pub limits : (out : List ℕ) → paper.Limits out
-unfolding put requestNumber lowestBlank isBlank sameVote sameCommand sameDeps allBelow onRequest request afresh others bitsBelow messagesFrom member valid firstFailing firstOf holdsOf entryClauses rowOf ballotOk lead commandOk depsOk voteOk toldOk noneIsBlank instanceOk conflict differs onMessage byKind preAccept seenFrom seenEntry highest met interfere joinFrom onPreAcceptOk awaited collect preAcceptedBy fastEnough slowEnough someEnough matching different committing acceptingJoin accepting joinAll prepare onPrepareOk preparedBy quorum decide acceptedFrom afreshCommand topVoted maybeFast lowestFrom largestBelow onRecover recover ones nextOut firstNumber firstOwner firstOpen candidate isSettled waitsFor reaches reachesIn coversIn covers everywhere somewhere commit commandBytes depsBytes headBytes restBytes messageBytes allBytes acted splice handedOpen handedTable handedCodes handOut
+unfolding put requestNumber lowestBlank isBlank sameVote sameCommand sameDeps allBelow onRequest request afresh others bitsBelow messagesFrom member valid firstFailing firstOf holdsOf entryClauses rowOf ballotOk lead commandOk depsOk voteOk toldOk noneIsBlank instanceOk conflict differs onMessage byKind preAccept seenFrom seenEntry highest met sameObject interfere joinFrom onPreAcceptOk awaited collect preAcceptedBy fastEnough slowEnough someEnough matching different committing acceptingJoin accepting joinAll prepare onPrepareOk preparedBy quorum decide acceptedFrom afreshCommand topVoted maybeFast lowestFrom largestBelow onRecover recover ones nextOut firstNumber firstOwner firstOpen candidate isSettled waitsFor reaches reachesIn coversIn covers everywhere somewhere commit commandBytes depsBytes headBytes restBytes messageBytes allBytes acted splice handedOpen handedTable handedCodes handOut
 limits out =
     let three : Setup 3 4 = record { copies = refl; numbers = refl } in
     let blanks = blank-holds 3 4 three 0 (omega arith) in

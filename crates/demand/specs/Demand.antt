@@ -6,7 +6,7 @@ use mathlib.Core.Logic.{_⊎_}
 use mathlib.Core.Bool.{true}
 use mathlib.Core.List.{List, [], _++_, List·Memᴰ}
 use Rattle.paper.specs.Instance.{instanceOk}
-use Rattle.paper.specs.Command.{isNoop, interfere}
+use Rattle.paper.specs.Command.{isNoop, Interference, interfere}
 use Rattle.paper.specs.Deps.{covers}
 use Rattle.paper.specs.declared.Command.{Command}
 use Rattle.rules.specs.Step.{isCommitted}
@@ -96,7 +96,8 @@ module _ (n s : ℕ) (v : View) where
     pub marks : (x₀ x y : v .State) → v .Start x₀ → v .Run x₀ x → v .Run x y → (a : ℕ)
         → (l : List Instance) × (v .marks y a ≡ v .marks x a ++ l)
     pub never-10 : (x₀ x : v .State) → v .Start x₀ → v .Run x₀ x → (c : ℕ) → c < n → v .Ready x c
-        → (out b : List ℕ) → List·Memᴰ b (v .sent x) → answerNumber (outcome n s c (v .lent x c) out (receive b) .answer) ≡ 10 → ⊥
+        → (w : Interference) (out b : List ℕ) → List·Memᴰ b (v .sent x)
+        → answerNumber (outcome n s c (v .lent x c) out (receive w b) .answer) ≡ 10 → ⊥
     pub never-1 : (x₀ x : v .State) → v .Start x₀ → v .Run x₀ x → (c : ℕ) → c < n → Unrefused n s c (v .lent x c) 1
     pub never-11 : (x₀ x : v .State) → v .Start x₀ → v .Run x₀ x → (c : ℕ) → c < n → Unrefused n s c (v .lent x c) 11
 

@@ -5,7 +5,7 @@ use mathlib.Core.Path.{_≡_}
 use mathlib.Core.Bool.{false}
 use mathlib.Core.List.{List, [], _∷_, _++_, List·Memᴰ}
 use lib.ListN.{take, drop}
-use Rattle.paper.specs.Command.{isNoop}
+use Rattle.paper.specs.Command.{isNoop, Interference, interfere, Wide}
 use Rattle.paper.specs.Fits.{CommandFits}
 use Rattle.paper.specs.declared.Command.{Command}
 use Rattle.rules.specs.Order.{instanceOf}
@@ -13,7 +13,7 @@ use Rattle.wire.specs.Wire.{lengthOf, kindAt}
 use Rattle.table.specs.Table.{blankTable}
 use Rattle.table.specs.Calls.{partOf, putPart}
 use Rattle.log.specs.declared.Answer.the-variants.{Event}
-use Rattle.log.specs.Events.{Outcome, gated, commandOf, asked, received, recovered, nudged}
+use Rattle.log.specs.Events.{Outcome, gated, commandOf, asked, receiveOpen, recovered, nudged}
 use Rattle.log.specs.Events as log
 use Rattle.order.specs.declared.Settling.{Settling}
 use Rattle.order.specs.declared.Handing.the-variants.{Codes}
@@ -57,17 +57,18 @@ begun tables past =
 pub data Start (n s : ℕ) : State → Type 0 where
   blanks : Start n s (begun (blankTable n s) [])
 
--- a call for an event
+-- a call for an event. Hosts are not brought up to date all at once: w is what interferes by the call that this copy makes
+-- at this moment, 4/12's `interfere` or document 01's `sameObject`.
 pub data Call : Type 0 where
-  request : (k : Command) → Call
-  receive : (b : List ℕ) → Call
+  request : (w : Interference) (k : Command) → Call
+  receive : (w : Interference) (b : List ℕ) → Call
   recover nudge : (o j : ℕ) → Call
 
 -- what it answers on the table t with the room out, and both after it: what the calls' contracts cite. A request is taken
 -- behind the test of its op (refusal 4), whatever ops the call takes.
 abbrev pub outcome : ℕ → ℕ → ℕ → List ℕ → List ℕ → Call → Outcome
-outcome n s c t out (request k) = gated n s c t out (asked n s c t out k)
-outcome n s c t out (receive b) = received n s c t out b
+outcome n s c t out (request w k) = gated n s c t out (asked w n s c t out k)
+outcome n s c t out (receive w b) = gated n s c t out (receiveOpen w n s c t out b)
 outcome n s c t out (recover o j) = recovered n s c t out o j
 outcome n s c t out (nudge o j) = nudged n s c t out o j
 
@@ -76,19 +77,24 @@ abbrev pub PublicRequest : Type 0
 PublicRequest = (n s c : ℕ) (t out : List ℕ) (op key edit o j w : ℕ)
     → log.requested n s c t out op key edit .answer ≡ Event o j w
     → (isNoop (commandOf op key edit) ≡ false)
-    × (log.requested n s c t out op key edit ≡ outcome n s c t out (request (commandOf op key edit)))
+    × (log.requested n s c t out op key edit ≡ outcome n s c t out (request interfere (commandOf op key edit)))
 
--- a requested command is no no-op, its key a u32 and its edit a u64; messages are never invented
+-- and so is the public call for a message; proofs/Steps: public-message
+abbrev pub PublicMessage : Type 0
+PublicMessage = (n s c : ℕ) (t out b : List ℕ) → log.received n s c t out b ≡ outcome n s c t out (receive interfere b)
+
+-- every copy keeps in order at least what interferes; a requested command is no no-op, its key a u32 and its edit a u64; messages
+-- are never invented
 abbrev pub Possible : List (List ℕ) → Call → Type 0
-Possible sent (request k) = (isNoop k ≡ false) × CommandFits k
-Possible sent (receive b) = List·Memᴰ b sent
+Possible sent (request w k) = Wide w × (isNoop k ≡ false) × CommandFits k
+Possible sent (receive w b) = Wide w × List·Memᴰ b sent
 Possible sent (recover o j) = Unit {0}
 Possible sent (nudge o j) = Unit {0}
 
 -- the history after an answered call: a request adds the instance that it answered and its command
 abbrev pub recorded : {A : Type 0} → List (Happening A) → ℕ → ℕ → Call → List (Happening A)
-recorded l o j (request k) = l ++ requested o j k ∷ []
-recorded l o j (receive b) = l
+recorded l o j (request w k) = l ++ requested o j k ∷ []
+recorded l o j (receive w b) = l
 recorded l o j (recover p i) = l
 recorded l o j (nudge p i) = l
 

@@ -169,14 +169,14 @@ module _ (n s : ℕ) (setup : Setup n s) where
 
   -- what happened before is remembered, and so is a request
   kept-past : (l : List (Happening Settling)) (o j : ℕ) (call : Call) (h : Happening Settling) → List·Memᴰ h l → List·Memᴰ h (recorded l o j call)
-  kept-past l o j (request v) h m = Memᴰ·append-left (requested o j v ∷ []) m
-  kept-past l o j (receive b) h m = m
+  kept-past l o j (request w v) h m = Memᴰ·append-left (requested o j v ∷ []) m
+  kept-past l o j (receive w b) h m = m
   kept-past l o j (recover p i) h m = m
   kept-past l o j (nudge p i) h m = m
 
   now-asked : (l : List (Happening Settling)) (o j : ℕ) (call : Call) → Asked (recorded l o j call) o j call
-  now-asked l o j (request v) = Memᴰ·append-right l (List·Memᴰ·head refl)
-  now-asked l o j (receive b) = tt
+  now-asked l o j (request w v) = Memᴰ·append-right l (List·Memᴰ·head refl)
+  now-asked l o j (receive w b) = tt
   now-asked l o j (recover p i) = tt
   now-asked l o j (nudge p i) = tt
 

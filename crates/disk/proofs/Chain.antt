@@ -43,8 +43,8 @@ use Rattle.demand.proofs.Bridge.{Tie, here-is, other-stays, bridge, in-memory, 
 
 -- a request that was answered is in the history
 abbrev pub Asked : List (Happening Settling) → ℕ → ℕ → Call → Type 0
-Asked past o j (request k) = List·Memᴰ (requested o j k) past
-Asked past o j (receive b) = Unit {0}
+Asked past o j (request w k) = List·Memᴰ (requested o j k) past
+Asked past o j (receive w b) = Unit {0}
 Asked past o j (recover p i) = Unit {0}
 Asked past o j (nudge p i) = Unit {0}
 
@@ -67,14 +67,14 @@ pub data Chain (n s c : ℕ) (sent : List (List ℕ)) (past : List (Happening Se
 module _ (n s c : ℕ) (sent more : List (List ℕ)) (past then : List (Happening Settling)) (k : place.Copy)
     (grown : (b : List ℕ) → List·Memᴰ b sent → List·Memᴰ b more) (later : (h : Happening Settling) → List·Memᴰ h past → List·Memᴰ h then) where
   possible : (call : Call) → Possible sent call → Possible more call
-  possible (request v) p = p
-  possible (receive b) p = grown b p
+  possible (request w v) p = p
+  possible (receive w b) p = (p .0, grown b (p .1))
   possible (recover o j) p = p
   possible (nudge o j) p = p
 
   asked : (o j : ℕ) (call : Call) → Asked past o j call → Asked then o j call
-  asked o j (request v) p = later (requested o j v) p
-  asked o j (receive b) p = p
+  asked o j (request w v) p = later (requested o j v) p
+  asked o j (receive w b) p = p
   asked o j (recover p i) h = h
   asked o j (nudge p i) h = h
 
@@ -99,9 +99,9 @@ module _ (n s : ℕ) (setup : Setup n s) (c : ℕ) (copy : c < n) (past : List (
   -- a call is remembered, if it is a request
   recalled : (l : List (Happening Settling)) (o j : ℕ) (call : Call) → Asked past o j call → (p i : ℕ) (v : Command) → List·Memᴰ (requested p i v) (recorded l o j call)
       → List·Memᴰ (requested p i v) l ⊎ List·Memᴰ (requested p i v) past
-  recalled l o j (request k) a p i v m =
+  recalled l o j (request w k) a p i v m =
       ⊎-elim (λ (h : List·Memᴰ (requested p i v) l). inl h) (λ (h : List·Memᴰ (requested p i v) (requested o j k ∷ [])). inr (subst (λ (z : Happening Settling). List·Memᴰ z past) (sym (List·Memᴰ·eq-of-singleton h)) a)) (List·Memᴰ·append-cases l m)
-  recalled l o j (receive b) a p i v m = inl m
+  recalled l o j (receive w b) a p i v m = inl m
   recalled l o j (recover q k) a p i v m = inl m
   recalled l o j (nudge q k) a p i v m = inl m
 

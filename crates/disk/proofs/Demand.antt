@@ -112,11 +112,11 @@ module _ (n s : ℕ) (setup : Setup n s) where
         let z = run-after n s setup w ry in
         let (l, e) = D .lasting .marks (w .first) (w .state) (z .beside .state) (w .start) (w .run) (z .later) a in
         (l, marks-there (z .beside) a ∙ e ∙ ap (λ (m : List Instance). m ++ l) (sym (marks-there w a)));
-    never-10 = λ x₀ x st r c l none out b i e.
+    never-10 = λ x₀ x st r c l none h out b i e.
         let w = at st r in
         let u = ended w c l in
-        D .lasting .never-10 (w .first) (u .later) (w .start) (ended-run w c l) c l (ap (λ (k : place.Copy). k .listed) (u .here) ∙ w .sides c l .none) out b
-        (subst (List·Memᴰ b) (sym (u .sent ∙ w .sent)) i) (ap (λ (t : List ℕ). answerNumber (outcome n s c t out (receive b) .answer)) (lent-there w c l) ∙ e);
+        D .lasting .never-10 (w .first) (u .later) (w .start) (ended-run w c l) c l (ap (λ (k : place.Copy). k .listed) (u .here) ∙ w .sides c l .none) h out b
+        (subst (List·Memᴰ b) (sym (u .sent ∙ w .sent)) i) (ap (λ (t : List ℕ). answerNumber (outcome n s c t out (receive h b) .answer)) (lent-there w c l) ∙ e);
     never-1 = λ x₀ x st r c l. let w = at st r in never w c l 1 (D .lasting .never-1 (w .first) (ended w c l .later) (w .start) (ended-run w c l) c l);
     never-11 = λ x₀ x st r c l. let w = at st r in never w c l 11 (D .lasting .never-11 (w .first) (ended w c l .later) (w .start) (ended-run w c l) c l);
   }

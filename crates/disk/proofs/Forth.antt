@@ -105,8 +105,8 @@ module _ (n s : ℕ) (setup : Setup n s) where
 
   -- more may have been sent
   possible : (sent more : List (List ℕ)) → ((b : List ℕ) → List·Memᴰ b sent → List·Memᴰ b more) → (call : Call) → Possible sent call → Possible more call
-  possible sent more grown (request v) p = p
-  possible sent more grown (receive b) p = grown b p
+  possible sent more grown (request w v) p = p
+  possible sent more grown (receive w b) p = (p .0, grown b (p .1))
   possible sent more grown (recover o j) p = p
   possible sent more grown (nudge o j) p = p
 

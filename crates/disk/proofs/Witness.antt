@@ -21,7 +21,7 @@ use Rattle.closed.proofs.Laws.{tf}
 use Rattle.order.specs.Calls.{handed}
 use Rattle.safety.specs.Run.{Instance, Setup}
 use Rattle.safety.specs.Run as rules
-use Rattle.safety.proofs.Witness.{write, deps}
+use Rattle.safety.proofs.Witness.{write, read, deps}
 use Rattle.demand.specs.Run as place
 use Rattle.demand.specs.Demand.{inPlace, Committed}
 use Rattle.demand.proofs.Bridge.{begin, bridge, blank-tie}
@@ -180,6 +180,27 @@ pub record Shown (i j : ℕ) : Type 0 where
   -- two that interfere, handed out at two copies
   pub out : Reached 3 1 (i ∷ j ∷ []) (λ x. Committed 3 1 (journalled 3 1) x 0 0 1 (write 1) (deps 0 1 0) × Committed 3 1 (journalled 3 1) x 1 1 1 (write 2) (deps 0 0 0)
       × (savedMarks (x .copies 0) ≡ (1, 1) ∷ (0, 1) ∷ []) × (savedMarks (x .copies 1) ≡ (1, 1) ∷ (0, 1) ∷ []))
+  -- two reads of one object, each handed out where it was asked for: neither waits for the other
+  pub reads : Reached 3 1 (i ∷ j ∷ []) (λ x. Committed 3 1 (journalled 3 1) x 0 0 1 (read 1) (deps 0 0 0) × Committed 3 1 (journalled 3 1) x 1 1 1 (read 2) (deps 0 0 0)
+      × (savedMarks (x .copies 0) ≡ (0, 1) ∷ []) × (savedMarks (x .copies 1) ≡ (1, 1) ∷ []))
+  -- a copy that works by document 01 and then by 4/12, beside others that work by 4/12: one read covers the other
+  pub mixed : Reached 3 1 (i ∷ j ∷ []) (λ x. Committed 3 1 (journalled 3 1) x 0 0 1 (read 1) (deps 0 1 0) × Committed 3 1 (journalled 3 1) x 1 1 1 (read 2) (deps 0 0 0)
+      × (savedMarks (x .copies 0) ≡ (1, 1) ∷ (0, 1) ∷ []) × (savedMarks (x .copies 1) ≡ (1, 1) ∷ (0, 1) ∷ []))
+
+-- 0.1 and 1.1 committed by their owners, and marks saved there
+pair : (i j : ℕ) → Inside i j → {Q : place.State → Type 0} {k l : Command} {d e : List ℕ} {m : Instance} {ms ns : List Instance}
+    → ((y : place.State) → Q y → Committed 3 1 (inPlace 3 1) y 0 0 1 k d × Committed 3 1 (inPlace 3 1) y 1 1 1 l e × (y .copies 0 .marks ≡ m ∷ ms) × (y .copies 1 .marks ≡ ns))
+    → bytes.Reached 3 1 Q
+    → Reached 3 1 (i ∷ j ∷ []) (λ x. Committed 3 1 (journalled 3 1) x 0 0 1 k d × Committed 3 1 (journalled 3 1) x 1 1 1 l e × (savedMarks (x .copies 0) ≡ m ∷ ms) × (savedMarks (x .copies 1) ≡ ns))
+pair i j a {Q} {k} {l} {d} {e} {m} {ms} {ns} of r =
+    lift 3 1 three-one i j a Q (i ∷ j ∷ []) _
+    (λ y₀ y st q h b g.
+    let z = of y h in
+    ⊎-elim (λ (f : b ≡ i). subst (λ (c : ℕ). List·Memᴰ c (tears i j q)) (sym f) (cut-commit 3 1 three-one i j a st q 0 0 1 k d (z .0)))
+    (λ (f : List·Memᴰ b (j ∷ [])). only 3 1 three-one i j a j b (tears i j q) (cut-mark 3 1 three-one i j a st q 0 m ms (z .2)) f) (List·Memᴰ·cases-cons g))
+    (λ x y evens h.
+    let z = of y h in
+    (here 3 1 three-one i j a x y evens 0 0 1 k d (z .0), here 3 1 three-one i j a x y evens 1 1 1 l e (z .1), evens 0 (omega arith) .marks ∙ z .2, evens 1 (omega arith) .marks ∙ z .3)) r
 
 -- at any byte inside of them
 pub shown-journals : (i j : ℕ) → Inside i j → Shown i j
@@ -188,16 +209,9 @@ shown-journals i j a = let r = shown-bytes in record {
   slow = commits 3 1 three-one i j a 0 0 1 (write 1) (deps 0 1 0) (r .slow);
   lost = commits 3 1 three-one i j a 1 0 1 noop (deps 0 0 0) (r .lost);
   saved = commits 3 1 three-one i j a 2 0 1 (write 1) (deps 0 0 0) (r .saved);
-  out = lift 3 1 three-one i j a _ (i ∷ j ∷ []) _
-      (λ y₀ y st q h b g.
-      ⊎-elim (λ (e : b ≡ i). subst (λ (c : ℕ). List·Memᴰ c (tears i j q)) (sym e) (cut-commit 3 1 three-one i j a st q 0 0 1 (write 1) (deps 0 1 0) (h .0)))
-      (λ (e : List·Memᴰ b (j ∷ [])). only 3 1 three-one i j a j b (tears i j q) (cut-mark 3 1 three-one i j a st q 0 (1, 1) ((0, 1) ∷ []) (h .2)) e) (List·Memᴰ·cases-cons g))
-      (λ x y evens h. (
-        here 3 1 three-one i j a x y evens 0 0 1 (write 1) (deps 0 1 0) (h .0),
-        here 3 1 three-one i j a x y evens 1 1 1 (write 2) (deps 0 0 0) (h .1),
-        evens 0 (omega arith) .marks ∙ h .2,
-        evens 1 (omega arith) .marks ∙ h .3,
-      )) (r .out);
+  out = pair i j a (λ y h. h) (r .out);
+  reads = pair i j a (λ y h. (h .0, h .1, h .4, h .5)) (r .reads);
+  mixed = pair i j a (λ y h. h) (r .mixed);
 }
 
 -- of five and of seven copies, each beside the moment before, when it is not yet so

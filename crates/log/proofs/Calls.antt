@@ -7,6 +7,7 @@ use native.Mathlib.Omega.{arith}
 use lib.Dec.{ltb, eqb}
 use lib.ListN.{length}
 use borrow.Author.Tests.{lt-ltb, le-ltb, ltb-true, ltb-false, eqb-true}
+use Rattle.paper.specs.Command.{Interference}
 use Rattle.paper.specs.Setup.{setupOk, copiesOk, numbersOk, copyOk}
 use Rattle.paper.proofs.Laws.{and-true}
 use Rattle.paper.specs.declared.Refusal.{Refusal}
@@ -92,19 +93,19 @@ unfolding fitsSetup
 setup-of n s c t h = and-true (setupOk n s c) _ h .0
 
 -- a received message: refused with the reader's reason exactly for bytes that are not valid, then 10
-pub receive-open : (n s c : ℕ) (t out b : List ℕ) → setupOk n s c ≡ true
-    → receiveOpen n s c t out b
+pub receive-open : (w : Interference) (n s c : ℕ) (t out b : List ℕ) → setupOk n s c ≡ true
+    → receiveOpen w n s c t out b
     ≡ cond (not (validBytes n s c b)) (refuse (whyRead n s c b) t out)
     (cond (refused10 (recordIn s t (messageAt b .owner) (messageAt b .number)) (messageAt b)) (refuse why.OtherCommit t out)
-    (acted s t out (messageAt b .owner) (messageAt b .number) (onMessage n s c (recordsIn s t) (messageAt b))))
+    (acted s t out (messageAt b .owner) (messageAt b .number) (onMessage w n s c (recordsIn s t) (messageAt b))))
 unfolding receiveOpen heard
-receive-open n s c t out b p = go (validBytes n s c b) refl
+receive-open w n s c t out b p = go (validBytes n s c b) refl
   where
     go : (v : Bool) → validBytes n s c b ≡ v
-        → receiveOpen n s c t out b
+        → receiveOpen w n s c t out b
         ≡ cond (not (validBytes n s c b)) (refuse (whyRead n s c b) t out)
         (cond (refused10 (recordIn s t (messageAt b .owner) (messageAt b .number)) (messageAt b)) (refuse why.OtherCommit t out)
-        (acted s t out (messageAt b .owner) (messageAt b .number) (onMessage n s c (recordsIn s t) (messageAt b))))
+        (acted s t out (messageAt b .owner) (messageAt b .number) (onMessage w n s c (recordsIn s t) (messageAt b))))
     go true e = let x : wire.readMessage n s c b ≡ record { answer = reading.Valid; message = messageAt b } = read-is n s c b ∙ rw (p, e) in rw (x, e)
     go false e = let x : wire.readMessage n s c b ≡ wire.unread (whyRead n s c b) = read-is n s c b ∙ rw (p, e) in rw (x, e)
 

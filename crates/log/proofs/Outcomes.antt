@@ -13,6 +13,7 @@ use Rattle.paper.specs.declared.Refusal.the-variants as why
 use Rattle.rules.specs.Step.{isCommitted}
 use Rattle.rules.specs.Recover.{outOfBallots}
 use Rattle.rules.specs.Nudge.{nothingToNudge}
+use Rattle.paper.specs.Command.{interfere}
 use Rattle.rules.specs.Events.{requestNumber, onRequest, onRecover, onNudge}
 use Rattle.table.specs.Table.{recordIn}
 use Rattle.seen.specs.Records.{recordsIn}
@@ -26,15 +27,15 @@ module _ (n s c : ℕ) (t out : List ℕ) where
     request-4 e = rw e
 
     pub request-ok : {x : Op} → x ≡ opOf op → opTaken op ≡ true
-        → asked n s c t out (record { op = x; key = key; edit = edit }) ≡ requestOpen n s c t out op key edit
+        → asked interfere n s c t out (record { op = x; key = key; edit = edit }) ≡ requestOpen n s c t out op key edit
     unfolding requestOpen asked
     request-ok ex e = rw (ex, e)
 
-  pub asked-5 : (k : Command) {j : ℕ} → j ≡ requestNumber s c (recordsIn s t) → s < j → refuse why.NoBlank t out ≡ asked n s c t out k
+  pub asked-5 : (k : Command) {j : ℕ} → j ≡ requestNumber s c (recordsIn s t) → s < j → refuse why.NoBlank t out ≡ asked interfere n s c t out k
   unfolding asked
   asked-5 k {j} e l = let p = lt-ltb s j l in rw (← e, p)
 
-  pub asked-ok : (k : Command) {j : ℕ} → j ≡ requestNumber s c (recordsIn s t) → j ≤ s → acted s t out c j (onRequest n s c (recordsIn s t) k) ≡ asked n s c t out k
+  pub asked-ok : (k : Command) {j : ℕ} → j ≡ requestNumber s c (recordsIn s t) → j ≤ s → acted s t out c j (onRequest interfere n s c (recordsIn s t) k) ≡ asked interfere n s c t out k
   unfolding asked
   asked-ok k {j} e l = rw (← e, le-ltb s j l)
 

@@ -1,5 +1,6 @@
 -- The public calls for events: what each answers, and every lent byte after. Assumes nothing.
--- n, s: the setup; c: this copy; t: the table's bytes; out: the room for outgoing bytes.
+-- n, s: the setup; c: this copy; t: the table's bytes; out: the room for outgoing bytes; w: what interferes, of which the calls
+-- have `interfere`.
 use Prim.Native.Nat.{ℕ, _≤_}
 use mathlib.Core.Path.{_≡_}
 use mathlib.Core.Bool.{Bool, true, _||_, not, cond}
@@ -9,6 +10,7 @@ use lib.ListN.{length}
 use Rattle.numbers.specs.Num.{splice}
 use Rattle.codec.specs.Parts.{opOf}
 use Rattle.paper.specs.Instance.{instanceOk}
+use Rattle.paper.specs.Command.{Interference, interfere}
 use Rattle.paper.specs.Refusal.{numberOf, offsetIn}
 use Rattle.paper.specs.declared.Command.{Command}
 use Rattle.paper.specs.declared.Message.{Message}
@@ -69,14 +71,14 @@ abbrev pub opTaken : ℕ → Bool
 opTaken op = eqb op 1 || eqb op 2
 
 -- a request past that, of any command that is no no-op: 5, then the event
-unfoldable pub asked : ℕ → ℕ → ℕ → List ℕ → List ℕ → Command → Outcome
-asked n s c t out k =
+unfoldable pub asked : Interference → ℕ → ℕ → ℕ → List ℕ → List ℕ → Command → Outcome
+asked w n s c t out k =
     cond (ltb s (requestNumber s c (recordsIn s t))) (refuse why.NoBlank t out)
-    (acted s t out c (requestNumber s c (recordsIn s t)) (onRequest n s c (recordsIn s t) k))
+    (acted s t out c (requestNumber s c (recordsIn s t)) (onRequest w n s c (recordsIn s t) k))
 
 -- Request: 4, then the rest
 unfoldable pub requestOpen : ℕ → ℕ → ℕ → List ℕ → List ℕ → ℕ → ℕ → ℕ → Outcome
-requestOpen n s c t out op key edit = cond (not (opTaken op)) (refuse why.Op t out) (asked n s c t out (commandOf op key edit))
+requestOpen n s c t out op key edit = cond (not (opTaken op)) (refuse why.Op t out) (asked interfere n s c t out (commandOf op key edit))
 
 abbrev pub requested : ℕ → ℕ → ℕ → List ℕ → List ℕ → ℕ → ℕ → ℕ → Outcome
 requested n s c t out op key edit = gated n s c t out (requestOpen n s c t out op key edit)
@@ -87,17 +89,17 @@ unlessRefused reading.Valid t out rest = rest
 unlessRefused (reading.Refused r) t out rest = refuse r t out
 
 -- a message that the reader takes: 10
-unfoldable pub heard : ℕ → ℕ → ℕ → List ℕ → List ℕ → Message → Outcome
-heard n s c t out m =
+unfoldable pub heard : Interference → ℕ → ℕ → ℕ → List ℕ → List ℕ → Message → Outcome
+heard w n s c t out m =
     cond (refused10 (recordIn s t (m .owner) (m .number)) m) (refuse why.OtherCommit t out)
-    (acted s t out (m .owner) (m .number) (onMessage n s c (recordsIn s t) m))
+    (acted s t out (m .owner) (m .number) (onMessage w n s c (recordsIn s t) m))
 
 -- a received message: what the reader says of it, then 10
-unfoldable pub receiveOpen : ℕ → ℕ → ℕ → List ℕ → List ℕ → List ℕ → Outcome
-receiveOpen n s c t out b = unlessRefused (wire.readMessage n s c b .answer) t out (heard n s c t out (wire.readMessage n s c b .message))
+unfoldable pub receiveOpen : Interference → ℕ → ℕ → ℕ → List ℕ → List ℕ → List ℕ → Outcome
+receiveOpen w n s c t out b = unlessRefused (wire.readMessage n s c b .answer) t out (heard w n s c t out (wire.readMessage n s c b .message))
 
 abbrev pub received : ℕ → ℕ → ℕ → List ℕ → List ℕ → List ℕ → Outcome
-received n s c t out b = gated n s c t out (receiveOpen n s c t out b)
+received n s c t out b = gated n s c t out (receiveOpen interfere n s c t out b)
 
 -- Recover: 6, 8, then 7
 unfoldable pub recoverOpen : ℕ → ℕ → ℕ → List ℕ → List ℕ → ℕ → ℕ → Outcome

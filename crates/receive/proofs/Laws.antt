@@ -21,6 +21,7 @@ use Rattle.rules.specs.Step.{silent, collect, awaited}
 use Rattle.rules.specs.Commit.{differs}
 use Rattle.rules.specs.PrepareOk.{afreshCommand, decide, quorum, preparedBy, onPrepareOk}
 use Rattle.rules.specs.Received.{conflict, refused10, receive}
+use Rattle.paper.specs.Command.{interfere}
 use Rattle.rules.specs.Events.{onMessage}
 use Rattle.rules.specs.Seen.{seen}
 use Rattle.numbers.specs.Num.{Bytes}
@@ -105,15 +106,15 @@ module _ (n s c : ℕ) (t : List ℕ) (room : ℕ) (m : Message) (h : specs.Hear
       let p = two-pow n most in
       rw er (omega arith)
 
-  pub message-room : Bytes t → length (outBytes (onMessage n s c (recordsIn s t) m)) ≤ 222
+  pub message-room : Bytes t → length (outBytes (onMessage interfere n s c (recordsIn s t) m)) ≤ 222
   message-room b =
       let setup = setup-of n s c t (h .passed .setup) in
-      out-short n s c setup _ (message-event n s c setup (recordsIn s t) (sound-records n s c t b (h .passed .setup) (h .passed .sound)) m (h .valid) (h .fits) .sent)
+      out-short n s c setup _ (message-event n s c setup (recordsIn s t) (sound-records n s c t b (h .passed .setup) (h .passed .sound)) interfere m (h .valid) (h .fits) .sent)
 
 -- outcomes
 module _ (n s c : ℕ) (t out : List ℕ) where
   pub heard-10 : (m : Message) {o j : ℕ} {r : Record} → o ≡ m .owner → j ≡ m .number → r ≡ recordIn s t o j
-      → refused10 r m ≡ true → refuse why.OtherCommit t out ≡ events.heard n s c t out m
+      → refused10 r m ≡ true → refuse why.OtherCommit t out ≡ events.heard interfere n s c t out m
   unfolding events.heard
   heard-10 m {r = r} eo ej er e =
       let q : r ≡ recordIn s t (m .owner) (m .number) = rw (er, eo, ej) in
@@ -121,7 +122,7 @@ module _ (n s c : ℕ) (t out : List ℕ) where
       rw f
 
   pub heard-ok : (m : Message) {o j : ℕ} {r : Record} → o ≡ m .owner → j ≡ m .number → r ≡ recordIn s t o j
-      → refused10 r m ≡ false → acted s t out o j (onMessage n s c (recordsIn s t) m) ≡ events.heard n s c t out m
+      → refused10 r m ≡ false → acted s t out o j (onMessage interfere n s c (recordsIn s t) m) ≡ events.heard interfere n s c t out m
   unfolding events.heard
   heard-ok m {r = r} eo ej er e =
       let q : r ≡ recordIn s t (m .owner) (m .number) = rw (er, eo, ej) in
@@ -130,13 +131,13 @@ module _ (n s c : ℕ) (t out : List ℕ) where
 
   -- the step that was taken is the rule's
   pub message-step : (m : Message) {o j : ℕ} {r : Record} {x : Step} → o ≡ m .owner → j ≡ m .number → r ≡ recordIn s t o j
-      → x ≡ receive n c (seen n s (recordsIn s t) (m .owner) (m .number)) r m → x ≡ onMessage n s c (recordsIn s t) m
+      → x ≡ receive n c (seen interfere n s (recordsIn s t) (m .owner) (m .number)) r m → x ≡ onMessage interfere n s c (recordsIn s t) m
   unfolding onMessage
   message-step m eo ej er ex = rw (ex, er, eo, ej)
 
   -- a reading that was refused, and one that was not
   module _ (b : List ℕ) {x : Received} (e : x ≡ calls.readMessage n s c b) (setup : setupOk n s c ≡ true) where
-    pub unread : (r : Refusal) → x .answer ≡ reading.Refused r → refuse r t out ≡ receiveOpen n s c t out b
+    pub unread : (r : Refusal) → x .answer ≡ reading.Refused r → refuse r t out ≡ receiveOpen interfere n s c t out b
     unfolding receiveOpen
     unread r f = let g : calls.readMessage n s c b .answer ≡ reading.Refused r = ap (λ (z : Received). z .answer) (sym e) ∙ f in rw g
 
@@ -154,9 +155,9 @@ module _ (n s c : ℕ) (t out : List ℕ) where
             absurd (omega arith)
 
   pub receive-ok : (b : List ℕ) → setupOk n s c ≡ true → {m : Message} → m ≡ messageAt b → validBytes n s c b ≡ true
-      → events.heard n s c t out m ≡ receiveOpen n s c t out b
+      → events.heard interfere n s c t out m ≡ receiveOpen interfere n s c t out b
   unfolding events.heard
-  receive-ok b setup em p = rw (receive-open n s c t out b setup, em, p)
+  receive-ok b setup em p = rw (receive-open interfere n s c t out b setup, em, p)
 
   pub hearing : (b : List ℕ) → Bytes b → Passed n s c t (length out) → {m : Message} → m ≡ messageAt b → validBytes n s c b ≡ true
       → specs.Hearing n s c t (length out) m

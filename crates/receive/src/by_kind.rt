@@ -31,6 +31,7 @@ ghost use Prim.Native.Nat.{_<_};
 ghost use Rattle.rules.specs.PreAccept.{preAccept};
 ghost use Rattle.rules.specs.PrepareOk.{onPrepareOk, preparedBy};
 ghost use Rattle.rules.specs.Received.{receive, refused10};
+ghost use Rattle.paper.specs.Command.{interfere};
 ghost use Rattle.rules.specs.Seen.{seen};
 ghost use Rattle.seen.specs.Records.{recordsIn};
 ghost use Rattle.table.specs.Sizes.{Sizes};
@@ -47,14 +48,14 @@ pub fn refused10(r: Record, m: Message) -> bool
 // Seen of a command for the message's instance.
 fn seen_for(t: &[u8], n: usize, s: usize, c: usize, m: Message, k: Command) -> [u16; 7]
     requires { ⌜ Sizes n s c (now t) ⌝ }
-    ensures { λ x. ⌜ x ≡ seen n s (recordsIn s (now (t .entry))) (m .owner) (m .number) k ⌝ }
+    ensures { λ x. ⌜ x ≡ seen interfere n s (recordsIn s (now (t .entry))) (m .owner) (m .number) k ⌝ }
 {
     seen(t, n, s, c, wide8(m.owner), wide16(m.number), k)
 }
 
 fn on_proposal(t: &[u8], n: usize, s: usize, c: usize, r: Record, m: Message, k: Command) -> Step
     requires { ⌜ Ready n s c (now t) m ⌝ }
-    ensures { λ x. ⌜ x ≡ preAccept c (m .owner) (m .number) r m k (seen n s (recordsIn s (now (t .entry))) (m .owner) (m .number) k) ⌝ }
+    ensures { λ x. ⌜ x ≡ preAccept c (m .owner) (m .number) r m k (seen interfere n s (recordsIn s (now (t .entry))) (m .owner) (m .number) k) ⌝ }
 {
     let seen = seen_for(t, n, s, c, m, k);
     pre_accept(byte(c), m.owner, m.number, r, m, k, seen)
@@ -63,7 +64,7 @@ fn on_proposal(t: &[u8], n: usize, s: usize, c: usize, r: Record, m: Message, k:
 // With the reply collected: at F+1 replies, own included, the lead decides.
 fn prepared_by(t: &[u8], n: usize, s: usize, c: usize, r: Record, m: Message) -> Step
     requires { ⌜ Ready n s c (now t) m ⌝ }
-    ensures { λ x. ⌜ x ≡ preparedBy n c (m .owner) (m .number) r (seen n s (recordsIn s (now (t .entry))) (m .owner) (m .number)) ⌝ }
+    ensures { λ x. ⌜ x ≡ preparedBy n c (m .owner) (m .number) r (seen interfere n s (recordsIn s (now (t .entry))) (m .owner) (m .number)) ⌝ }
 {
     if !quorum(n, r) {
         return silent(r);
@@ -74,7 +75,7 @@ fn prepared_by(t: &[u8], n: usize, s: usize, c: usize, r: Record, m: Message) ->
 
 fn on_prepare_ok(t: &[u8], n: usize, s: usize, c: usize, r: Record, m: Message) -> Step
     requires { ⌜ Ready n s c (now t) m × (r .set < 128) ⌝ }
-    ensures { λ x. ⌜ x ≡ onPrepareOk n c (m .owner) (m .number) r m (seen n s (recordsIn s (now (t .entry))) (m .owner) (m .number)) ⌝ }
+    ensures { λ x. ⌜ x ≡ onPrepareOk n c (m .owner) (m .number) r m (seen interfere n s (recordsIn s (now (t .entry))) (m .owner) (m .number)) ⌝ }
 {
     if !awaited(1, r, m) {
         return silent(r);
@@ -84,7 +85,7 @@ fn on_prepare_ok(t: &[u8], n: usize, s: usize, c: usize, r: Record, m: Message) 
 
 pub fn receive(t: &[u8], n: usize, s: usize, c: usize, r: Record, m: Message) -> Step
     requires { ⌜ Ready n s c (now t) m × (r .set < 128) ⌝ }
-    ensures { λ x. ⌜ x ≡ receive n c (seen n s (recordsIn s (now (t .entry))) (m .owner) (m .number)) r m ⌝ }
+    ensures { λ x. ⌜ x ≡ receive n c (seen interfere n s (recordsIn s (now (t .entry))) (m .owner) (m .number)) r m ⌝ }
 {
     let o = m.owner;
     let j = m.number;

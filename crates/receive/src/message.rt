@@ -14,15 +14,16 @@ use wire::Reading;
 use wire::read_message;
 ghost use mathlib.Core.Path.{_≡_};
 ghost use lib.ListN.{length};
+ghost use Rattle.paper.specs.Command.{interfere};
 ghost use Rattle.log.specs.Events.{Passed, heard, receiveOpen, received};
 ghost use Rattle.receive.specs.Message.{Hearing};
 
 // A valid message.
 fn hear(t: &mut [u8], out: &mut [u8], n: usize, s: usize, c: usize, m: Message) -> Answer
     requires { ⌜ Hearing n s c (now t) (length (now out)) m ⌝ }
-    ensures answers { λ r. ⌜ r ≡ heard n s c (now (t .entry)) (now (out .entry)) m .answer ⌝ }
-    ensures table { λ _. ⌜ now (t .exit) ≡ heard n s c (now (t .entry)) (now (out .entry)) m .table ⌝ }
-    ensures room { λ _. ⌜ now (out .exit) ≡ heard n s c (now (t .entry)) (now (out .entry)) m .out ⌝ }
+    ensures answers { λ r. ⌜ r ≡ heard interfere n s c (now (t .entry)) (now (out .entry)) m .answer ⌝ }
+    ensures table { λ _. ⌜ now (t .exit) ≡ heard interfere n s c (now (t .entry)) (now (out .entry)) m .table ⌝ }
+    ensures room { λ _. ⌜ now (out .exit) ≡ heard interfere n s c (now (t .entry)) (now (out .entry)) m .out ⌝ }
 {
     let o = wide8(m.owner);
     let j = wide16(m.number);
@@ -37,9 +38,9 @@ fn hear(t: &mut [u8], out: &mut [u8], n: usize, s: usize, c: usize, m: Message) 
 // Past the gate.
 fn message_open(t: &mut [u8], out: &mut [u8], n: usize, s: usize, c: usize, b: &[u8]) -> Answer
     requires { ⌜ Passed n s c (now t) (length (now out)) ⌝ }
-    ensures answers { λ r. ⌜ r ≡ receiveOpen n s c (now (t .entry)) (now (out .entry)) (now (b .entry)) .answer ⌝ }
-    ensures table { λ _. ⌜ now (t .exit) ≡ receiveOpen n s c (now (t .entry)) (now (out .entry)) (now (b .entry)) .table ⌝ }
-    ensures room { λ _. ⌜ now (out .exit) ≡ receiveOpen n s c (now (t .entry)) (now (out .entry)) (now (b .entry)) .out ⌝ }
+    ensures answers { λ r. ⌜ r ≡ receiveOpen interfere n s c (now (t .entry)) (now (out .entry)) (now (b .entry)) .answer ⌝ }
+    ensures table { λ _. ⌜ now (t .exit) ≡ receiveOpen interfere n s c (now (t .entry)) (now (out .entry)) (now (b .entry)) .table ⌝ }
+    ensures room { λ _. ⌜ now (out .exit) ≡ receiveOpen interfere n s c (now (t .entry)) (now (out .entry)) (now (b .entry)) .out ⌝ }
 {
     let x = read_message(n, s, c, b);
     let reading = x.answer;

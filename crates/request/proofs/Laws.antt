@@ -8,7 +8,7 @@ use lib.Dec.{eqb}
 use lib.ListN.{length}
 use borrow.Author.Tests.{eqb-true}
 use Rattle.codec.specs.Parts.{opOf}
-use Rattle.paper.specs.Command.{commandOk}
+use Rattle.paper.specs.Command.{commandOk, interfere}
 use Rattle.paper.specs.Vote.{blank}
 use Rattle.paper.specs.declared.Command.{Command}
 use Rattle.paper.specs.declared.Op.{Op}
@@ -31,7 +31,7 @@ use Rattle.request.specs.Request.{Asking}
 
 -- the step that was taken is the rule's
 pub request-step : (n s c : ℕ) (t : List ℕ) (k : Command) {j q i : ℕ} {r : Record} {d : List ℕ} → j ≡ requestNumber s c (recordsIn s t) → q ≡ c → i ≡ j → r ≡ blank
-    → d ≡ seen n s (recordsIn s t) c j k → afresh n q q i r k d ≡ onRequest n s c (recordsIn s t) k
+    → d ≡ seen interfere n s (recordsIn s t) c j k → afresh n q q i r k d ≡ onRequest interfere n s c (recordsIn s t) k
 unfolding onRequest request
 request-step n s c t k ej eq ei er ed = rw (ed, er, eq, ei, ej)
 
@@ -42,12 +42,12 @@ module _ (n s c : ℕ) (t out : List ℕ) where
       record { copies = z .copies; numbers = z .numbers; owner = z .copy; first = l; last = u }
 
   pub request-room : (k : Command) → Asking n s c t (length out) k → Bytes t → {j : ℕ} → j ≡ requestNumber s c (recordsIn s t) → j ≤ s
-      → length (outBytes (onRequest n s c (recordsIn s t) k)) ≤ 222
+      → length (outBytes (onRequest interfere n s c (recordsIn s t) k)) ≤ 222
   request-room k h b e l =
       let setup = setup-of n s c t (h .passed .setup) in
       let u : requestNumber s c (recordsIn s t) ≤ s = omega (arith, e, l) in
       out-short n s c setup _
-      (request-event n s c setup (recordsIn s t) (sound-records n s c t b (h .passed .setup) (h .passed .sound)) k (h .ok) (h .fits) (h .edit) u .sent)
+      (request-event n s c setup (recordsIn s t) (sound-records n s c t b (h .passed .setup) (h .passed .sound)) interfere k (h .ok) (h .fits) (h .edit) u .sent)
 
   module _ (op key edit : ℕ) where
     pub small-op : opTaken op ≡ true → op < 256

@@ -21,6 +21,7 @@ ghost use mathlib.Core.Path.{_≡_};
 ghost use Prim.Native.Nat.{_≤_};
 ghost use lib.ListN.{length};
 ghost use Rattle.paper.specs.Vote.{blank};
+ghost use Rattle.paper.specs.Command.{interfere};
 ghost use Rattle.rules.specs.Events.{requestNumber, onRequest};
 ghost use Rattle.table.specs.Sizes.{Sizes};
 ghost use Rattle.seen.specs.Records.{recordsIn};
@@ -35,7 +36,7 @@ fn blank() -> Record
 
 fn on_request(t: &[u8], n: usize, s: usize, c: usize, j: usize, k: Command) -> Step
     requires { ⌜ Sizes n s c (now t) × (j ≤ s) × (j ≡ requestNumber s c (recordsIn s (now t))) ⌝ }
-    ensures { λ x. ⌜ x ≡ onRequest n s c (recordsIn s (now (t .entry))) k ⌝ }
+    ensures { λ x. ⌜ x ≡ onRequest interfere n s c (recordsIn s (now (t .entry))) k ⌝ }
 {
     let seen = seen(t, n, s, c, c, j, k);
     let own = byte(c);
@@ -45,9 +46,9 @@ fn on_request(t: &[u8], n: usize, s: usize, c: usize, j: usize, k: Command) -> S
 // A command that is taken: 5, then the step.
 fn ask(t: &mut [u8], out: &mut [u8], n: usize, s: usize, c: usize, k: Command) -> Answer
     requires { ⌜ Asking n s c (now t) (length (now out)) k ⌝ }
-    ensures answers { λ r. ⌜ r ≡ asked n s c (now (t .entry)) (now (out .entry)) k .answer ⌝ }
-    ensures table { λ _. ⌜ now (t .exit) ≡ asked n s c (now (t .entry)) (now (out .entry)) k .table ⌝ }
-    ensures room { λ _. ⌜ now (out .exit) ≡ asked n s c (now (t .entry)) (now (out .entry)) k .out ⌝ }
+    ensures answers { λ r. ⌜ r ≡ asked interfere n s c (now (t .entry)) (now (out .entry)) k .answer ⌝ }
+    ensures table { λ _. ⌜ now (t .exit) ≡ asked interfere n s c (now (t .entry)) (now (out .entry)) k .table ⌝ }
+    ensures room { λ _. ⌜ now (out .exit) ≡ asked interfere n s c (now (t .entry)) (now (out .entry)) k .out ⌝ }
 {
     let j = request_number(&*t, n, s, c);
     if s < j {

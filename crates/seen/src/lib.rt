@@ -45,7 +45,7 @@ fn row_seen(
     p: usize,
 ) -> usize
     requires { ⌜ Row n s c p (now t) ⌝ }
-    ensures { λ r. ⌜ r ≡ highest s (met (recordsIn s (now (t .entry))) o j k p) ⌝ }
+    ensures { λ r. ⌜ r ≡ highest s (met interfere (recordsIn s (now (t .entry))) o j k p) ⌝ }
     ensures { λ r. ⌜ r ≤ s ⌝ }
 {
     let mut left = s;
@@ -77,7 +77,7 @@ fn seen_entry(
     p: usize,
 ) -> u16
     requires { ⌜ Sizes n s c (now t) ⌝ }
-    ensures { λ r. ⌜ r ≡ seenEntry n s (recordsIn s (now (t .entry))) o j k p ⌝ }
+    ensures { λ r. ⌜ r ≡ seenEntry interfere n s (recordsIn s (now (t .entry))) o j k p ⌝ }
 {
     if p < n {
         return small(row_seen(t, n, s, c, o, j, k, p));
@@ -88,7 +88,7 @@ fn seen_entry(
 // In each row the last vote for a command that interferes with k, leaving out o.j.
 pub fn seen(t: &[u8], n: usize, s: usize, c: usize, o: usize, j: usize, k: Command) -> [u16; 7]
     requires { ⌜ Sizes n s c (now t) ⌝ }
-    ensures { λ r. ⌜ r ≡ seen n s (recordsIn s (now (t .entry))) o j k ⌝ }
+    ensures { λ r. ⌜ r ≡ seen interfere n s (recordsIn s (now (t .entry))) o j k ⌝ }
 {
     let d0 = seen_entry(t, n, s, c, o, j, k, 0);
     let d1 = seen_entry(t, n, s, c, o, j, k, 1);
