@@ -5,6 +5,6 @@ pub mod Valid
 pub mod First
 pub mod Clauses
 pub mod Deps
-pub mod Interference
 pub mod Widest
+pub mod Interference
 pub mod Pins

@@ -1,55 +1,9 @@
--- Which commands interfere, what dependencies cover and how they join, by cases that tell each rule from its neighbours. Assumes
--- nothing.
+-- What dependencies cover and how they join, by cases that tell each rule from its neighbours. Assumes nothing.
 use Prim.Native.Nat.{ℕ}
 use mathlib.Core.Path.{_≡_, refl}
 use mathlib.Core.Bool.{true, false}
 use mathlib.Core.List.{List, [], _∷_}
-use Rattle.paper.specs.Command.{noop, sameObject, interfere}
 use Rattle.paper.specs.Deps.{covers, joinFrom, join}
-use Rattle.paper.specs.declared.Op.{Op}
-use Rattle.paper.specs.declared.Op.the-variants.{Noop, Read, Write}
-use Rattle.paper.specs.declared.Command.{Command}
-
-abbrev edit : Op → ℕ → ℕ → Command
-edit op k e = record { op = op; key = k; edit = e }
-
-pub record Interfering : Type 0 where
-  -- one key, and at least one writes
-  pub writes : interfere (edit Write 7 1) (edit Write 7 2) ≡ true
-  pub read-write : interfere (edit Read 7 1) (edit Write 7 2) ≡ true
-  pub write-read : interfere (edit Write 7 1) (edit Read 7 2) ≡ true
-  -- two reads of it do not; document 01's copies hold that they do
-  pub reads : interfere (edit Read 7 1) (edit Read 7 2) ≡ false
-  pub reads-before : sameObject (edit Read 7 1) (edit Read 7 2) ≡ true
-  -- another key, though the edit is the same
-  pub other-key : interfere (edit Write 7 1) (edit Write 8 1) ≡ false
-  pub other-key-before : sameObject (edit Write 7 1) (edit Write 8 1) ≡ false
-  -- a no-op on either side or on both, though its key is the other's
-  pub noop-first : interfere (edit Noop 7 1) (edit Write 7 2) ≡ false
-  pub noop-second : interfere (edit Write 7 1) (edit Noop 7 2) ≡ false
-  pub noops : interfere noop noop ≡ false
-  pub noops-before : sameObject noop noop ≡ false
-  -- not transitive: two reads that interfere with one write
-  pub through-write : (interfere (edit Read 7 1) (edit Write 7 2) ≡ true) × (interfere (edit Write 7 2) (edit Read 7 3) ≡ true)
-      × (interfere (edit Read 7 1) (edit Read 7 3) ≡ false)
-
-pub interfering : Interfering
-unfolding sameObject interfere
-interfering =
-    record {
-      writes = refl;
-      read-write = refl;
-      write-read = refl;
-      reads = refl;
-      reads-before = refl;
-      other-key = refl;
-      other-key-before = refl;
-      noop-first = refl;
-      noop-second = refl;
-      noops = refl;
-      noops-before = refl;
-      through-write = (refl, refl, refl);
-    }
 
 -- what 2.4 covers by an entry of 3 for owner 1 and of 5 for its own row
 abbrev named : List ℕ
