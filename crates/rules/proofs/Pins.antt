@@ -5,14 +5,14 @@ use Rattle.paper.specs.Logic.{allBelow}
 use Rattle.paper.specs.Instance.{instanceOk}
 use Rattle.paper.specs.Command.{sameCommand, sameObject, interfere}
 use Rattle.paper.specs.Deps.{sameDeps, covers, joinFrom}
-use Rattle.paper.specs.Vote.{member}
+use Rattle.paper.specs.Vote.{member, sameVote}
 use Rattle.rules.specs.Sets.{bitsBelow, others, absent, lowestFrom, largestBelow, highest}
 use Rattle.rules.specs.Step.{collect, awaited, commitBack, nackBack}
 use Rattle.rules.specs.Seen.{met, seenEntry, seenFrom}
 use Rattle.rules.specs.Accepting.{joinAll, accepting, acceptingJoin}
 use Rattle.rules.specs.Afresh.{afresh}
 use Rattle.rules.specs.Committing.{committing}
-use Rattle.rules.specs.Request.{request}
+use Rattle.rules.specs.Request.{isBlank, lowestBlank, request}
 use Rattle.rules.specs.PreAccept.{preAccept}
 use Rattle.rules.specs.PreAcceptOk.{matching, different, fastEnough, slowEnough, someEnough, preAcceptedBy, onPreAcceptOk}
 use Rattle.rules.specs.Accept.{accept}
@@ -24,7 +24,7 @@ use Rattle.rules.specs.Nack.{nack}
 use Rattle.rules.specs.Recover.{recover}
 use Rattle.rules.specs.Nudge.{again, nudge}
 use Rattle.rules.specs.Received.{byKind, conflict}
-use Rattle.rules.specs.Events.{put}
+use Rattle.rules.specs.Events.{put, requestNumber, onRequest, onMessage}
 use Rattle.rules.specs.Order.{everywhere, somewhere, firstOwner, firstNumber, coversIn, reachesIn, reaches, waitsFor, firstOpen, isSettled, candidate, nextOut, handOut}
 use Rattle.rules.specs.Pins.{Followers, Leads, Recoveries, Nudges, Sights, Orders}
 
@@ -124,7 +124,8 @@ nudges =
     }
 
 pub sights : Sights
-unfolding sameObject interfere highest met seenEntry seenFrom put
+unfolding allBelow sameDeps joinFrom sameObject interfere highest met seenEntry seenFrom put afresh isBlank lowestBlank requestNumber request preAccept byKind onRequest onMessage
+    sameVote sameCommand bitsBelow others
 sights =
     record {
       last-of-row = refl;
@@ -132,7 +133,11 @@ sights =
       not-itself = refl;
       committed-too = refl;
       past-reads = refl;
-      before = refl;
+      past-reads-before = refl;
+      asked = refl;
+      asked-before = refl;
+      heard = refl;
+      heard-before = refl;
     }
 
 pub orders : Orders

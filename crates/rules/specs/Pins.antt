@@ -23,7 +23,7 @@ use Rattle.rules.specs.Request.{request}
 use Rattle.rules.specs.Recover.{recover}
 use Rattle.rules.specs.Nudge.{nothingToNudge, nudge}
 use Rattle.rules.specs.Received.{receive, refused10}
-use Rattle.rules.specs.Events.{put}
+use Rattle.rules.specs.Events.{put, onRequest, onMessage}
 use Rattle.rules.specs.Order.{firstOpen, isSettled, handOut}
 use Rattle.rules.specs.Examples.{write, deps3, blanks, added, votes, committed, cycle, read}
 
@@ -227,7 +227,12 @@ pub record Sights : Type 0 where
   pub committed-too : seen interfere 5 4 sights 0 1 (write 6) ≡ 3 ∷ 1 ∷ 0 ∷ 1 ∷ 0 ∷ 0 ∷ 0 ∷ []
   -- a read looks past the reads of its key for a write, where document 01 stops
   pub past-reads : seen interfere 3 4 readAbove 2 1 (read 6) ≡ deps3 1 0 0
-  pub before : seen sameObject 3 4 readAbove 2 1 (read 6) ≡ deps3 2 1 0
+  pub past-reads-before : seen sameObject 3 4 readAbove 2 1 (read 6) ≡ deps3 2 1 0
+  -- and so do the two events that ask for it
+  pub asked : onRequest interfere 3 4 2 readAbove (read 6) .message .deps ≡ deps3 1 0 0
+  pub asked-before : onRequest sameObject 3 4 2 readAbove (read 6) .message .deps ≡ deps3 2 1 0
+  pub heard : onMessage interfere 3 4 1 readAbove (sentBy 2 2 0 (PreAccept (read 6)) noDeps) .message .deps ≡ deps3 1 0 0
+  pub heard-before : onMessage sameObject 3 4 1 readAbove (sentBy 2 2 0 (PreAccept (read 6)) noDeps) .message .deps ≡ deps3 2 1 0
 
 -- a command with these dependencies that is voted for and open
 abbrev pub ongoing : List ℕ → Record
