@@ -1,23 +1,17 @@
 """What the makers of stored texts share: a text is written, or with --check held to what is stored."""
-import glob, os, sys
+import os, subprocess, sys
 
 ROOT = os.path.dirname(os.path.dirname(os.path.abspath(__file__)))
 CHECK = "--check" in sys.argv
-WORDS = [word for word in sys.argv[1:] if word != "--check"]
-# The runs that stand in their parent are the base's: they refuse with 3, which no call gives any more.
-VECTORS = WORDS or [os.path.join(os.path.dirname(ROOT), "shared", "vectors", name)
-                    for name in ("change-1", "change-2", "change-3")]
+RUNS = [word for word in sys.argv[1:] if word != "--check"]
 
 
 def recorded_runs():
-    """The recorded runs of VECTORS, folder by folder."""
-    paths = []
-    for folder in VECTORS:
-        found = sorted(glob.glob(os.path.join(folder, "*.txt")))
-        if not found:
-            sys.exit(f"no recorded runs in {folder}")
-        paths += found
-    return paths
+    """The paths of RUNS, or of all recorded runs that hold."""
+    if RUNS:
+        return RUNS
+    run = subprocess.run([os.path.join(ROOT, "tests", "recorded")], stdout=subprocess.PIPE, text=True, check=True)
+    return run.stdout.splitlines()
 
 
 def store(name, lines):

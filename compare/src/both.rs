@@ -3,6 +3,7 @@
 use crate::make;
 use crate::{UNTOUCHED, UNTOUCHED_CODE};
 use pumxaqert::{raw, Command, Event, Fields, Instance, Message, Op, Settling, Setup};
+use second::rules::{interfere, same_object, Interference};
 use second::table::{HEAD_LEN, RECORD_LEN};
 use second::{fields, Refusal, Settled};
 
@@ -66,25 +67,52 @@ impl Pair {
     }
 }
 
+/// Which programs a call goes to. One that stands alone is on both sides: nothing is compared, and only what is asked of
+/// a run by itself can fail.
+#[derive(Clone, Copy, Debug, Default, PartialEq, Eq)]
+pub enum Sides {
+    /// The second program and the library.
+    #[default]
+    Compared,
+    /// The library alone.
+    Library,
+    /// The second program alone, by the interference of 4/12.
+    Second,
+    /// The second program alone, by the wider interference of document 01.
+    SecondWide,
+}
+
+type Side = fn(Setup, usize, Call, &mut [u8], &mut Lent) -> Answer;
+
+impl Sides {
+    fn programs(self) -> [Side; 2] {
+        match self {
+            Sides::Compared => [second_side, library_side],
+            Sides::Library => [library_side; 2],
+            Sides::Second => [second_side; 2],
+            Sides::SecondWide => [wide_side; 2],
+        }
+    }
+}
+
 pub struct Both {
     /// The second program's.
     pub ours: Lent,
     /// The library's.
     theirs: Lent,
-    /// The library stands on both sides: nothing is compared, and only what is asked of a run by itself can fail.
-    alone: bool,
+    pub sides: Sides,
 }
 
 impl Default for Both {
     fn default() -> Both {
-        Both::new(false)
+        Both::new(Sides::default())
     }
 }
 
 impl Both {
-    pub fn new(alone: bool) -> Both {
+    pub fn new(sides: Sides) -> Both {
         let lent = || Lent { out: [UNTOUCHED; OUT], list: [UNTOUCHED_CODE; LIST] };
-        Both { ours: lent(), theirs: lent(), alone }
+        Both { ours: lent(), theirs: lent(), sides }
     }
 
     /// The answer, where both sides agree on it and on every byte.
@@ -97,9 +125,9 @@ impl Both {
     ) -> Result<Answer, String> {
         self.ours.clear();
         self.theirs.clear();
-        let side = if self.alone { library_side } else { second_side };
-        let ours = side(setup, room, call, &mut tables.ours, &mut self.ours);
-        let theirs = library_side(setup, room, call, &mut tables.theirs, &mut self.theirs);
+        let [ours, theirs] = self.sides.programs();
+        let ours = ours(setup, room, call, &mut tables.ours, &mut self.ours);
+        let theirs = theirs(setup, room, call, &mut tables.theirs, &mut self.theirs);
         let differs = if ours != theirs {
             "answers"
         } else if self.ours.out != self.theirs.out {
@@ -228,6 +256,21 @@ fn first_byte(setup: Setup, tables: &Pair) -> String {
 }
 
 pub fn second_side(setup: Setup, room: usize, call: Call, t: &mut [u8], lent: &mut Lent) -> Answer {
+    second_by(interfere, setup, room, call, t, lent)
+}
+
+fn wide_side(setup: Setup, room: usize, call: Call, t: &mut [u8], lent: &mut Lent) -> Answer {
+    second_by(same_object, setup, room, call, t, lent)
+}
+
+fn second_by(
+    by: impl Interference,
+    setup: Setup,
+    room: usize,
+    call: Call,
+    t: &mut [u8],
+    lent: &mut Lent,
+) -> Answer {
     let Setup { n, s, copy } = setup;
     let out = &mut lent.out[..room];
     let event = match call {
@@ -237,32 +280,30 @@ pub fn second_side(setup: Setup, room: usize, call: Call, t: &mut [u8], lent: &m
             let (at, length) = second::record_part(t, n, s, copy, o, j);
             return Answer::Part(at, length);
         }
-        Call::Settled(o, j) => {
-            return match second::settled(t, n, s, copy, o, j) {
-                Ok(Settled::Command { op, key, edit }) => {
-                    Answer::Settled(op as u64, key as u64, edit)
-                }
-                Ok(Settled::Waits { owner, number }) => Answer::Waits(owner, number),
-                Err(refusal) => Answer::Refused(refusal),
-            }
-        }
+        Call::Settled(o, j) => return settled(second::settled(t, n, s, copy, o, j)),
         Call::HandOut(places) => {
-            return match second::hand_out(t, n, s, copy, &mut lent.list[..places]) {
-                Ok(codes) => Answer::Codes(codes),
-                Err(refusal) => Answer::Refused(refusal),
-            }
+            let codes = second::hand_out(t, n, s, copy, &mut lent.list[..places]);
+            return codes.map_or_else(Answer::Refused, Answer::Codes);
         }
         Call::Request(op, key, edit) => {
             // Every number above 255 is as little an op as 255 is.
             let op = op.try_into().unwrap_or(u8::MAX);
-            second::request(t, n, s, copy, out, op, key, edit)
+            second::request_by(by, t, n, s, copy, out, op, key, edit)
         }
-        Call::Message(bytes) => second::message(t, n, s, copy, out, bytes),
+        Call::Message(bytes) => second::message_by(by, t, n, s, copy, out, bytes),
         Call::Recover(o, j) => second::recover(t, n, s, copy, out, o, j),
         Call::Nudge(o, j) => second::nudge(t, n, s, copy, out, o, j),
     };
     match event {
         Ok(second::Event { owner, number, written }) => Answer::Event(owner, number, written),
+        Err(refusal) => Answer::Refused(refusal),
+    }
+}
+
+fn settled(answer: Result<Settled, Refusal>) -> Answer {
+    match answer {
+        Ok(Settled::Command { op, key, edit }) => Answer::Settled(op as u64, key as u64, edit),
+        Ok(Settled::Waits { owner, number }) => Answer::Waits(owner, number),
         Err(refusal) => Answer::Refused(refusal),
     }
 }

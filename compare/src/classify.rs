@@ -30,6 +30,15 @@ impl Places {
         };
         self.reach(place);
     }
+
+    /// The event pre-accepted a read that passed over a read of its key.
+    pub fn passed_over(&mut self, call: Call) {
+        self.reach(match call {
+            Call::Request(..) => Place::RequestPassed,
+            Call::Message([PRE_ACCEPT, ..]) => Place::PreAcceptPassed,
+            _ => Place::AfreshPassed,
+        });
+    }
 }
 
 fn nudged(before: &Record, after: &Record, first: u8) -> Place {

@@ -1,7 +1,11 @@
-//! Demand 3, watched over the saved tables of a run in which nothing is damaged or invented.
+//! Demand 3, watched over the saved tables of a run in which nothing is damaged or invented. Which commands interfere is
+//! asked of 4/12, whatever the copies themselves go by.
 
 use second::rules::{interfere, Command, Deps, NO_OP};
 use second::table::{Record, COMMITTED};
+
+/// An instance, and what it was committed with.
+pub type Chosen = (usize, usize, Command, Deps);
 
 pub struct Demand {
     n: usize,
@@ -120,6 +124,14 @@ impl Demand {
         Ok(())
     }
 
+    /// All that was committed.
+    pub fn chosen(&self) -> impl Iterator<Item = Chosen> + '_ {
+        let all = self.chosen.iter().enumerate();
+        all.filter_map(|(at, its)| {
+            its.map(|(command, deps)| (at / self.s, at % self.s + 1, command, deps))
+        })
+    }
+
     /// How many marks copy q has saved.
     pub fn handed_out(&self, q: usize) -> usize {
         self.marks[q]
@@ -142,12 +154,16 @@ mod tests {
 
     /// 0.1 and 1.1 of N = 3, both requested and committed, 0.1 with these dependencies.
     fn two(deps: [u16; 3]) -> Result<Demand, String> {
+        two_of([EDIT; 2], deps)
+    }
+
+    fn two_of([first, second]: [Command; 2], deps: [u16; 3]) -> Result<Demand, String> {
         let mut demand = Demand::new(3, 2);
-        demand.requested(0, 1, EDIT);
-        demand.requested(1, 1, EDIT);
+        demand.requested(0, 1, first);
+        demand.requested(1, 1, second);
         let blank = Record::default();
-        demand.saved(0, 1, &blank, &committed(EDIT, deps))?;
-        demand.saved(1, 1, &blank, &committed(EDIT, [0; 3]))?;
+        demand.saved(0, 1, &blank, &committed(first, deps))?;
+        demand.saved(1, 1, &blank, &committed(second, [0; 3]))?;
         Ok(demand)
     }
 
@@ -174,6 +190,20 @@ mod tests {
     #[test]
     fn neither_covers() {
         assert!(two([0; 3]).is_err());
+    }
+
+    #[test]
+    fn reads_in_any_order() {
+        let read = Command { op: 1, ..EDIT };
+        let marks = [(0, 1), (0, 0), (1, 0), (1, 1)];
+        let mut demand = two_of([read; 2], [0; 3]).unwrap();
+        assert!(marks.iter().all(|&(q, o)| demand.marked(q, o, 1).is_ok()));
+        for commands in [[read, EDIT], [EDIT, read]] {
+            assert!(two_of(commands, [0; 3]).is_err());
+            let mut demand = two_of(commands, [0, 1, 0]).unwrap();
+            assert!(marks[..3].iter().all(|&(q, o)| demand.marked(q, o, 1).is_ok()));
+            assert!(demand.marked(1, 1, 1).is_err(), "the other way round than at 0");
+        }
     }
 
     #[test]

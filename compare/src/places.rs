@@ -14,8 +14,10 @@ macro_rules! places {
 places! {
     Requested "request",
     RequestedOver "request that saw interfering commands",
+    RequestPassed "request: a read that passed over a read of its key",
     PreAcceptAsReceived "PreAccept: nothing added, status 2",
     PreAcceptAdded "PreAccept: dependencies added, status 1",
+    PreAcceptPassed "PreAccept: a read that passed over a read of its key",
     PreAcceptRepeated "PreAccept repeated: stored dependencies again",
     PreAcceptAfterAccept "PreAccept where that ballot is accepted: nothing",
     PreAcceptWaits "PreAcceptOK collected, waits",
@@ -38,6 +40,7 @@ places! {
     DecideAccepted "PrepareOK decides: what was accepted",
     DecideMatching "PrepareOK decides: F of status 2 without the owner",
     DecideAfresh "PrepareOK decides: a command afresh",
+    AfreshPassed "PrepareOK decides: a read afresh, which passed over a read of its key",
     NackTaken "Nack: joined is raised",
     Nacked "Nack sent",
     CommitBack "Commit sent back",
@@ -89,6 +92,8 @@ places! {
 pub struct Places {
     counts: Vec<u64>,
     pub calls: u64,
+    /// How often a copy went over to another interference.
+    pub went_over: u64,
     /// Runs by N (3, 5, 7) and by S.
     pub by_n: [u64; 8],
     pub by_s: [u64; 65],
@@ -96,13 +101,18 @@ pub struct Places {
 
 impl Default for Places {
     fn default() -> Places {
-        Places { counts: vec![0; NAMES.len()], calls: 0, by_n: [0; 8], by_s: [0; 65] }
+        let counts = vec![0; NAMES.len()];
+        Places { counts, calls: 0, went_over: 0, by_n: [0; 8], by_s: [0; 65] }
     }
 }
 
 impl Places {
     pub fn reach(&mut self, place: Place) {
         self.counts[place as usize] += 1;
+    }
+
+    pub fn reached(&self, place: Place) -> u64 {
+        self.counts[place as usize]
     }
 
     pub fn refused(&mut self, number: u8) {
@@ -117,6 +127,7 @@ impl Places {
         sum(&mut self.by_n, &other.by_n);
         sum(&mut self.by_s, &other.by_s);
         self.calls += other.calls;
+        self.went_over += other.went_over;
     }
 
     pub fn print(&self) {
@@ -124,6 +135,9 @@ impl Places {
             println!("{count:>12}  {name}");
         }
         println!("{:>12}  calls compared", self.calls);
+        if self.went_over > 0 {
+            println!("{:>12}  times a copy went over to the other interference", self.went_over);
+        }
         let [n3, n5, n7] = [self.by_n[3], self.by_n[5], self.by_n[7]];
         let sizes = self.by_s.iter().filter(|&&runs| runs > 0).count();
         println!("runs with N = 3, 5, 7: {n3}, {n5}, {n7}; with {sizes} different S");

@@ -23,26 +23,45 @@ extern "C" fn enter(closure: *mut &mut dyn FnMut()) {
     unsafe { (*closure)() }
 }
 
+/// Calls `enter` on another stack; the old one is put back from a register that calls keep.
+#[cfg(target_arch = "x86_64")]
+unsafe fn enter_on(top: usize, closure: *mut &mut dyn FnMut()) {
+    asm!(
+        "mov r12, rsp",
+        "mov rsp, {top}",
+        "call {enter}",
+        "mov rsp, r12",
+        top = in(reg) top,
+        enter = in(reg) enter as *const (),
+        in("rdi") closure,
+        out("r12") _,
+        clobber_abi("C"),
+    );
+}
+
+#[cfg(target_arch = "aarch64")]
+unsafe fn enter_on(top: usize, closure: *mut &mut dyn FnMut()) {
+    asm!(
+        "mov x20, sp",
+        "mov sp, {top}",
+        "blr {enter}",
+        "mov sp, x20",
+        top = in(reg) top,
+        enter = in(reg) enter as *const (),
+        in("x0") closure,
+        out("x20") _,
+        clobber_abi("C"),
+    );
+}
+
 impl Stack {
     /// The bytes that the closure needs below its caller's frame.
     pub fn depth(&mut self, mut closure: &mut dyn FnMut()) -> usize {
         // The closure's own first turn may still load what it calls.
         closure();
         let top = self.bytes.as_ptr_range().end as usize & !15;
-        // SAFETY: the new stack is our own, large and aligned; the old one is put back from a register that calls keep.
-        unsafe {
-            asm!(
-                "mov r12, rsp",
-                "mov rsp, {top}",
-                "call {enter}",
-                "mov rsp, r12",
-                top = in(reg) top,
-                enter = in(reg) enter as *const (),
-                in("rdi") &mut closure as *mut &mut dyn FnMut(),
-                out("r12") _,
-                clobber_abi("C"),
-            );
-        }
+        // SAFETY: the new stack is our own, large and aligned.
+        unsafe { enter_on(top, &mut closure) }
         self.used()
     }
 

@@ -2,9 +2,11 @@
 //!
 //! A clean run holds to docs/HOST.md, with loss, repetition, reordering and cuts, and demand 3 is watched. In a wild
 //! run damaged and invented messages are handed over and tables begin as any sound ones; both sides must still agree.
+//! In a mixed run, which is clean, the second program works alone, each copy by the interference of document 01 or by
+//! that of 4/12, and copies go over to the other and back.
 
-use crate::both::{Answer, Both, Call, Pair};
-use crate::demand::Demand;
+use crate::both::{Answer, Both, Call, Pair, Sides};
+use crate::demand::{Chosen, Demand};
 use crate::guarded::JournalCall;
 use crate::journals::{Book, Journals};
 use crate::make;
@@ -13,12 +15,13 @@ use crate::probe;
 use crate::random::Random;
 use crate::{not_valid, LENGTHS};
 use pumxaqert::{Instance, Setup, ROOM};
-use second::rules::{covers, NO_OP};
-use second::table::{Record, COMMITTED, RECORD_LEN};
+use second::rules::{covers, interfere, same_object, seen, NO_OP, READ, WRITE};
+use second::table::{Record, COMMITTED, PRE_ACCEPTED, PRE_ACCEPTED_ADDED, RECORD_LEN};
 use second::Refusal;
 
 pub struct Copy {
     pub setup: Setup,
+    sides: Sides,
     pub tables: Pair,
     /// What the disk holds; between events the same as the tables.
     pub saved: Vec<u8>,
@@ -33,6 +36,8 @@ struct Letter {
 /// How a run is driven, in percent of steps or of messages.
 struct Pace {
     keys: usize,
+    /// Of the requests.
+    reads: usize,
     loss: usize,
     repeat: usize,
     cut: usize,
@@ -47,6 +52,7 @@ pub struct World {
     n: usize,
     s: usize,
     wild: bool,
+    mixed: bool,
     pace: Pace,
     pub copies: Vec<Copy>,
     flying: Vec<Letter>,
@@ -71,6 +77,7 @@ struct Disk {
 fn pace(random: &mut Random) -> Pace {
     Pace {
         keys: random.pick(&[1, 1, 2, 3]),
+        reads: random.pick(&[50, 50, 90, 90, 100]),
         loss: random.pick(&[0, 0, 5, 20, 40]),
         repeat: random.pick(&[0, 5, 20, 50]),
         cut: random.pick(&[0, 0, 3, 10]),
@@ -92,20 +99,40 @@ fn numbers(random: &mut Random) -> usize {
 }
 
 /// The run of this seed: what it reached, or the step at which something went wrong and what.
-pub fn run(seed: u64, alone: bool, places: &mut Places) -> Result<(), (usize, String)> {
-    let mut world = World::new(seed, alone);
-    let ended = world.play();
-    places.add(&world.places);
-    ended.map_err(|wrong| (world.step, wrong))
+pub fn run(seed: u64, sides: Sides, places: &mut Places) -> Result<(), (usize, String)> {
+    World::new(seed, sides).run(places)
 }
 
-/// The same with journals on the copies' disks: what they hold in the end.
+/// The same of a mixed run.
+pub fn mixed(seed: u64, places: &mut Places) -> Result<(), (usize, String)> {
+    let mut world = World::new(seed, Sides::Second);
+    world.mixed = true;
+    for copy in &mut world.copies {
+        copy.sides = world.random.pick(&[Sides::Second, Sides::SecondWide]);
+    }
+    world.run(places)
+}
+
+/// All that the run of this seed commits, with so many reads in a hundred requests.
+pub fn chosen(
+    seed: u64,
+    sides: Sides,
+    reads: usize,
+    places: &mut Places,
+) -> Result<Vec<Chosen>, (usize, String)> {
+    let mut world = World::new(seed, sides);
+    world.pace.reads = reads;
+    world.run(places)?;
+    Ok(world.demand.chosen().collect())
+}
+
+/// The run of this seed with journals on the copies' disks: what they hold in the end.
 pub fn journalled(
     seed: u64,
     steps: Option<usize>,
     journals: &mut Journals,
 ) -> Result<Vec<Book>, String> {
-    let mut world = World::new(seed, false);
+    let mut world = World::new(seed, Sides::Compared);
     let books = world.copies.iter().map(|copy| Book::new(copy.setup, &copy.saved)).collect();
     world.disk = Some(Disk { journals: std::mem::take(journals), books });
     world.steps = steps;
@@ -118,19 +145,33 @@ pub fn journalled(
     }
 }
 
+/// The event pre-accepted a read, and a read of its key stands higher in some row than all that it saw there.
+fn passed_over(copy: &Copy, o: usize, j: usize, before: &Record, after: &Record) -> bool {
+    let own = &after.own;
+    let afresh = matches!(own.status, PRE_ACCEPTED | PRE_ACCEPTED_ADDED) && before.own != *own;
+    if !afresh || own.command.op != READ || copy.sides == Sides::SecondWide {
+        return false;
+    }
+    let Setup { n, s, copy: q } = copy.setup;
+    let setup = second::setup::Setup::new(n, s, q).expect("a good setup");
+    let all = seen(&setup, &copy.saved, &own.command, o, j, same_object);
+    all != seen(&setup, &copy.saved, &own.command, o, j, interfere)
+}
+
 impl World {
-    fn new(seed: u64, alone: bool) -> World {
+    fn new(seed: u64, sides: Sides) -> World {
         let mut random = Random(seed);
         random.word();
         let n = random.pick(&[3, 3, 5, 5, 7]);
         let s = numbers(&mut random);
-        let wild = random.chance(30);
+        // What the second program does alone has only demand 3 to fail.
+        let wild = random.chance(30) && matches!(sides, Sides::Compared | Sides::Library);
         let filled = if wild && random.chance(50) { random.pick(&[30, 100]) } else { 0 };
         let copy = |copy| {
             let setup = Setup { n, s, copy };
             let mut saved = make::blank(setup);
             make::fill(&mut random, setup, &mut saved, filled);
-            Copy { setup, tables: Pair::of(&saved), saved }
+            Copy { setup, sides, tables: Pair::of(&saved), saved }
         };
         let copies = (0..n).map(copy).collect();
         let mut places = Places::default();
@@ -140,6 +181,7 @@ impl World {
             n,
             s,
             wild,
+            mixed: false,
             pace: pace(&mut random),
             copies,
             flying: Vec::new(),
@@ -147,11 +189,18 @@ impl World {
             demand: Demand::new(n, s),
             disk: None,
             steps: None,
-            both: Both::new(alone),
+            both: Both::new(sides),
             random,
             places,
             step: 0,
         }
+    }
+
+    /// Plays the run, and adds what it reached.
+    fn run(&mut self, places: &mut Places) -> Result<(), (usize, String)> {
+        let ended = self.play();
+        places.add(&self.places);
+        ended.map_err(|wrong| (self.step, wrong))
     }
 
     fn play(&mut self) -> Result<(), String> {
@@ -160,6 +209,9 @@ impl World {
             self.step += 1;
             if self.random.chance(2) {
                 self.apart = self.random.below(2 * self.n);
+            }
+            if self.mixed && self.random.chance(3) {
+                self.go_over();
             }
             self.one_step()?;
             if self.random.chance(4) {
@@ -173,16 +225,27 @@ impl World {
         Ok(())
     }
 
+    /// A copy works on by the other interference, with the table that it has.
+    fn go_over(&mut self) {
+        let q = self.random.below(self.n);
+        let copy = &mut self.copies[q];
+        copy.sides = match copy.sides {
+            Sides::Second => Sides::SecondWide,
+            _ => Sides::Second,
+        };
+        self.places.went_over += 1;
+    }
+
     fn one_step(&mut self) -> Result<(), String> {
         let q = self.random.below(self.n);
         let (o, j) = (self.random.below(self.n), self.random.between(1, self.s));
         let Pace { request, recover, nudge, .. } = self.pace;
         let chosen = self.random.below(100);
         if chosen < request {
-            let op = self.random.between(1, 2);
+            let op = if self.random.chance(self.pace.reads) { READ } else { WRITE };
             let key = self.random.below(self.pace.keys) as u32;
             let edit = self.random.word();
-            self.event(q, Call::Request(op, key, edit))
+            self.event(q, Call::Request(op as usize, key, edit))
         } else if chosen < request + recover {
             self.event(q, Call::Recover(o, j))
         } else if chosen < request + recover + nudge {
@@ -226,6 +289,7 @@ impl World {
     fn event(&mut self, q: usize, call: Call) -> Result<(), String> {
         self.places.calls += 1;
         let copy = &mut self.copies[q];
+        self.both.sides = copy.sides;
         let answer = self.both.call(copy.setup, ROOM, call, &mut copy.tables);
         let (o, j, written) = match answer.map_err(|wrong| wrong + &self.before(q, call))? {
             Answer::Refused(refusal) => return self.refused(q, refusal, call),
@@ -241,6 +305,9 @@ impl World {
         }
         let (before, after) = (make::get(saved, at), make::get(&tables.ours, at));
         self.places.event(self.n, call, o, [&before, &after], sent);
+        if passed_over(&self.copies[q], o, j, &before, &after) {
+            self.places.passed_over(call);
+        }
         if self.random.chance(self.pace.cut) {
             self.places.reach(Place::CutBeforeSave);
             return self.restart(q, Some(JournalCall::RecordEntry(o, j)));
@@ -395,7 +462,7 @@ impl World {
 
     /// Only the marks of what was listed may have changed.
     fn listed(&mut self, q: usize, room: usize, codes: &[u16]) -> Result<(), String> {
-        let Copy { setup, tables, saved } = &self.copies[q];
+        let Copy { setup, tables, saved, .. } = &self.copies[q];
         let mut marked = saved.clone();
         for &code in codes {
             let Instance { owner, number } = Instance::of_code(code);

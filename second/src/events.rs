@@ -7,7 +7,7 @@ use crate::message::{
     PRE_ACCEPT_OK, ROOM,
 };
 use crate::refusal::{self, Refusal};
-use crate::rules::{join, seen, Command, Deps, READ, WRITE};
+use crate::rules::{interfere, join, seen, Command, Deps, Interference, READ, WRITE};
 use crate::setup::{Setup, MAX_COPIES};
 use crate::table::{
     is_blank, judged, record_at, record_bytes, Record, Vote, ACCEPTED, ACCEPTING, COMMITTED, IDLE,
@@ -36,6 +36,22 @@ pub fn request(
     key: u32,
     edit: u64,
 ) -> Result<Event, Refusal> {
+    request_by(interfere, t, n, s, copy, out, op, key, edit)
+}
+
+/// The same at a copy that goes by this interference.
+#[allow(clippy::too_many_arguments)]
+pub fn request_by(
+    by: impl Interference,
+    t: &mut [u8],
+    n: usize,
+    s: usize,
+    copy: usize,
+    out: &mut [u8],
+    op: u8,
+    key: u32,
+    edit: u64,
+) -> Result<Event, Refusal> {
     let setup = entry(t, n, s, copy, out)?;
     if !matches!(op, READ | WRITE) {
         return Err(refusal::OP);
@@ -43,7 +59,7 @@ pub fn request(
     let number =
         (1..=s).find(|&j| is_blank(record_bytes(t, &setup, copy, j))).ok_or(refusal::NO_BLANK)?;
     let mut step = Step::open(setup, t, out, copy, number);
-    step.pre_accept_afresh(&Command { op, key, edit });
+    step.pre_accept_afresh(&Command { op, key, edit }, by);
     Ok(step.close())
 }
 
@@ -56,17 +72,30 @@ pub fn message(
     out: &mut [u8],
     bytes: &[u8],
 ) -> Result<Event, Refusal> {
+    message_by(interfere, t, n, s, copy, out, bytes)
+}
+
+/// The same at a copy that goes by this interference.
+pub fn message_by(
+    by: impl Interference,
+    t: &mut [u8],
+    n: usize,
+    s: usize,
+    copy: usize,
+    out: &mut [u8],
+    bytes: &[u8],
+) -> Result<Event, Refusal> {
     let setup = entry(t, n, s, copy, out)?;
     let m = read(&setup, bytes)?;
     let mut step = Step::open(setup, t, out, m.owner as usize, m.number as usize);
     match m.kind {
-        PRE_ACCEPT => step.pre_accept(&m),
+        PRE_ACCEPT => step.pre_accept(&m, by),
         PRE_ACCEPT_OK => step.pre_accept_ok(&m),
         ACCEPT => step.accept(&m),
         ACCEPT_OK => step.accept_ok(&m),
         COMMIT => step.commit(&m)?,
         PREPARE => step.prepare(&m),
-        PREPARE_OK => step.prepare_ok(&m),
+        PREPARE_OK => step.prepare_ok(&m, by),
         _ => step.nack(&m),
     }
     Ok(step.close())
@@ -165,7 +194,7 @@ impl<'a> Step<'a> {
 
     // What messages do.
 
-    fn pre_accept(&mut self, m: &Message) {
+    fn pre_accept(&mut self, m: &Message, by: impl Interference) {
         if self.turned_away(m) {
             return;
         }
@@ -178,7 +207,7 @@ impl<'a> Step<'a> {
             return;
         }
         let command = m.command();
-        let deps = join(&m.deps, &self.seen(&command));
+        let deps = join(&m.deps, &self.seen(&command, by));
         let status = if deps == m.deps { PRE_ACCEPTED } else { PRE_ACCEPTED_ADDED };
         self.join_ballot(m.ballot);
         self.record.own = Vote { voted: m.ballot, status, command, deps };
@@ -255,14 +284,14 @@ impl<'a> Step<'a> {
         self.answer(m, reply.with(&own.command, &own.deps));
     }
 
-    fn prepare_ok(&mut self, m: &Message) {
+    fn prepare_ok(&mut self, m: &Message, by: impl Interference) {
         if !self.awaits(PREPARING, m) {
             return;
         }
         let reply = Vote { voted: m.voted, status: m.status, command: m.command(), deps: m.deps };
         self.collect(m.from, reply);
         if self.replied() > self.setup.f() {
-            self.decide();
+            self.decide(by);
         }
     }
 
@@ -303,8 +332,8 @@ impl<'a> Step<'a> {
         self.record.own.status == COMMITTED
     }
 
-    fn seen(&self, command: &Command) -> Deps {
-        seen(&self.setup, self.table, command, self.owner, self.number)
+    fn seen(&self, command: &Command, by: impl Interference) -> Deps {
+        seen(&self.setup, self.table, command, self.owner, self.number, by)
     }
 
     /// A committed record answers Commit, one that joined a higher ballot Nack.
@@ -378,12 +407,12 @@ impl<'a> Step<'a> {
         }
     }
 
-    fn pre_accept_afresh(&mut self, command: &Command) {
+    fn pre_accept_afresh(&mut self, command: &Command, by: impl Interference) {
         self.record.own = Vote {
             voted: self.record.joined,
             status: PRE_ACCEPTED,
             command: *command,
-            deps: self.seen(command),
+            deps: self.seen(command, by),
         };
         self.record.phase = PRE_ACCEPTING;
         self.forget_replies();
@@ -413,10 +442,10 @@ impl<'a> Step<'a> {
         self.tell_others(COMMIT, 0);
     }
 
-    fn decide(&mut self) {
+    fn decide(&mut self, by: impl Interference) {
         match self.decision() {
             Decision::Accept(vote) => self.start_accepting(vote.command, vote.deps),
-            Decision::PreAcceptAfresh(command) => self.pre_accept_afresh(&command),
+            Decision::PreAcceptAfresh(command) => self.pre_accept_afresh(&command, by),
         }
     }
 

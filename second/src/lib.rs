@@ -20,7 +20,7 @@ pub mod setup;
 pub mod stream;
 pub mod table;
 
-pub use events::{message, nudge, recover, request, Event};
+pub use events::{message, message_by, nudge, recover, request, request_by, Event};
 pub use message::{read_message, write_message, Message};
 pub use order::{hand_out, settled, Settled};
 pub use refusal::Refusal;

@@ -64,9 +64,23 @@ pub fn within(deps: &Deps, highest: &Deps) -> bool {
     good
 }
 
-/// Neither command is a no-op, and both have one key.
+/// Which two commands are to be put in order. A type and not a pointer, so that
+/// the plain calls are compiled with their rule in place.
+pub trait Interference: Fn(&Command, &Command) -> bool + Copy {}
+
+impl<Rule: Fn(&Command, &Command) -> bool + Copy> Interference for Rule {}
+
+/// Request 4/12: of two that touch one object, one at least changes it. Reads
+/// alone answer the same in any order.
 #[inline]
 pub fn interfere(a: &Command, b: &Command) -> bool {
+    same_object(a, b) && (a.op == WRITE || b.op == WRITE)
+}
+
+/// Document 01: both touch one object, which a no-op never does. Copies that go
+/// by it may work beside those that go by `interfere`.
+#[inline]
+pub fn same_object(a: &Command, b: &Command) -> bool {
     a.op != NO_OP && b.op != NO_OP && a.key == b.key
 }
 
@@ -96,7 +110,14 @@ pub fn lead(ballot: u32, owner: usize) -> usize {
 
 /// In each owner's row the last record of status 1 or more, o.j itself left
 /// out, whose command interferes.
-pub fn seen(setup: &Setup, table: &[u8], command: &Command, o: usize, j: usize) -> Deps {
+pub fn seen(
+    setup: &Setup,
+    table: &[u8],
+    command: &Command,
+    o: usize,
+    j: usize,
+    by: impl Interference,
+) -> Deps {
     let mut highest = [0; MAX_COPIES];
     if command.op == NO_OP {
         return highest;
@@ -105,7 +126,7 @@ pub fn seen(setup: &Setup, table: &[u8], command: &Command, o: usize, j: usize) 
         for i in (1..=setup.s).rev() {
             let vote = vote_bytes(record_bytes(table, setup, p, i));
             let other = Command::read(crate::bytes::part(vote, 5));
-            if vote[4] >= 1 && interfere(command, &other) && (p, i) != (o, j) {
+            if vote[4] >= 1 && by(command, &other) && (p, i) != (o, j) {
                 highest[p] = i as u16;
                 break;
             }

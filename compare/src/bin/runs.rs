@@ -1,13 +1,24 @@
 //! runs COUNT [SEED]: so many random runs on both sides; run i has the seed SEED + i (SEED is 1 if left out).
 //! runs COUNT SEED only: the same, and it does not matter which places are reached.
 //! runs COUNT SEED alone: the library stands on both sides, so that only demand 3 can fail.
+//! runs COUNT SEED mixed: the second program stands on both sides, its copies by the interference of document 01 or by
+//! that of 4/12, and go over at random; demand 3 is watched by that of 4/12.
 //!
 //! A difference, or a break of demand 3, prints the run's seed and step and what differed.
 
+use compare::both::Sides;
 use compare::places::Places;
 use compare::{threads, world};
 use std::process::ExitCode;
 use std::time::Instant;
+
+fn one(word: &str, seed: u64, places: &mut Places) -> Result<(), (usize, String)> {
+    match word {
+        "mixed" => world::mixed(seed, places),
+        "alone" => world::run(seed, Sides::Library, places),
+        _ => world::run(seed, Sides::Compared, places),
+    }
+}
 
 fn main() -> ExitCode {
     let words: Vec<String> = std::env::args().skip(1).collect();
@@ -16,19 +27,18 @@ fn main() -> ExitCode {
         None => left_out,
     };
     let (Some(count), Some(seed)) = (number(0, None), number(1, Some(1))) else {
-        eprintln!("usage: runs COUNT [SEED [only | alone]]");
+        eprintln!("usage: runs COUNT [SEED [only | alone | mixed]]");
         return ExitCode::from(2);
     };
-    let alone = words.get(2).is_some_and(|word| word == "alone");
+    let word = words.get(2).map_or("only", String::as_str);
     let begun = Instant::now();
     let job = |places: &mut Places, i: u64| {
         let seed = seed.wrapping_add(i);
-        world::run(seed, alone, places).map_err(|(step, wrong)| (seed, step, wrong))
+        one(word, seed, places).map_err(|(step, wrong)| (seed, step, wrong))
     };
     let states = match threads::over_all(count, Places::default, job) {
         Ok(states) => states,
         Err((seed, step, wrong)) => {
-            let word = if alone { "alone" } else { "only" };
             println!("seed {seed}, step {step}: {wrong}\nagain: runs 1 {seed} {word}");
             return ExitCode::FAILURE;
         }
@@ -42,6 +52,9 @@ fn main() -> ExitCode {
         println!("never reached: {}", missing.join("; "));
         return ExitCode::FAILURE;
     }
-    println!("{count} runs: no difference, and demand 3 held");
+    match word {
+        "mixed" => println!("{count} mixed runs: demand 3 held"),
+        _ => println!("{count} runs: no difference, and demand 3 held"),
+    }
     ExitCode::SUCCESS
 }

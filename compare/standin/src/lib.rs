@@ -112,7 +112,8 @@ pub unsafe extern "C" fn pumxaqert_request(
 ) -> u32 {
     let (t, out) = (lent_mut(table, table_len), lent_mut(out, out_len));
     let op = op.try_into().unwrap_or(u8::MAX);
-    answered(second::request(t, n, s, c, out, op, key, edit), &mut *values)
+    let by = planted::interference(Planted::now());
+    answered(second::request_by(by, t, n, s, c, out, op, key, edit), &mut *values)
 }
 
 #[no_mangle]

@@ -2,6 +2,7 @@
 
 use second::fields::{self, Fields};
 use second::message::decode;
+use second::rules::{interfere, same_object, Command, WRITE};
 use second::table::{Record, Vote, RECORD_LEN};
 use second::{read_message, record_part, refusal, Event, Message, Refusal};
 use std::sync::OnceLock;
@@ -83,11 +84,19 @@ pub enum Planted {
     JudgedAsOwn,
     /// A writer touches a byte after the entry.
     EntryTouched,
+    /// Two reads of one key interfere.
+    ReadsInterfere,
+    /// A read and a write of one key do not.
+    WritesAlone,
+    /// The first of two commands alone says whether one writes.
+    FirstDecides,
+    /// A no-op interferes with what writes its key, 0.
+    NoOpInterferes,
 }
 
 use Planted::*;
 
-const ALL: [Planted; 38] = [
+const ALL: [Planted; 42] = [
     Nothing,
     JoinedAsVoted,
     WorkedOutAnew,
@@ -126,6 +135,10 @@ const ALL: [Planted; 38] = [
     NumberAsByte,
     JudgedAsOwn,
     EntryTouched,
+    ReadsInterfere,
+    WritesAlone,
+    FirstDecides,
+    NoOpInterferes,
 ];
 
 impl Planted {
@@ -184,6 +197,17 @@ pub struct Setup {
     pub copy: usize,
 }
 
+/// Which commands interfere, with what is planted in it.
+pub fn interference(planted: Planted) -> fn(&Command, &Command) -> bool {
+    match planted {
+        ReadsInterfere => same_object,
+        WritesAlone => |a, b| same_object(a, b) && a.op == WRITE && b.op == WRITE,
+        FirstDecides => |a, b| same_object(a, b) && a.op == WRITE,
+        NoOpInterferes => |a, b| a.key == b.key && (a.op == WRITE || b.op == WRITE),
+        _ => interfere,
+    }
+}
+
 /// One message event, with what is planted in it.
 pub fn message(
     planted: Planted,
@@ -199,7 +223,7 @@ pub fn message(
         _ => None,
     };
     let Some((m, at, record)) = found else {
-        return second::message(t, n, s, copy, out, bytes);
+        return second::message_by(interference(planted), t, n, s, copy, out, bytes);
     };
     let before = t[at..at + RECORD_LEN].to_vec();
     let sent = changed_before(planted, setup, t, &m, at, record);

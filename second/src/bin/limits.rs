@@ -1,9 +1,11 @@
 //! Prints runs whose calls have bad arguments or bad tables, each call followed
 //! by the answer that this library gives, for the proved program `runs` to
 //! play. Answers end with checksums of the table and of the room after the call.
-//! Then streams, in a run that is not watched.
+//! Then reads and writes, of one key and of two; and streams, in a run that is
+//! not watched.
 
-use second::message::length_of;
+use second::message::{length_of, COMMIT, PRE_ACCEPT};
+use second::rules::{NO_OP, READ, WRITE};
 use second::stream::Stream;
 use second::table::RECORD_LEN;
 use second::{
@@ -154,7 +156,13 @@ fn accept_ok(o: u8, j: u8) -> [u8; 10] {
 
 /// A Commit from copy 1 to copy 0 of a write, with these dependencies.
 fn commit(o: u8, j: u8, edit: u8, deps: [u8; 3]) -> Vec<u8> {
-    let mut bytes = vec![5, 1, 0, o, j, 0, 0, 0, 0, 0, 2, 7, 0, 0, 0, edit];
+    with_command(COMMIT, (o, j), (WRITE, 7, edit), deps)
+}
+
+/// A message from copy 1 to copy 0 at ballot 0, with this op, key and edit.
+fn with_command(kind: u8, (o, j): (u8, u8), command: (u8, u8, u8), deps: [u8; 3]) -> Vec<u8> {
+    let (op, key, edit) = command;
+    let mut bytes = vec![kind, 1, 0, o, j, 0, 0, 0, 0, 0, op, key, 0, 0, 0, edit];
     bytes.resize(23, 0);
     for d in deps {
         bytes.extend([d, 0]);
@@ -260,6 +268,29 @@ fn lists(run: &mut Run) {
     run.nudge(0, 1);
     for places in [0, 1, 1, 1, 448] {
         run.hand_out(places);
+    }
+}
+
+/// Every op after every other, of one key and of two: a request after a Commit, and a PreAccept after both.
+fn pairs(run: &mut Run) {
+    for (first, key) in [(NO_OP, 0), (READ, 7), (WRITE, 7)] {
+        for (op, its) in [(READ, key), (WRITE, key), (READ, 8), (WRITE, 8)] {
+            run.begin(3, 2);
+            run.message(&with_command(COMMIT, (1, 1), (first, key, key), [0; 3]));
+            run.request(op as usize, its as u32, 9);
+            run.message(&with_command(PRE_ACCEPT, (1, 2), (op, its, 9), [0; 3]));
+        }
+    }
+}
+
+/// A row with reads above a write and a write above reads, and after each request what either op of another owner sees.
+fn row(run: &mut Run) {
+    for op in [READ, WRITE] {
+        run.begin(3, 8);
+        for (j, own) in (1..).zip([READ, READ, WRITE, READ, READ, WRITE, WRITE, READ]) {
+            run.request(own as usize, 7, 100);
+            run.message(&with_command(PRE_ACCEPT, (1, j), (op, 7, 9), [0; 3]));
+        }
     }
 }
 
@@ -426,6 +457,8 @@ fn main() {
         lists(&mut run);
         unsound(&mut run, n, s);
     }
+    pairs(&mut run);
+    row(&mut run);
     streams(&mut run);
     print!("{}", run.text);
 }

@@ -327,20 +327,32 @@ fn replay(path: &Path) -> Result<(usize, usize), String> {
     Ok((calls, mismatches))
 }
 
+/// The files named, and for a folder its .txt files by name.
+fn files() -> std::io::Result<Vec<PathBuf>> {
+    let mut files = Vec::new();
+    for word in std::env::args().skip(1) {
+        let path = PathBuf::from(word);
+        if !path.is_dir() {
+            files.push(path);
+            continue;
+        }
+        let entries: Result<Vec<_>, _> = path.read_dir()?.map(|e| e.map(|e| e.path())).collect();
+        let mut entries = entries?;
+        entries.retain(|path| path.extension().is_some_and(|e| e == "txt"));
+        entries.sort();
+        files.extend(entries);
+    }
+    Ok(files)
+}
+
 fn main() -> ExitCode {
-    let Some(dir) = std::env::args().nth(1) else {
-        eprintln!("usage: replay DIR");
-        return ExitCode::from(2);
-    };
-    let mut files: Vec<PathBuf> = match std::fs::read_dir(&dir) {
-        Ok(entries) => entries.filter_map(|e| e.ok().map(|e| e.path())).collect(),
-        Err(e) => {
-            eprintln!("{dir}: {e}");
+    let files = match files() {
+        Ok(files) if !files.is_empty() => files,
+        other => {
+            eprintln!("usage: replay DIR_OR_FILES ({other:?})");
             return ExitCode::from(2);
         }
     };
-    files.retain(|p| p.extension().is_some_and(|e| e == "txt"));
-    files.sort();
     let (mut calls, mut mismatches) = (0, 0);
     for path in &files {
         match replay(path) {
