@@ -2,13 +2,18 @@
 //! outgoing byte and every list; also that nothing else was touched. Every copy
 //! keeps a journal, which after each call gives its table, and after a cut what
 //! it goes on with.
+//!
+//! replay RUNS: by the interference of request 4/12, whatever they were recorded by.
+//! replay as-recorded RUNS: by the one that was in force, which the number of the
+//! last change in a run's first line tells.
 
 use second::journal::{self, length_of, mark_entry, record_entry};
 use second::refusal::NotReplayed;
+use second::rules::{interfere, same_object, Command};
 use second::stream::{self, Place, Stream};
 use second::{
-    blank_table, hand_out, judge_table, message, nudge, record_part, recover, request, settled,
-    table_len, Event, Refusal, Settled,
+    blank_table, hand_out, judge_table, message_by, nudge, record_part, recover, request_by,
+    settled, table_len, Event, Refusal, Settled,
 };
 use std::path::{Path, PathBuf};
 use std::process::ExitCode;
@@ -25,6 +30,7 @@ struct Journal {
     last: usize,
 }
 
+type Rule = fn(&Command, &Command) -> bool;
 type Writer = fn(&[u8], usize, usize, usize, &mut [u8], usize, usize) -> Result<usize, Refusal>;
 
 impl Journal {
@@ -44,6 +50,7 @@ impl Journal {
 struct Run {
     n: usize,
     s: usize,
+    by: Rule,
     tables: Vec<Vec<u8>>,
     journals: Vec<Journal>,
     cuts: usize,
@@ -51,10 +58,14 @@ struct Run {
 }
 
 impl Run {
-    fn start(n: usize, s: usize) -> Result<Run, String> {
+    /// By the first line's words.
+    fn start(words: &[&str], as_recorded: bool) -> Result<Run, String> {
+        let (n, s) = (number(words, 1)?, number(words, 2)?);
+        let before = as_recorded && number::<u8>(words, 3).unwrap_or(0) < 4;
+        let by = if before { same_object } else { interfere };
         let tables = (0..n).map(|copy| blank(n, s, copy)).collect::<Result<_, _>>()?;
         let journals = vec![Journal::default(); n];
-        Ok(Run { n, s, tables, journals, cuts: 0, stream: Default::default() })
+        Ok(Run { n, s, by, tables, journals, cuts: 0, stream: Default::default() })
     }
 
     /// A stream belongs to no copy.
@@ -145,7 +156,7 @@ impl Run {
 
     /// The answer as the vectors write it, or what the call did wrong besides.
     fn call(&mut self, copy: usize, words: &[&str]) -> Result<String, String> {
-        let (n, s) = (self.n, self.s);
+        let (n, s, by) = (self.n, self.s, self.by);
         let t = &mut self.tables[copy];
         let before = t.clone();
         let mut out = [UNTOUCHED; ROOM];
@@ -161,9 +172,9 @@ impl Run {
         let event = match what {
             "request" => {
                 let (op, key, edit) = (number(words, 2)?, number(words, 3)?, number(words, 4)?);
-                request(t, n, s, copy, &mut out, op, key, edit)
+                request_by(by, t, n, s, copy, &mut out, op, key, edit)
             }
-            "message" => message(t, n, s, copy, &mut out, &from_hex(words[2])?),
+            "message" => message_by(by, t, n, s, copy, &mut out, &from_hex(words[2])?),
             "recover" => recover(t, n, s, copy, &mut out, number(words, 2)?, number(words, 3)?),
             "nudge" => nudge(t, n, s, copy, &mut out, number(words, 2)?, number(words, 3)?),
             "settled" => {
@@ -289,7 +300,7 @@ fn to_hex(bytes: &[u8]) -> String {
 }
 
 /// Calls compared and mismatches found in one file.
-fn replay(path: &Path) -> Result<(usize, usize), String> {
+fn replay(path: &Path, as_recorded: bool) -> Result<(usize, usize), String> {
     let text = std::fs::read_to_string(path).map_err(|e| e.to_string())?;
     let (mut calls, mut mismatches) = (0, 0);
     let mut run: Option<Run> = None;
@@ -300,7 +311,7 @@ fn replay(path: &Path) -> Result<(usize, usize), String> {
         }
         let words: Vec<&str> = line.split_whitespace().collect();
         if words[0] == "run" {
-            let started = number(&words, 1).and_then(|n| Run::start(n, number(&words, 2)?));
+            let started = Run::start(&words, as_recorded);
             if let Err(wrong) = &started {
                 println!("{}:{at}: {line}: {wrong}", path.display());
                 mismatches += 1;
@@ -328,10 +339,9 @@ fn replay(path: &Path) -> Result<(usize, usize), String> {
 }
 
 /// The files named, and for a folder its .txt files by name.
-fn files() -> std::io::Result<Vec<PathBuf>> {
+fn files(words: &[String]) -> std::io::Result<Vec<PathBuf>> {
     let mut files = Vec::new();
-    for word in std::env::args().skip(1) {
-        let path = PathBuf::from(word);
+    for path in words.iter().map(PathBuf::from) {
         if !path.is_dir() {
             files.push(path);
             continue;
@@ -346,16 +356,18 @@ fn files() -> std::io::Result<Vec<PathBuf>> {
 }
 
 fn main() -> ExitCode {
-    let files = match files() {
+    let words: Vec<String> = std::env::args().skip(1).collect();
+    let as_recorded = words.first().is_some_and(|word| word == "as-recorded");
+    let files = match files(&words[as_recorded as usize..]) {
         Ok(files) if !files.is_empty() => files,
         other => {
-            eprintln!("usage: replay DIR_OR_FILES ({other:?})");
+            eprintln!("usage: replay [as-recorded] RUNS, files or folders ({other:?})");
             return ExitCode::from(2);
         }
     };
     let (mut calls, mut mismatches) = (0, 0);
     for path in &files {
-        match replay(path) {
+        match replay(path, as_recorded) {
             Ok((c, m)) => {
                 println!("{}: {c} calls, {m} mismatches", path.display());
                 calls += c;
