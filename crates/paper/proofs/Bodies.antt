@@ -6,10 +6,10 @@ use mathlib.Core.Bool.{Bool, true, false, _&&_, cond}
 use mathlib.Core.List.{List, [], _∷_}
 use native.Mathlib.Omega.{arith}
 use lib.ListN.{getD}
-use borrow.Author.Tests.{eqb-true}
 use Rattle.paper.specs.Logic.{implies}
-use Rattle.paper.specs.Command.{noop}
-use Rattle.paper.specs.Message.{unknown, rows, rowOf, rowIn, partsOf, partsIn, kindOf, isCommit, carriedIn, commandIn, joinedIn, bodyOf, isFresh, kept}
+use Rattle.paper.specs.Command.{noop, isRewire}
+use Rattle.paper.specs.Message.{unknown, rows, rowOf, rowIn, partsOf, partsIn, kindBy, kindOf, isCommit, commandCarried, carriedIn, commandIn, joinedIn, bodyOf, isFresh, kept}
+use Rattle.paper.specs.declared.Command.{Command}
 use Rattle.paper.specs.declared.Body.{Body}
 use Rattle.paper.specs.declared.Body.the-variants.{PreAccept, PreAcceptOk, Accept, AcceptOk, Commit, Prepare, PrepareOk, Nack}
 use Rattle.paper.specs.declared.Carried.{Carried}
@@ -17,41 +17,77 @@ use Rattle.paper.specs.declared.Parts.{Parts}
 use Rattle.paper.specs.declared.Row.{Row}
 use Rattle.paper.proofs.Laws.{and-true}
 
+-- what holds of a body's short and of its long kind holds of its kind
+by-kind : (P : ℕ → Type 0) (short long : ℕ) (k : Command) → P short → P long → P (kindBy short long k)
+by-kind P short long k p q = go (isRewire k)
+  where
+    go : (t : Bool) → P (cond t long short)
+    go true = q
+    go false = p
+
 pub kind-small : (b : Body) → kindOf b < 256
-kind-small (PreAccept k) = omega arith
+kind-small (PreAccept k) = by-kind (λ i. i < 256) 1 9 k (omega arith) (omega arith)
 kind-small PreAcceptOk = omega arith
-kind-small (Accept k) = omega arith
+kind-small (Accept k) = by-kind (λ i. i < 256) 3 10 k (omega arith) (omega arith)
 kind-small AcceptOk = omega arith
-kind-small (Commit k) = omega arith
+kind-small (Commit k) = by-kind (λ i. i < 256) 5 11 k (omega arith) (omega arith)
 kind-small Prepare = omega arith
-kind-small (PrepareOk v t k) = omega arith
+kind-small (PrepareOk v t k) = by-kind (λ i. i < 256) 7 12 k (omega arith) (omega arith)
 kind-small (Nack x) = omega arith
 
 pub kind-known : (b : Body) → rowIn b .known ≡ true
 unfolding rowOf
-kind-known (PreAccept k) = refl
+kind-known (PreAccept k) = by-kind (λ i. rowOf i .known ≡ true) 1 9 k refl refl
 kind-known PreAcceptOk = refl
-kind-known (Accept k) = refl
+kind-known (Accept k) = by-kind (λ i. rowOf i .known ≡ true) 3 10 k refl refl
 kind-known AcceptOk = refl
-kind-known (Commit k) = refl
+kind-known (Commit k) = by-kind (λ i. rowOf i .known ≡ true) 5 11 k refl refl
 kind-known Prepare = refl
-kind-known (PrepareOk v t k) = refl
+kind-known (PrepareOk v t k) = by-kind (λ i. rowOf i .known ≡ true) 7 12 k refl refl
 kind-known (Nack x) = refl
 
 pub body-is : (b : Body) → bodyOf (kindOf b) (carriedIn b) ≡ b
 unfolding bodyOf
-body-is (PreAccept k) = refl
+body-is (PreAccept k) = by-kind (λ i. bodyOf i (commandCarried k) ≡ PreAccept k) 1 9 k refl refl
 body-is PreAcceptOk = refl
-body-is (Accept k) = refl
+body-is (Accept k) = by-kind (λ i. bodyOf i (commandCarried k) ≡ Accept k) 3 10 k refl refl
 body-is AcceptOk = refl
-body-is (Commit k) = refl
+body-is (Commit k) = by-kind (λ i. bodyOf i (commandCarried k) ≡ Commit k) 5 11 k refl refl
 body-is Prepare = refl
-body-is (PrepareOk v t k) = refl
+body-is (PrepareOk v t k) = by-kind (λ i. bodyOf i (carriedIn (PrepareOk v t k)) ≡ PrepareOk v t k) 7 12 k refl refl
 body-is (Nack x) = refl
 
+no-commit : {A : Type 0} → false ≡ true → A
+no-commit h = absurd (let z : _≡_ {A = ℕ} 0 1 = cc in omega arith)
+
 pub commit-is : (b : Body) → isCommit b ≡ true → b ≡ Commit (commandIn b)
-unfolding bodyOf
-commit-is b h = sym (body-is b) ∙ ap (λ (k : ℕ). bodyOf k (carriedIn b)) (eqb-true (kindOf b) 5 h)
+commit-is (PreAccept k) h = no-commit h
+commit-is PreAcceptOk h = no-commit h
+commit-is (Accept k) h = no-commit h
+commit-is AcceptOk h = no-commit h
+commit-is (Commit k) h = refl
+commit-is Prepare h = no-commit h
+commit-is (PrepareOk v t k) h = no-commit h
+commit-is (Nack x) h = no-commit h
+
+long-where : (short long : ℕ) (k : Command) → partsOf short .second ≡ false → partsOf long .second ≡ true → partsOf (kindBy short long k) .second ≡ isRewire k
+long-where short long k p q = go (isRewire k)
+  where
+    go : (t : Bool) → partsOf (cond t long short) .second ≡ t
+    go true = q
+    go false = p
+
+-- a body has a second key in its bytes exactly where its command is a rewire
+pub second-is : (b : Body) → partsIn b .second ≡ isRewire (commandIn b)
+unfolding rowOf
+second-is (PreAccept k) = long-where 1 9 k refl refl
+second-is PreAcceptOk = refl
+second-is (Accept k) = long-where 3 10 k refl refl
+second-is AcceptOk = refl
+second-is (Commit k) = long-where 5 11 k refl refl
+second-is Prepare = refl
+second-is (PrepareOk v t k) = long-where 7 12 k refl refl
+second-is (Nack x) = refl
 
 -- what is tested of every row of the table, and of none, holds of each kind's row
 unfoldable pub allOf : (Row → Bool) → List Row → Bool
@@ -71,37 +107,53 @@ every-row f h k = go (unknown ∷ rows) k h (and-true (f unknown) _ h .0)
     go (r ∷ rs) (suc k) h u = go rs k (and-true (f r) (allOf f rs) h .1) u
 
 -- what holds of each kind that has a row
-known-each : (P : ℕ → Type 0) → P 1 → P 2 → P 3 → P 4 → P 5 → P 6 → P 7 → P 8 → (k : ℕ) → rowOf k .known ≡ true → P k
+known-each : (P : ℕ → Type 0) → P 1 → P 2 → P 3 → P 4 → P 5 → P 6 → P 7 → P 8 → P 9 → P 10 → P 11 → P 12 → (k : ℕ) → rowOf k .known ≡ true → P k
 unfolding rowOf
-known-each P a b c d e f g h zero t = absurd (let z : _≡_ {A = ℕ} 0 1 = cc in omega arith)
-known-each P a b c d e f g h (suc zero) t = a
-known-each P a b c d e f g h (suc (suc zero)) t = b
-known-each P a b c d e f g h (suc (suc (suc zero))) t = c
-known-each P a b c d e f g h (suc (suc (suc (suc zero)))) t = d
-known-each P a b c d e f g h (suc (suc (suc (suc (suc zero))))) t = e
-known-each P a b c d e f g h (suc (suc (suc (suc (suc (suc zero)))))) t = f
-known-each P a b c d e f g h (suc (suc (suc (suc (suc (suc (suc zero))))))) t = g
-known-each P a b c d e f g h (suc (suc (suc (suc (suc (suc (suc (suc zero)))))))) t = h
-known-each P a b c d e f g h (suc (suc (suc (suc (suc (suc (suc (suc (suc k))))))))) t = absurd (let z : _≡_ {A = ℕ} 0 1 = cc in omega arith)
+known-each P a b c d e f g h u v w x zero t = absurd (let z : _≡_ {A = ℕ} 0 1 = cc in omega arith)
+known-each P a b c d e f g h u v w x (suc zero) t = a
+known-each P a b c d e f g h u v w x (suc (suc zero)) t = b
+known-each P a b c d e f g h u v w x (suc (suc (suc zero))) t = c
+known-each P a b c d e f g h u v w x (suc (suc (suc (suc zero)))) t = d
+known-each P a b c d e f g h u v w x (suc (suc (suc (suc (suc zero))))) t = e
+known-each P a b c d e f g h u v w x (suc (suc (suc (suc (suc (suc zero)))))) t = f
+known-each P a b c d e f g h u v w x (suc (suc (suc (suc (suc (suc (suc zero))))))) t = g
+known-each P a b c d e f g h u v w x (suc (suc (suc (suc (suc (suc (suc (suc zero)))))))) t = h
+known-each P a b c d e f g h u v w x (suc (suc (suc (suc (suc (suc (suc (suc (suc zero))))))))) t = u
+known-each P a b c d e f g h u v w x (suc (suc (suc (suc (suc (suc (suc (suc (suc (suc zero)))))))))) t = v
+known-each P a b c d e f g h u v w x (suc (suc (suc (suc (suc (suc (suc (suc (suc (suc (suc zero))))))))))) t = w
+known-each P a b c d e f g h u v w x (suc (suc (suc (suc (suc (suc (suc (suc (suc (suc (suc (suc zero)))))))))))) t = x
+known-each P a b c d e f g h u v w x (suc (suc (suc (suc (suc (suc (suc (suc (suc (suc (suc (suc (suc k))))))))))))) t = absurd (let z : _≡_ {A = ℕ} 0 1 = cc in omega arith)
 
-pub kind-is : (k : ℕ) (x : Carried) → rowOf k .known ≡ true → kindOf (bodyOf k x) ≡ k
-unfolding bodyOf
-kind-is k x t = known-each (λ i. kindOf (bodyOf i x) ≡ i) refl refl refl refl refl refl refl refl k t
+-- the kind carries such a command: of a long one it is a rewire, of a short one it is not
+abbrev pub Carries : ℕ → Command → Type 0
+Carries k c = partsOf k .command ≡ true → isRewire c ≡ partsOf k .second
+
+pub kind-is : (k : ℕ) (x : Carried) → rowOf k .known ≡ true → Carries k (x .command) → kindOf (bodyOf k x) ≡ k
+unfolding bodyOf rowOf
+kind-is k x t =
+    known-each (λ i. Carries i (x .command) → kindOf (bodyOf i x) ≡ i) (short 1 9) (λ h. refl) (short 3 10) (λ h. refl) (short 5 11) (λ h. refl) (short 7 12) (λ h. refl)
+    (long 1 9) (long 3 10) (long 5 11) (long 7 12) k t
+  where
+    short : (i j : ℕ) → (true ≡ true → isRewire (x .command) ≡ false) → kindBy i j (x .command) ≡ i
+    short i j h = rw (h refl)
+
+    long : (i j : ℕ) → (true ≡ true → isRewire (x .command) ≡ true) → kindBy i j (x .command) ≡ j
+    long i j h = rw (h refl)
 
 pub carried-is : (k : ℕ) (x : Carried) → rowOf k .known ≡ true → carriedIn (bodyOf k x) ≡ kept (partsOf k) x
 unfolding bodyOf rowOf kept
-carried-is k x t = known-each (λ i. carriedIn (bodyOf i x) ≡ kept (partsOf i) x) refl refl refl refl refl refl refl refl k t
+carried-is k x t = known-each (λ i. carriedIn (bodyOf i x) ≡ kept (partsOf i) x) refl refl refl refl refl refl refl refl refl refl refl refl k t
 
 -- what a body carries, its row's parts hold
 pub carried-kept : (b : Body) → kept (partsIn b) (carriedIn b) ≡ carriedIn b
 unfolding rowOf kept
-carried-kept (PreAccept k) = refl
+carried-kept (PreAccept k) = by-kind (λ i. kept (partsOf i) (commandCarried k) ≡ commandCarried k) 1 9 k refl refl
 carried-kept PreAcceptOk = refl
-carried-kept (Accept k) = refl
+carried-kept (Accept k) = by-kind (λ i. kept (partsOf i) (commandCarried k) ≡ commandCarried k) 3 10 k refl refl
 carried-kept AcceptOk = refl
-carried-kept (Commit k) = refl
+carried-kept (Commit k) = by-kind (λ i. kept (partsOf i) (commandCarried k) ≡ commandCarried k) 5 11 k refl refl
 carried-kept Prepare = refl
-carried-kept (PrepareOk v t k) = refl
+carried-kept (PrepareOk v t k) = by-kind (λ i. kept (partsOf i) (carriedIn (PrepareOk v t k)) ≡ carriedIn (PrepareOk v t k)) 7 12 k refl refl
 carried-kept (Nack x) = refl
 
 -- what parts hold of something, they hold again
@@ -114,18 +166,22 @@ kept-kept p x = λ i. record { voted = twice (p .told) (x .voted) 0 i; status = 
     twice false a z = refl
 
 -- a place in neither the table nor before it
-pub unlisted : {A : Type 0} (a b c d e f g h z : A) (k : ℕ) → (k ≡ 1 → ⊥) → (k ≡ 2 → ⊥) → (k ≡ 3 → ⊥) → (k ≡ 4 → ⊥) → (k ≡ 5 → ⊥) → (k ≡ 6 → ⊥)
-    → (k ≡ 7 → ⊥) → (k ≡ 8 → ⊥) → getD (z ∷ a ∷ b ∷ c ∷ d ∷ e ∷ f ∷ g ∷ h ∷ []) k z ≡ z
-unlisted a b c d e f g h z zero n1 n2 n3 n4 n5 n6 n7 n8 = refl
-unlisted a b c d e f g h z (suc zero) n1 n2 n3 n4 n5 n6 n7 n8 = absurd (n1 refl)
-unlisted a b c d e f g h z (suc (suc zero)) n1 n2 n3 n4 n5 n6 n7 n8 = absurd (n2 refl)
-unlisted a b c d e f g h z (suc (suc (suc zero))) n1 n2 n3 n4 n5 n6 n7 n8 = absurd (n3 refl)
-unlisted a b c d e f g h z (suc (suc (suc (suc zero)))) n1 n2 n3 n4 n5 n6 n7 n8 = absurd (n4 refl)
-unlisted a b c d e f g h z (suc (suc (suc (suc (suc zero))))) n1 n2 n3 n4 n5 n6 n7 n8 = absurd (n5 refl)
-unlisted a b c d e f g h z (suc (suc (suc (suc (suc (suc zero)))))) n1 n2 n3 n4 n5 n6 n7 n8 = absurd (n6 refl)
-unlisted a b c d e f g h z (suc (suc (suc (suc (suc (suc (suc zero))))))) n1 n2 n3 n4 n5 n6 n7 n8 = absurd (n7 refl)
-unlisted a b c d e f g h z (suc (suc (suc (suc (suc (suc (suc (suc zero)))))))) n1 n2 n3 n4 n5 n6 n7 n8 = absurd (n8 refl)
-unlisted a b c d e f g h z (suc (suc (suc (suc (suc (suc (suc (suc (suc k))))))))) n1 n2 n3 n4 n5 n6 n7 n8 = refl
+pub unlisted : {A : Type 0} (a b c d e f g h u v w x z : A) (k : ℕ) → (k ≡ 1 → ⊥) → (k ≡ 2 → ⊥) → (k ≡ 3 → ⊥) → (k ≡ 4 → ⊥) → (k ≡ 5 → ⊥) → (k ≡ 6 → ⊥)
+    → (k ≡ 7 → ⊥) → (k ≡ 8 → ⊥) → (k ≡ 9 → ⊥) → (k ≡ 10 → ⊥) → (k ≡ 11 → ⊥) → (k ≡ 12 → ⊥) → getD (z ∷ a ∷ b ∷ c ∷ d ∷ e ∷ f ∷ g ∷ h ∷ u ∷ v ∷ w ∷ x ∷ []) k z ≡ z
+unlisted a b c d e f g h u v w x z zero n1 n2 n3 n4 n5 n6 n7 n8 n9 n10 n11 n12 = refl
+unlisted a b c d e f g h u v w x z (suc zero) n1 n2 n3 n4 n5 n6 n7 n8 n9 n10 n11 n12 = absurd (n1 refl)
+unlisted a b c d e f g h u v w x z (suc (suc zero)) n1 n2 n3 n4 n5 n6 n7 n8 n9 n10 n11 n12 = absurd (n2 refl)
+unlisted a b c d e f g h u v w x z (suc (suc (suc zero))) n1 n2 n3 n4 n5 n6 n7 n8 n9 n10 n11 n12 = absurd (n3 refl)
+unlisted a b c d e f g h u v w x z (suc (suc (suc (suc zero)))) n1 n2 n3 n4 n5 n6 n7 n8 n9 n10 n11 n12 = absurd (n4 refl)
+unlisted a b c d e f g h u v w x z (suc (suc (suc (suc (suc zero))))) n1 n2 n3 n4 n5 n6 n7 n8 n9 n10 n11 n12 = absurd (n5 refl)
+unlisted a b c d e f g h u v w x z (suc (suc (suc (suc (suc (suc zero)))))) n1 n2 n3 n4 n5 n6 n7 n8 n9 n10 n11 n12 = absurd (n6 refl)
+unlisted a b c d e f g h u v w x z (suc (suc (suc (suc (suc (suc (suc zero))))))) n1 n2 n3 n4 n5 n6 n7 n8 n9 n10 n11 n12 = absurd (n7 refl)
+unlisted a b c d e f g h u v w x z (suc (suc (suc (suc (suc (suc (suc (suc zero)))))))) n1 n2 n3 n4 n5 n6 n7 n8 n9 n10 n11 n12 = absurd (n8 refl)
+unlisted a b c d e f g h u v w x z (suc (suc (suc (suc (suc (suc (suc (suc (suc zero))))))))) n1 n2 n3 n4 n5 n6 n7 n8 n9 n10 n11 n12 = absurd (n9 refl)
+unlisted a b c d e f g h u v w x z (suc (suc (suc (suc (suc (suc (suc (suc (suc (suc zero)))))))))) n1 n2 n3 n4 n5 n6 n7 n8 n9 n10 n11 n12 = absurd (n10 refl)
+unlisted a b c d e f g h u v w x z (suc (suc (suc (suc (suc (suc (suc (suc (suc (suc (suc zero))))))))))) n1 n2 n3 n4 n5 n6 n7 n8 n9 n10 n11 n12 = absurd (n11 refl)
+unlisted a b c d e f g h u v w x z (suc (suc (suc (suc (suc (suc (suc (suc (suc (suc (suc (suc zero)))))))))))) n1 n2 n3 n4 n5 n6 n7 n8 n9 n10 n11 n12 = absurd (n12 refl)
+unlisted a b c d e f g h u v w x z (suc (suc (suc (suc (suc (suc (suc (suc (suc (suc (suc (suc (suc k))))))))))))) n1 n2 n3 n4 n5 n6 n7 n8 n9 n10 n11 n12 = refl
 
 -- what a body does not carry is zero
 module _ (b : Body) where
@@ -144,6 +200,9 @@ module _ (b : Body) where
   pub unjoined : partsIn b .joined ≡ false → joinedIn b ≡ 0
   unfolding kept
   unjoined e = sym (ap (λ (x : Carried). x .joined) (carried-kept b)) ∙ rw e
+
+  pub no-second : partsIn b .command ≡ false → partsIn b .second ≡ false
+  no-second e = second-is b ∙ rw (no-command e)
 
   -- what is asked of the op at ballot 0 is asked of a kind with a command
   pub stale : partsIn b .command ≡ false → isFresh (rowIn b .ballots) ≡ false

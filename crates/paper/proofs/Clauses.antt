@@ -8,14 +8,13 @@ use mathlib.Core.List.{List, [], _∷_}
 use lib.Count.{ones}
 use lib.ListN.{replicate, set}
 use Rattle.paper.specs.Logic.{allBelow}
-use Rattle.paper.specs.Command.{noop, sameCommand, commandOk}
+use Rattle.paper.specs.Command.{noop, onOne, onTwo, sameCommand, commandOk}
 use Rattle.paper.specs.Deps.{noDeps, depsOk, sameDeps}
 use Rattle.paper.specs.Ballot.{ballotOk, lead}
 use Rattle.paper.specs.Vote.{noVote, blank, sameVote, noneIsBlank, voteOk, toldOk, addedOk, member}
 use Rattle.paper.specs.Sound.{collectedOk, replyOk, repliesOk, rangesOk, votesOk, preparingOk, proposingOk, busyOk, phasesOk, soundRecord}
 use Rattle.paper.specs.Message.{rowOf}
-use Rattle.paper.specs.Valid.{Clause, FromRange, ToRange, OwnerRange, NumberRange, BallotRange, RecoveryBallot, ToHere, FromAnother, FromLead, ToLead, VotedRange, ToldBelow, StatusRange, ToldVoted, OpRange, FreshOp, ToldOp, KeyRange, EditRange, EntryRange, ToldEntry, JoinedRange, JoinedAbove, DepsCarried, Failing, none, first, holdsOf, entryClauses, firstOf, firstFailing, opIn, blameOf, verdictOn}
-use Rattle.paper.specs.declared.Op.{Op}
+use Rattle.paper.specs.Valid.{Clause, FromRange, ToRange, OwnerRange, NumberRange, BallotRange, RecoveryBallot, ToHere, FromAnother, FromLead, ToLead, VotedRange, ToldBelow, StatusRange, ToldVoted, OpRange, FreshOp, ToldOp, KeyRange, SecondRange, EditRange, EntryRange, ToldEntry, JoinedRange, JoinedAbove, DepsCarried, SecondCarried, Failing, none, first, holdsOf, entryClauses, firstOf, firstFailing, opIn, blameOf, verdictOn}
 use Rattle.paper.specs.declared.Field.the-variants as field
 use Rattle.paper.specs.declared.Blame.{Blame}
 use Rattle.paper.specs.declared.Blame.the-variants as blame
@@ -55,11 +54,15 @@ writtenOf : {A : Type 0} → List (Line A) → List A
 writtenOf [] = []
 writtenOf (l ∷ ls) = l .written ∷ writtenOf ls
 
-abbrev command : Op → ℕ → ℕ → Command
-command op k e = record { op = op; key = k; edit = e }
-
 abbrev write : Command
-write = command Write 7 100
+write = onOne Write 7 100
+
+abbrev rewire : Command
+rewire = onTwo 7 9 100
+
+-- a write with a second key
+abbrev both : Command
+both = record { op = Write; key = 7; second = 9; edit = 100 }
 
 -- dependencies with entry v at place i, and zero elsewhere
 abbrev entry : ℕ → ℕ → List ℕ
@@ -115,6 +118,11 @@ validLines =
     ∷ passes (takes (message 1 9 Prepare noDeps))
     ∷ passes (takes (tells 9 3 write (entry 3 4)))
     ∷ passes (takes (nackOf 11))
+    -- and of a rewire
+    ∷ passes (takes (message 1 0 (PreAccept rewire) (entry 3 4)))
+    ∷ passes (takes (message 1 9 (Accept rewire) (entry 3 4)))
+    ∷ passes (takes (message 0 0 (Commit rewire) (entry 3 4)))
+    ∷ passes (takes (tells 9 3 rewire (entry 3 4)))
     -- fromRange: from below N
     ∷ passes (takes (commitFrom 4))
     ∷ breaks FromRange (takes (commitFrom 5))
@@ -157,17 +165,37 @@ validLines =
     ∷ passes (takes (message 3 11 (PreAccept write) noDeps))
     ∷ breaks FromLead (takes (message 3 9 (Accept write) noDeps))
     ∷ breaks FromLead (takes (message 3 9 Prepare noDeps))
+    ∷ breaks FromLead (takes (message 3 9 (PreAccept rewire) noDeps))
+    ∷ breaks FromLead (takes (message 3 9 (Accept rewire) noDeps))
+    ∷ passes (takes (message 3 9 (Commit rewire) noDeps))
     -- toLead: kinds 2, 4, 7, 8, at ballot 0 to the owner
     ∷ breaks ToLead (takes (message 0 9 PreAcceptOk noDeps))
     ∷ breaks ToLead (takes (message 0 0 PreAcceptOk noDeps))
     ∷ breaks ToLead (takes (message 0 9 AcceptOk noDeps))
     ∷ breaks ToLead (takes (message 0 17 (PrepareOk 9 3 write) noDeps))
     ∷ breaks ToLead (takes (message 0 9 (Nack 11) noDeps))
+    ∷ breaks ToLead (takes (message 0 17 (PrepareOk 9 3 rewire) noDeps))
+    ∷ breaks RecoveryBallot (takes (about 2 3 (message 0 0 (PrepareOk 0 1 rewire) noDeps)))
     -- keyRange, editRange: a no-op has zero key and edit
     ∷ passes (takes (commitOf noop))
-    ∷ breaks KeyRange (takes (commitOf (command Noop 1 0)))
-    ∷ breaks EditRange (takes (commitOf (command Noop 0 1)))
-    ∷ passes (takes (commitOf (command Read 1 1)))
+    ∷ breaks KeyRange (takes (commitOf (onOne Noop 1 0)))
+    ∷ breaks EditRange (takes (commitOf (onOne Noop 0 1)))
+    ∷ passes (takes (commitOf (onOne Read 1 1)))
+    -- secondRange: the smaller key first
+    ∷ passes (takes (commitOf (onTwo 7 8 1)))
+    ∷ breaks SecondRange (takes (commitOf (onTwo 7 7 1)))
+    ∷ breaks SecondRange (takes (commitOf (onTwo 7 6 1)))
+    ∷ passes (takes (commitOf (onTwo 0 1 0)))
+    ∷ breaks SecondRange (takes (tells 9 3 (onTwo 0 0 0) noDeps))
+    -- secondCarried: a second key with another op
+    ∷ breaks SecondCarried (takes (commitOf both))
+    ∷ breaks SecondCarried (takes (commitOf (record { op = Noop; key = 0; second = 1; edit = 0 })))
+    -- opRange: 3 with a second key alone, the others without
+    ∷ breaks OpRange (firstFailing 5 4 2 3 (commitOf write))
+    ∷ breaks OpRange (firstFailing 5 4 2 4 (commitOf write))
+    ∷ breaks OpRange (firstFailing 5 4 2 2 (commitOf rewire))
+    ∷ breaks OpRange (firstFailing 5 4 2 4 (commitOf rewire))
+    ∷ passes (firstFailing 5 4 2 3 (commitOf rewire))
     -- entryRange: entries 0..S, zero from copy N on
     ∷ passes (takes (commitWith (entry 0 4)))
     ∷ breaks (EntryRange 0) (takes (commitWith (entry 0 5)))
@@ -187,7 +215,7 @@ validLines =
     -- freshOp: no no-op in a PreAccept at ballot 0
     ∷ breaks FreshOp (takes (message 1 0 (PreAccept noop) noDeps))
     ∷ passes (takes (message 1 9 (PreAccept noop) noDeps))
-    ∷ passes (takes (message 1 0 (PreAccept (command Read 7 0)) noDeps))
+    ∷ passes (takes (message 1 0 (PreAccept (onOne Read 7 0)) noDeps))
     ∷ passes (takes (message 1 0 (Accept noop) noDeps))
     -- votedRange: a ballot
     ∷ breaks VotedRange (takes (tells 7 1 write noDeps))
@@ -204,6 +232,7 @@ validLines =
     ∷ passes (takes (tells 0 0 noop noDeps))
     ∷ breaks ToldVoted (takes (tells 9 0 noop noDeps))
     ∷ breaks ToldOp (takes (tells 0 0 write noDeps))
+    ∷ breaks ToldOp (takes (tells 0 0 rewire noDeps))
     ∷ breaks (ToldEntry 3) (takes (tells 0 0 noop (entry 3 4)))
     ∷ passes (takes (tells 9 1 noop (entry 3 4)))
     -- joinedAbove: the Nack's joined > ballot
@@ -215,13 +244,16 @@ validLines =
     ∷ breaks BallotRange (given 5 4 3 (about 1 3 (commitAt 1)))
     ∷ breaks ToHere (given 5 4 3 (message 3 0 (PreAccept noop) (entry 5 1)))
     ∷ breaks FromLead (takes (message 3 0 (PreAccept noop) (entry 5 1)))
-    ∷ breaks FreshOp (takes (message 1 0 (PreAccept (command Noop 1 1)) (entry 5 1)))
-    ∷ breaks VotedRange (takes (tells 21 4 (command Noop 1 1) (entry 5 1)))
-    ∷ breaks StatusRange (takes (tells 9 4 (command Noop 1 1) (entry 5 1)))
-    ∷ breaks KeyRange (takes (tells 9 3 (command Noop 1 1) (entry 5 1)))
+    ∷ breaks FreshOp (takes (message 1 0 (PreAccept (onOne Noop 1 1)) (entry 5 1)))
+    ∷ breaks VotedRange (takes (tells 21 4 (onOne Noop 1 1) (entry 5 1)))
+    ∷ breaks StatusRange (takes (tells 9 4 (onOne Noop 1 1) (entry 5 1)))
+    ∷ breaks KeyRange (takes (tells 9 3 (onOne Noop 1 1) (entry 5 1)))
     ∷ breaks (ToldEntry 0) (takes (tells 0 0 noop (1 ∷ 5 ∷ 0 ∷ 0 ∷ 0 ∷ 0 ∷ 0 ∷ [])))
-    ∷ breaks OpRange (firstFailing 5 4 2 3 (message 1 0 (PreAccept (command Noop 1 1)) (entry 5 1)))
+    ∷ breaks OpRange (firstFailing 5 4 2 3 (message 1 0 (PreAccept (onOne Noop 1 1)) (entry 5 1)))
     ∷ breaks DepsCarried (takes (message 5 10 (Nack 1) (entry 3 4)))
+    ∷ breaks SecondCarried (takes (message 5 13 (Commit both) (entry 5 1)))
+    ∷ breaks SecondRange (takes (tells 9 3 (onTwo 7 7 1) (entry 5 1)))
+    ∷ breaks OpRange (firstFailing 5 4 2 2 (commitOf (onTwo 7 7 1)))
     ∷ breaks JoinedRange (takes (nackOf 1))
     ∷ []
 
@@ -241,6 +273,7 @@ blameLines : List (Line Verdict)
 blameLines =
     -- beside a kind without dependencies
     blames blame.Length (found 2 (message 0 10 AcceptOk (entry 3 4)))
+    ∷ blames blame.Length (found 2 (commitOf both))
     -- the head's fields
     ∷ blames (blame.Of field.From) (found 2 (commitFrom 5))
     ∷ blames (blame.Of field.To) (found 5 (toward 5 (commitFrom 0)))
@@ -261,8 +294,11 @@ blameLines =
     ∷ blames (blame.Of field.Op) (verdictOn 5 4 2 3 (commitOf write))
     ∷ blames (blame.Of field.Op) (found 2 (message 1 0 (PreAccept noop) noDeps))
     ∷ blames (blame.Of field.Op) (found 2 (tells 0 0 write noDeps))
-    ∷ blames (blame.Of field.Key) (found 2 (commitOf (command Noop 1 0)))
-    ∷ blames (blame.Of field.Edit) (found 2 (commitOf (command Noop 0 1)))
+    ∷ blames (blame.Of field.Key) (found 2 (commitOf (onOne Noop 1 0)))
+    ∷ blames (blame.Of field.Second) (found 2 (commitOf (onTwo 7 7 1)))
+    ∷ blames (blame.Of field.Op) (verdictOn 5 4 2 2 (commitOf rewire))
+    ∷ blames (blame.Of field.Op) (found 2 (tells 0 0 rewire noDeps))
+    ∷ blames (blame.Of field.Edit) (found 2 (commitOf (onOne Noop 0 1)))
     ∷ blames (blame.Of (field.Entry 3)) (found 2 (commitWith (entry 3 5)))
     ∷ blames (blame.Of (field.Entry 6)) (found 2 (commitWith (entry 6 1)))
     ∷ blames (blame.Of (field.Entry 3)) (found 2 (tells 0 0 noop (entry 3 4)))
@@ -344,8 +380,11 @@ soundLines =
     -- ownVoteOk: statusOk, 0..4
     ∷ fails (sound (idle 9 (vote 9 5)))
     -- ownVoteOk: commandOk
-    ∷ fails (sound (idle 9 (voteOf (command Noop 1 0) (vote 9 1))))
+    ∷ fails (sound (idle 9 (voteOf (onOne Noop 1 0) (vote 9 1))))
     ∷ holds (sound (idle 9 (voteOf noop (vote 9 1))))
+    ∷ holds (sound (idle 9 (voteOf rewire (vote 9 1))))
+    ∷ fails (sound (idle 9 (voteOf (onTwo 7 7 100) (vote 9 1))))
+    ∷ fails (sound (idle 9 (voteOf both (vote 9 1))))
     -- ownVoteOk: depsOk
     ∷ fails (sound (idle 9 (voteWith (entry 4 5) (vote 9 1))))
     ∷ fails (sound (idle 9 (voteWith (entry 5 1) (vote 9 1))))
@@ -417,15 +456,19 @@ soundLines =
     ∷ fails (toldTo (vote 10 3))
     ∷ fails (toldTo (vote 7 3))
     ∷ fails (toldTo (vote 9 0))
-    ∷ fails (toldTo (voteOf (command Noop 1 0) (vote 9 1)))
+    ∷ fails (toldTo (voteOf (onOne Noop 1 0) (vote 9 1)))
+    ∷ holds (toldTo (voteOf rewire (vote 9 1)))
+    ∷ fails (toldTo (voteOf (onTwo 9 7 100) (vote 9 1)))
+    ∷ fails (toldTo (voteOf both (vote 9 1)))
     ∷ holds (toldTo (voteWith (entry 4 4) (vote 9 1)))
     ∷ fails (toldTo (voteWith (entry 4 5) (vote 9 1)))
     -- collectedOk: what the lead collected of itself is its vote
     ∷ fails (sound (kept 2 (vote 8 1) (preparing 10 4 (vote 9 1))))
     ∷ fails (sound (kept 2 (vote 9 2) (preparing 10 4 (vote 9 1))))
-    ∷ fails (sound (kept 2 (voteOf (command Read 7 100) (vote 9 1)) (preparing 10 4 (vote 9 1))))
-    ∷ fails (sound (kept 2 (voteOf (command Write 8 100) (vote 9 1)) (preparing 10 4 (vote 9 1))))
-    ∷ fails (sound (kept 2 (voteOf (command Write 7 101) (vote 9 1)) (preparing 10 4 (vote 9 1))))
+    ∷ fails (sound (kept 2 (voteOf (onOne Read 7 100) (vote 9 1)) (preparing 10 4 (vote 9 1))))
+    ∷ fails (sound (kept 2 (voteOf (onOne Write 8 100) (vote 9 1)) (preparing 10 4 (vote 9 1))))
+    ∷ fails (sound (kept 2 (voteOf (onTwo 7 8 100) (vote 9 1)) (preparing 10 4 (voteOf rewire (vote 9 1)))))
+    ∷ fails (sound (kept 2 (voteOf (onOne Write 7 101) (vote 9 1)) (preparing 10 4 (vote 9 1))))
     ∷ fails (sound (kept 2 (voteWith (entry 3 3) (vote 9 1)) (preparing 10 4 (vote 9 1))))
     -- collectedOk: in phase 2 dependencies, and nothing beside them
     ∷ holds (addedTo (voteWith (entry 3 4) noVote))

@@ -12,8 +12,8 @@ use borrow.Author.Tests.{leb-true, ltb-true, le-leb, eqb-true}
 use Rattle.paper.specs.Logic.{implies}
 use Rattle.paper.specs.Ballot.{ballotOk}
 use Rattle.paper.specs.Deps.{noDeps, entryLimit, sameDeps}
-use Rattle.paper.specs.Message.{rowIn, partsIn, voteIn}
-use Rattle.paper.specs.Valid.{depsCarried, Clause, DepsCarried, FromRange, ToRange, OwnerRange, NumberRange, BallotRange, RecoveryBallot, ToHere, FromAnother, FromLead, ToLead, VotedRange, ToldBelow, StatusRange, ToldVoted, OpRange, FreshOp, ToldOp, KeyRange, EditRange, EntryRange, ToldEntry, JoinedRange, JoinedAbove, Failing, none, first, holdsOf, holds, entryClauses, clauses, firstOf, firstFailing, blameOf, verdictOf, verdictOn, hasField}
+use Rattle.paper.specs.Message.{rowIn, partsIn, voteIn, commandIn}
+use Rattle.paper.specs.Valid.{depsCarried, secondCarried, Clause, DepsCarried, SecondCarried, FromRange, ToRange, OwnerRange, NumberRange, BallotRange, RecoveryBallot, ToHere, FromAnother, FromLead, ToLead, VotedRange, ToldBelow, StatusRange, ToldVoted, OpRange, FreshOp, ToldOp, KeyRange, SecondRange, EditRange, EntryRange, ToldEntry, JoinedRange, JoinedAbove, Failing, none, first, holdsOf, holds, entryClauses, clauses, firstOf, firstFailing, blameOf, verdictOf, verdictOn, hasField}
 use Rattle.paper.specs.declared.Field.{Field}
 use Rattle.paper.specs.declared.Field.the-variants as field
 use Rattle.paper.specs.declared.Blame.{Blame}
@@ -21,7 +21,7 @@ use Rattle.paper.specs.declared.Blame.the-variants as blame
 use Rattle.paper.specs.declared.Verdict.the-variants as verdict
 use Rattle.paper.specs.declared.Message.{Message}
 use Rattle.paper.proofs.Laws.{and-true, allBelow-at}
-use Rattle.paper.proofs.Bodies.{untold-voted, untold-status, no-command, unjoined, stale}
+use Rattle.paper.proofs.Bodies.{untold-voted, untold-status, no-command, no-second, second-is, unjoined, stale}
 
 -- x stands in a list
 pub In : Clause → List Clause → Type 0
@@ -105,9 +105,10 @@ fieldTurn field.Voted = 9
 fieldTurn field.Status = 10
 fieldTurn field.Op = 11
 fieldTurn field.Key = 12
-fieldTurn field.Edit = 13
-fieldTurn (field.Entry i) = 14 + i
-fieldTurn field.Joined = 21
+fieldTurn field.Second = 13
+fieldTurn field.Edit = 14
+fieldTurn (field.Entry i) = 15 + i
+fieldTurn field.Joined = 22
 
 abbrev pub turn : Blame → ℕ
 turn blame.Kind = 0
@@ -137,7 +138,7 @@ named n s c o m x e = go (firstFailing n s c o m) refl e
     go none p h = absurd (let z : _≡_ {A = ℕ} 0 1 = cc in omega arith)
     go (first y) p h = record { clause = y; blames = same h; failing = p; is = first-of each (λ y. turn (blameOf y)) (holds n s c o m) 0 clauses y refl p }
 
--- where a field is blamed, no dependencies stand beside a kind that has none
+-- where a field is blamed, no dependencies and no second key stand beside a kind that has none
 later : (f : Field) → 1 < fieldTurn f
 later field.From = omega arith
 later field.To = omega arith
@@ -148,6 +149,7 @@ later field.Voted = omega arith
 later field.Status = omega arith
 later field.Op = omega arith
 later field.Key = omega arith
+later field.Second = omega arith
 later field.Edit = omega arith
 later (field.Entry i) = omega arith
 later field.Joined = omega arith
@@ -156,9 +158,14 @@ pub named-carried : (n s c o : ℕ) (m : Message) (f : Field) → Named n s c o 
 unfolding In holdsOf blameOf
 named-carried n s c o m f k = k .is .before refl DepsCarried (inl refl) refl (rw (k .blames) (later f))
 
+pub named-short : (n s c o : ℕ) (m : Message) (f : Field) → Named n s c o m (blame.Of f) → secondCarried (rowIn (m .body)) (voteIn m) ≡ true
+unfolding In holdsOf blameOf
+named-short n s c o m f k = k .is .before refl SecondCarried (inr (inl refl)) refl (rw (k .blames) (later f))
+
 -- an entry's clause is about one of seven
 small : Clause → Bool
 small DepsCarried = true
+small SecondCarried = true
 small FromRange = true
 small ToRange = true
 small OwnerRange = true
@@ -177,13 +184,15 @@ small OpRange = true
 small FreshOp = true
 small ToldOp = true
 small KeyRange = true
+small SecondRange = true
 small EditRange = true
 small (EntryRange i) = ltb i 7
 small (ToldEntry i) = ltb i 7
 small JoinedRange = true
 small JoinedAbove = true
 
-module _ (n s c o : ℕ) (m : Message) (carried : depsCarried (rowIn (m .body)) m ≡ true) (op : partsIn (m .body) .command ≡ false → o ≡ 0) where
+module _ (n s c o : ℕ) (m : Message) (carried : depsCarried (rowIn (m .body)) m ≡ true) (short : secondCarried (rowIn (m .body)) (voteIn m) ≡ true)
+    (op : partsIn (m .body) .command ≡ false → o ≡ 0) where
   gone : {g f : Field} → blame.Of g ≡ blame.Of f → hasField (partsIn (m .body)) f ≡ false → hasField (partsIn (m .body)) g ≡ false
   gone {g} {f} e h = let q : g ≡ f = cc in rw q h
 
@@ -211,6 +220,7 @@ module _ (n s c o : ℕ) (m : Message) (carried : depsCarried (rowIn (m .body)) 
   absent : (x : Clause) → small x ≡ true → (f : Field) → blameOf x ≡ blame.Of f → hasField (partsIn (m .body)) f ≡ false → holds n s c o m x ≡ true
   unfolding holdsOf blameOf ballotOk small
   absent DepsCarried l f e h = absurd (let z : _≡_ {A = ℕ} 0 1 = cc in omega arith)
+  absent SecondCarried l f e h = absurd (let z : _≡_ {A = ℕ} 0 1 = cc in omega arith)
   absent FromRange l f e h = clash (gone e h)
   absent ToRange l f e h = clash (gone e h)
   absent OwnerRange l f e h = clash (gone e h)
@@ -225,10 +235,13 @@ module _ (n s c o : ℕ) (m : Message) (carried : depsCarried (rowIn (m .body)) 
   absent ToldBelow l f e h = rw (gone e h)
   absent StatusRange l f e h = rw (untold-status (m .body) (gone e h))
   absent ToldVoted l f e h = rw (gone e h)
-  absent OpRange l f e h = rw (op (gone e h))
+  absent OpRange l f e h = rw (no-second (m .body) (gone e h), op (gone e h))
   absent FreshOp l f e h = rw (stale (m .body) (gone e h))
   absent ToldOp l f e h = rw (no-command (m .body) (gone e h)) (both-true (partsIn (m .body) .told) (eqb (voteIn m .status) 0))
   absent KeyRange l f e h = rw (no-command (m .body) (gone e h))
+  absent SecondRange l f e h =
+      let none : partsIn (m .body) .second ≡ false = gone e h in
+      rw (sym (second-is (m .body)) ∙ none) (rw none at short)
   absent EditRange l f e h = rw (no-command (m .body) (gone e h))
   absent (EntryRange i) l f e h =
       let d : partsIn (m .body) .deps ≡ false = no-entry _ _ l (gone e h) in

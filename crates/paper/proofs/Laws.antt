@@ -14,7 +14,7 @@ use Rattle.paper.specs.Logic.{allBelow}
 use Rattle.paper.specs.Deps.{sameDeps}
 use Rattle.paper.specs.Command.{opNumber, sameCommand}
 use Rattle.paper.specs.declared.Op.{Op}
-use Rattle.paper.specs.declared.Op.the-variants.{Noop, Read, Write}
+use Rattle.paper.specs.declared.Op.the-variants.{Noop, Read, Write, Rewire}
 use Rattle.paper.specs.declared.Command.{Command}
 
 pub and-true : (a b : Bool) → (a && b) ≡ true → (a ≡ true) × (b ≡ true)
@@ -39,13 +39,15 @@ sameDeps-eq d e p q h =
 opFrom : ℕ → Op
 opFrom zero = Noop
 opFrom (suc zero) = Read
-opFrom (suc (suc k)) = Write
+opFrom (suc (suc zero)) = Write
+opFrom (suc (suc (suc k))) = Rewire
 
 op-back : (o : Op) → opFrom (opNumber o) ≡ o
 unfolding opFrom
 op-back Noop = refl
 op-back Read = refl
 op-back Write = refl
+op-back Rewire = refl
 
 pub opNumber-apart : (a b : Op) → opNumber a ≡ opNumber b → a ≡ b
 opNumber-apart a b e = sym (op-back a) ∙ ap opFrom e ∙ op-back b
@@ -54,9 +56,11 @@ opNumber-apart a b e = sym (op-back a) ∙ ap opFrom e ∙ op-back b
 pub sameCommand-eq : (a b : Command) → sameCommand a b ≡ true → a ≡ b
 unfolding sameCommand
 sameCommand-eq a b h =
-    let p = and-true (eqb (opNumber (a .op)) (opNumber (b .op)) && eqb (a .key) (b .key)) _ h in
-    let q = and-true (eqb (opNumber (a .op)) (opNumber (b .op))) _ (p .0) in
-    let o = opNumber-apart (a .op) (b .op) (eqb-true _ _ (q .0)) in
-    let k = eqb-true (a .key) (b .key) (q .1) in
+    let p = and-true (eqb (opNumber (a .op)) (opNumber (b .op)) && eqb (a .key) (b .key) && eqb (a .second) (b .second)) _ h in
+    let q = and-true (eqb (opNumber (a .op)) (opNumber (b .op)) && eqb (a .key) (b .key)) _ (p .0) in
+    let r = and-true (eqb (opNumber (a .op)) (opNumber (b .op))) _ (q .0) in
+    let o = opNumber-apart (a .op) (b .op) (eqb-true _ _ (r .0)) in
+    let k = eqb-true (a .key) (b .key) (r .1) in
+    let l = eqb-true (a .second) (b .second) (q .1) in
     let e = eqb-true (a .edit) (b .edit) (p .1) in
-    λ i. record { op = o i; key = k i; edit = e i }
+    λ i. record { op = o i; key = k i; second = l i; edit = e i }

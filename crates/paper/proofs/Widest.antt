@@ -5,7 +5,7 @@ use mathlib.Core.List.{List}
 use native.Mathlib.Omega.{arith}
 use native.Mathlib.Decide.{decLt}
 use lib.ListN.{getD, replicate, getD-replicate, List·getD-eq-default}
-use Rattle.paper.specs.declared.Op.the-variants.{Write}
+use Rattle.paper.specs.declared.Op.the-variants.{Rewire}
 use Rattle.paper.specs.declared.Command.{Command}
 use Rattle.paper.specs.declared.Vote.{Vote}
 use Rattle.paper.specs.declared.Record.{Record}
@@ -14,7 +14,7 @@ use Rattle.paper.specs.declared.Message.{Message}
 use Rattle.paper.specs.Fits.{CommandFits, DepsFit, VoteFits, RecordFits, MessageFits}
 
 abbrev command : Command
-command = record { op = Write; key = 4294967295; edit = 18446744073709551615 }
+command = record { op = Rewire; key = 4294967295; second = 4294967295; edit = 18446744073709551615 }
 
 abbrev deps : List ℕ
 deps = replicate 7 65535
@@ -29,7 +29,7 @@ abbrev sent : Message
 sent = record { from = 255; to = 255; owner = 255; number = 65535; ballot = 4294967295; body = PrepareOk 4294967295 255 command; deps = deps }
 
 command-fits : CommandFits command
-command-fits = record { key = omega arith; edit = omega arith }
+command-fits = record { key = omega arith; second = omega arith; edit = omega arith }
 
 deps-fit : DepsFit deps
 deps-fit = record { seven = refl; each = λ i. go i (decLt i 7) }

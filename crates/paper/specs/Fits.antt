@@ -12,6 +12,7 @@ use Rattle.paper.specs.declared.Message.{Message}
 
 pub record CommandFits (k : Command) : Type 0 where
   pub key : k .key < 256 ^ 4
+  pub second : k .second < 256 ^ 4
   pub edit : k .edit < 256 ^ 8
 
 pub record DepsFit (d : List ℕ) : Type 0 where

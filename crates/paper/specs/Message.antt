@@ -3,9 +3,8 @@
 use Prim.Native.Nat.{ℕ}
 use mathlib.Core.Bool.{Bool, true, false, cond}
 use mathlib.Core.List.{List, [], _∷_}
-use lib.Dec.{eqb}
 use lib.ListN.{getD}
-use Rattle.paper.specs.Command.{noop}
+use Rattle.paper.specs.Command.{noop, isRewire}
 use Rattle.paper.specs.Deps.{noDeps}
 use Rattle.paper.specs.declared.Command.{Command}
 use Rattle.paper.specs.declared.Body.{Body}
@@ -22,28 +21,38 @@ use Rattle.paper.specs.declared.Message.{Message}
 
 -- the rest of a kind: what stands after the head
 abbrev pub nothing : Parts
-nothing = record { told = false; command = false; deps = false; joined = false }
+nothing = record { told = false; command = false; second = false; deps = false; joined = false }
 
 abbrev pub dependencies : Parts
-dependencies = record { told = false; command = false; deps = true; joined = false }
+dependencies = record { told = false; command = false; second = false; deps = true; joined = false }
 
 abbrev pub proposal : Parts
-proposal = record { told = false; command = true; deps = true; joined = false }
+proposal = record { told = false; command = true; second = false; deps = true; joined = false }
 
 abbrev pub wholeVote : Parts
-wholeVote = record { told = true; command = true; deps = true; joined = false }
+wholeVote = record { told = true; command = true; second = false; deps = true; joined = false }
 
 abbrev pub higherBallot : Parts
-higherBallot = record { told = false; command = false; deps = false; joined = true }
+higherBallot = record { told = false; command = false; second = false; deps = false; joined = true }
 
 abbrev pub saidBy : Role → Ballots → Parts → Row
 saidBy r b p = record { known = true; role = r; ballots = b; parts = p }
+
+-- 5/12: the same with a second key
+abbrev pub longer : Row → Row
+longer r =
+    record {
+      known = r .known;
+      role = r .role;
+      ballots = r .ballots;
+      parts = record { told = r .parts .told; command = r .parts .command; second = true; deps = r .parts .deps; joined = r .parts .joined };
+    }
 
 -- a kind that is none
 abbrev pub unknown : Row
 unknown = record { known = false; role = Anyone; ballots = Any; parts = nothing }
 
--- the table of bodies, from kind 1 on
+-- the table of bodies, from kind 1 on; the last four say of a rewire what kinds 1, 3, 5 and 7 say of all else
 abbrev pub rows : List Row
 rows =
     saidBy Lead Fresh proposal
@@ -54,23 +63,38 @@ rows =
     ∷ saidBy Lead Recovery nothing
     ∷ saidBy Reply Recovery wholeVote
     ∷ saidBy Reply Any higherBallot
+    ∷ longer (saidBy Lead Fresh proposal)
+    ∷ longer (saidBy Lead Any proposal)
+    ∷ longer (saidBy Anyone Any proposal)
+    ∷ longer (saidBy Reply Recovery wholeVote)
     ∷ []
 
 unfoldable pub rowOf : ℕ → Row
 rowOf k = getD (unknown ∷ rows) k unknown
 
+-- of a body's short and long kind the one that carries this command
+abbrev pub kindBy : ℕ → ℕ → Command → ℕ
+kindBy short long c = cond (isRewire c) long short
+
 abbrev pub kindOf : Body → ℕ
-kindOf (PreAccept c) = 1
+kindOf (PreAccept c) = kindBy 1 9 c
 kindOf PreAcceptOk = 2
-kindOf (Accept c) = 3
+kindOf (Accept c) = kindBy 3 10 c
 kindOf AcceptOk = 4
-kindOf (Commit c) = 5
+kindOf (Commit c) = kindBy 5 11 c
 kindOf Prepare = 6
-kindOf (PrepareOk v t c) = 7
+kindOf (PrepareOk v t c) = kindBy 7 12 c
 kindOf (Nack j) = 8
 
 abbrev pub isCommit : Body → Bool
-isCommit b = eqb (kindOf b) 5
+isCommit (PreAccept c) = false
+isCommit PreAcceptOk = false
+isCommit (Accept c) = false
+isCommit AcceptOk = false
+isCommit (Commit c) = true
+isCommit Prepare = false
+isCommit (PrepareOk v t c) = false
+isCommit (Nack j) = false
 
 -- a body carries nothing; a command; a joined ballot
 abbrev pub noneCarried : Carried
@@ -103,6 +127,10 @@ bodies x =
     ∷ Prepare
     ∷ PrepareOk (x .voted) (x .status) (x .command)
     ∷ Nack (x .joined)
+    ∷ PreAccept (x .command)
+    ∷ Accept (x .command)
+    ∷ Commit (x .command)
+    ∷ PrepareOk (x .voted) (x .status) (x .command)
     ∷ []
 
 unfoldable pub bodyOf : ℕ → Carried → Body

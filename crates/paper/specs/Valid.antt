@@ -9,7 +9,7 @@ use lib.Dec.{leb, ltb, eqb}
 use Rattle.paper.specs.Logic.{implies}
 use Rattle.paper.specs.Instance.{ownerOk, numberOk}
 use Rattle.paper.specs.Setup.{copyOk}
-use Rattle.paper.specs.Command.{opNumber, isNoop, keyOk, editOk}
+use Rattle.paper.specs.Command.{opNumber, isNoop, keyOk, secondOk, editOk}
 use Rattle.paper.specs.Deps.{entryOk, sameDeps, noDeps}
 use Rattle.paper.specs.Ballot.{ballotOk, lead}
 use Rattle.paper.specs.Vote.{votedOk, statusOk, votedBelow, noneVoted, noneOp, noneEntry}
@@ -31,6 +31,10 @@ leadOf m = lead (m .owner) (m .ballot)
 -- a body without dependencies has zero ones beside it: others would make it longer. What is read from bytes always does
 abbrev pub depsCarried : Row → Message → Bool
 depsCarried w m = w .parts .deps || sameDeps (m .deps) noDeps
+
+-- 5/12: nor has a short kind a second key
+abbrev pub secondCarried : Row → Vote → Bool
+secondCarried w v = w .parts .second || eqb (v .command .second) 0
 
 -- all ranges above
 abbrev pub fromRange : ℕ → Message → Bool
@@ -80,9 +84,9 @@ toldOp w v = implies (w .parts .told) (noneOp v)
 abbrev pub toldEntry : Row → Vote → ℕ → Bool
 toldEntry w v i = implies (w .parts .told) (noneEntry v i)
 
--- 0, 1 or 2
-abbrev pub opRange : ℕ → Bool
-opRange o = leb o 2
+-- 0, 1 or 2; with a second key 3 alone
+abbrev pub opRange : Parts → ℕ → Bool
+opRange p o = cond (p .second) (eqb o 3) (leb o 2)
 
 -- kind 1 at ballot 0 has no no-op
 abbrev pub freshOp : Row → Message → Vote → Bool
@@ -97,16 +101,17 @@ abbrev pub joinedAbove : Row → Message → ℕ → Bool
 joinedAbove w m j = implies (w .parts .joined) (ltb (m .ballot) j)
 
 pub data Clause : Type 0 where
-  DepsCarried : Clause
+  DepsCarried SecondCarried : Clause
   FromRange ToRange OwnerRange NumberRange BallotRange RecoveryBallot : Clause
   ToHere FromAnother FromLead ToLead : Clause
   VotedRange ToldBelow StatusRange ToldVoted : Clause
-  OpRange FreshOp ToldOp KeyRange EditRange : Clause
+  OpRange FreshOp ToldOp KeyRange SecondRange EditRange : Clause
   EntryRange ToldEntry : ℕ → Clause
   JoinedRange JoinedAbove : Clause
 
 unfoldable pub holdsOf : ℕ → ℕ → ℕ → Row → Message → Vote → ℕ → ℕ → Clause → Bool
 holdsOf n s c w m v o j DepsCarried = depsCarried w m
+holdsOf n s c w m v o j SecondCarried = secondCarried w v
 holdsOf n s c w m v o j FromRange = fromRange n m
 holdsOf n s c w m v o j ToRange = toRange n m
 holdsOf n s c w m v o j OwnerRange = ownerRange n m
@@ -121,10 +126,11 @@ holdsOf n s c w m v o j VotedRange = votedOk n v
 holdsOf n s c w m v o j ToldBelow = toldBelow w m v
 holdsOf n s c w m v o j StatusRange = statusOk 3 v
 holdsOf n s c w m v o j ToldVoted = toldVoted w v
-holdsOf n s c w m v o j OpRange = opRange o
+holdsOf n s c w m v o j OpRange = opRange (w .parts) o
 holdsOf n s c w m v o j FreshOp = freshOp w m v
 holdsOf n s c w m v o j ToldOp = toldOp w v
 holdsOf n s c w m v o j KeyRange = keyOk (v .command)
+holdsOf n s c w m v o j SecondRange = secondOk (v .command)
 holdsOf n s c w m v o j EditRange = editOk (v .command)
 holdsOf n s c w m v o j (EntryRange i) = entryOk n s (v .deps) i
 holdsOf n s c w m v o j (ToldEntry i) = toldEntry w v i
@@ -135,7 +141,10 @@ holdsOf n s c w m v o j JoinedAbove = joinedAbove w m j
 abbrev pub holds : ℕ → ℕ → ℕ → ℕ → Message → Clause → Bool
 holds n s c o m x = holdsOf n s c (rowIn (m .body)) m (voteIn m) o (joinedIn (m .body)) x
 
--- in the order in which they are tried: the length, the head's ranges, the way, the body's fields as they stand in the bytes
+-- in the order in which they are tried: what makes it longer, the head's ranges, the way, the body's fields as they stand in the bytes
+abbrev pub carriedClauses : List Clause
+carriedClauses = DepsCarried ∷ SecondCarried ∷ []
+
 abbrev pub headClauses : List Clause
 headClauses = FromRange ∷ ToRange ∷ OwnerRange ∷ NumberRange ∷ BallotRange ∷ RecoveryBallot ∷ []
 
@@ -146,7 +155,7 @@ abbrev pub toldClauses : List Clause
 toldClauses = VotedRange ∷ ToldBelow ∷ StatusRange ∷ ToldVoted ∷ []
 
 abbrev pub commandClauses : List Clause
-commandClauses = OpRange ∷ FreshOp ∷ ToldOp ∷ KeyRange ∷ EditRange ∷ []
+commandClauses = OpRange ∷ FreshOp ∷ ToldOp ∷ KeyRange ∷ SecondRange ∷ EditRange ∷ []
 
 -- those of k entries, from i on
 unfoldable pub entryClauses : ℕ → ℕ → List Clause
@@ -160,7 +169,7 @@ abbrev pub joinedClauses : List Clause
 joinedClauses = JoinedRange ∷ JoinedAbove ∷ []
 
 abbrev pub clauses : List Clause
-clauses = (DepsCarried ∷ headClauses) ++ wayClauses ++ toldClauses ++ commandClauses ++ depsClauses ++ joinedClauses
+clauses = carriedClauses ++ headClauses ++ wayClauses ++ toldClauses ++ commandClauses ++ depsClauses ++ joinedClauses
 
 -- the first of these clauses that fails
 pub data Failing : Type 0 where
@@ -189,6 +198,7 @@ valid n s c m = isNone (firstFailing n s c (opIn m) m)
 -- whom a clause blames that fails: of two fields the one that stands later
 unfoldable pub blameOf : Clause → Blame
 blameOf DepsCarried = blame.Length
+blameOf SecondCarried = blame.Length
 blameOf FromRange = blame.Of field.From
 blameOf ToRange = blame.Of field.To
 blameOf OwnerRange = blame.Of field.Owner
@@ -207,6 +217,7 @@ blameOf OpRange = blame.Of field.Op
 blameOf FreshOp = blame.Of field.Op
 blameOf ToldOp = blame.Of field.Op
 blameOf KeyRange = blame.Of field.Key
+blameOf SecondRange = blame.Of field.Second
 blameOf EditRange = blame.Of field.Edit
 blameOf (EntryRange i) = blame.Of (field.Entry i)
 blameOf (ToldEntry i) = blame.Of (field.Entry i)
@@ -232,6 +243,7 @@ hasField p field.Voted = p .told
 hasField p field.Status = p .told
 hasField p field.Op = p .command
 hasField p field.Key = p .command
+hasField p field.Second = p .second
 hasField p field.Edit = p .command
 hasField p (field.Entry i) = p .deps && ltb i 7
 hasField p field.Joined = p .joined

@@ -5,11 +5,14 @@ pub enum Op {
     Noop,
     Read,
     Write,
+    Rewire,
 }
 
+// A rewire is on two objects; any other command has no second key, which is then zero.
 pub struct Command {
     pub op: Op,
     pub key: u32,
+    pub second: u32,
     pub edit: u64,
 }
 
@@ -32,7 +35,7 @@ pub struct Record {
     pub replies: [Vote; 7],
 }
 
-// The eight kinds of message, each with its own body.
+// What messages say. A body that carries a command has two kinds: a long one for a rewire, a short one for all else.
 pub enum Body {
     PreAccept(Command),
     PreAcceptOk,
@@ -82,9 +85,11 @@ pub enum Ballots {
 }
 
 // What stands in the bytes after the head, in this order: voted ballot and status, command, dependencies, joined ballot.
+// Whether the command has its second key is said apart.
 pub struct Parts {
     pub told: bool,
     pub command: bool,
+    pub second: bool,
     pub deps: bool,
     pub joined: bool,
 }
@@ -108,6 +113,7 @@ pub enum Field {
     Status,
     Op,
     Key,
+    Second,
     Edit,
     Entry(u8),
     Joined,
