@@ -10,9 +10,8 @@ use borrow.Author.Tests.{eq-eqb, ne-eqb}
 use Rattle.paper.specs.Ballot.{ballotOk}
 use Rattle.paper.specs.Command.{isNoop, commandOk}
 use Rattle.paper.specs.Deps.{larger, joinFrom, join, noDeps, sameDeps, depsOk}
-use Rattle.paper.specs.Logic.{implies, allBelow}
+use Rattle.paper.specs.Logic.{allBelow}
 use Rattle.paper.specs.Vote.{noneIsBlank, votedOk, statusOk, voteOk}
-use Rattle.paper.specs.declared.Command.{Command}
 use Rattle.paper.specs.declared.Vote.{Vote}
 
 pub seven : (f : ℕ → Bool) {r a b c d e g h : Bool} → r ≡ (h && (g && (e && (d && (c && (b && (a && true))))))) → a ≡ f 0 → b ≡ f 1 → c ≡ f 2
@@ -26,15 +25,6 @@ pub joined : (d e : List ℕ) {x0 x1 x2 x3 x4 x5 x6 : ℕ} → x0 ≡ larger (ge
     → x5 ≡ larger (getD d 5 0) (getD e 5 0) → x6 ≡ larger (getD d 6 0) (getD e 6 0) → x0 ∷ x1 ∷ x2 ∷ x3 ∷ x4 ∷ x5 ∷ x6 ∷ [] ≡ join d e
 unfolding joinFrom
 joined d e p0 p1 p2 p3 p4 p5 p6 = rw (p0, p1, p2, p3, p4, p5, p6)
-
--- a no-op's key and edit, asked at once
-pub command-zero : (k : Command) {x : Bool} → x ≡ implies (isNoop k) (eqb (k .key) 0 && eqb (k .edit) 0) → x ≡ commandOk k
-unfolding commandOk
-command-zero k e = e ∙ go (isNoop k) (eqb (k .key) 0) (eqb (k .edit) 0)
-  where
-    go : (a b c : Bool) → implies a (b && c) ≡ (implies a b && implies a c)
-    go true b c = refl
-    go false b c = refl
 
 -- status 0 alone asks for anything
 pub some-status : (v : Vote) → (v .status ≡ 0 → ⊥) → true ≡ noneIsBlank v

@@ -1,8 +1,8 @@
 // The table of bodies, a row for each kind, and beside it all that goes by a body's cases.
+use crate::command::is_rewire;
 use crate::command::op_number;
 use crate::logic::below;
 use crate::logic::both;
-use crate::logic::equal;
 use crate::logic::wide8;
 use crate::vote::noop;
 use paper::Ballots;
@@ -24,9 +24,11 @@ ghost use Rattle.paper.specs.Message.{
   wholeVote,
   higherBallot,
   saidBy,
+  longer,
   unknown,
   rowOf,
   rowIn,
+  kindBy,
   kindOf,
   isCommit,
   commandCarried,
@@ -51,6 +53,7 @@ fn nothing() -> Parts
     Parts {
         told: false,
         command: false,
+        second: false,
         deps: false,
         joined: false,
     }
@@ -62,6 +65,7 @@ fn dependencies() -> Parts
     Parts {
         told: false,
         command: false,
+        second: false,
         deps: true,
         joined: false,
     }
@@ -73,6 +77,7 @@ fn proposal() -> Parts
     Parts {
         told: false,
         command: true,
+        second: false,
         deps: true,
         joined: false,
     }
@@ -84,6 +89,7 @@ fn whole_vote() -> Parts
     Parts {
         told: true,
         command: true,
+        second: false,
         deps: true,
         joined: false,
     }
@@ -95,6 +101,7 @@ fn higher_ballot() -> Parts
     Parts {
         told: false,
         command: false,
+        second: false,
         deps: false,
         joined: true,
     }
@@ -108,6 +115,18 @@ fn said_by(role: Role, ballots: Ballots, parts: Parts) -> Row
         role,
         ballots,
         parts,
+    }
+}
+
+fn longer(p: Parts) -> Parts
+    ensures { λ r. ⌜ r ≡ longer p ⌝ }
+{
+    Parts {
+        told: p.told,
+        command: p.command,
+        second: true,
+        deps: p.deps,
+        joined: p.joined,
     }
 }
 
@@ -136,25 +155,35 @@ pub fn row_of(k: usize) -> Row
         6 => said_by(Role::Lead, Ballots::Recovery, nothing()),
         7 => said_by(Role::Reply, Ballots::Recovery, whole_vote()),
         8 => said_by(Role::Reply, Ballots::Any, higher_ballot()),
+        9 => said_by(Role::Lead, Ballots::Fresh, longer(proposal())),
+        10 => said_by(Role::Lead, Ballots::Any, longer(proposal())),
+        11 => said_by(Role::Anyone, Ballots::Any, longer(proposal())),
+        12 => said_by(Role::Reply, Ballots::Recovery, longer(whole_vote())),
         _ => unknown(),
     }
+}
+
+fn kind_by(short: u8, long: u8, c: Command) -> u8
+    ensures { λ r. ⌜ r ≡ kindBy short long c ⌝ }
+{
+    if is_rewire(c) { long } else { short }
 }
 
 pub fn kind_of(b: Body) -> u8
     ensures { λ r. ⌜ r ≡ kindOf b ⌝ }
 {
     match b {
-        Body::PreAccept(_) => 1,
+        Body::PreAccept(k) => kind_by(1, 9, k),
         Body::PreAcceptOk => 2,
-        Body::Accept(_) => 3,
+        Body::Accept(k) => kind_by(3, 10, k),
         Body::AcceptOk => 4,
-        Body::Commit(_) => 5,
+        Body::Commit(k) => kind_by(5, 11, k),
         Body::Prepare => 6,
         Body::PrepareOk {
             voted: _,
             status: _,
-            command: _,
-        } => 7,
+            command,
+        } => kind_by(7, 12, command),
         Body::Nack(_) => 8,
     }
 }
@@ -162,7 +191,20 @@ pub fn kind_of(b: Body) -> u8
 pub fn is_commit(b: Body) -> bool
     ensures { λ r. ⌜ r ≡ isCommit b ⌝ }
 {
-    equal(wide8(kind_of(b)), 5)
+    match b {
+        Body::PreAccept(_) => false,
+        Body::PreAcceptOk => false,
+        Body::Accept(_) => false,
+        Body::AcceptOk => false,
+        Body::Commit(_) => true,
+        Body::Prepare => false,
+        Body::PrepareOk {
+            voted: _,
+            status: _,
+            command: _,
+        } => false,
+        Body::Nack(_) => false,
+    }
 }
 
 pub fn row_in(b: Body) -> Row
@@ -242,6 +284,14 @@ pub fn body_of(k: usize, x: Carried) -> Body
             command,
         },
         8 => Body::Nack(x.joined),
+        9 => Body::PreAccept(command),
+        10 => Body::Accept(command),
+        11 => Body::Commit(command),
+        12 => Body::PrepareOk {
+            voted: x.voted,
+            status: x.status,
+            command,
+        },
         _ => Body::Prepare,
     }
 }
@@ -313,6 +363,7 @@ pub fn has_field(p: Parts, f: Field) -> bool
         Field::Status => p.told,
         Field::Op => p.command,
         Field::Key => p.command,
+        Field::Second => p.second,
         Field::Edit => p.command,
         Field::Entry(i) => both(p.deps, below(wide8(i), 7)),
         Field::Joined => p.joined,

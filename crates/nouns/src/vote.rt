@@ -25,6 +25,7 @@ pub fn noop() -> Command
     Command {
         op: Op::Noop,
         key: 0,
+        second: 0,
         edit: 0,
     }
 }

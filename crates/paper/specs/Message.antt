@@ -35,18 +35,12 @@ wholeVote = record { told = true; command = true; second = false; deps = true; j
 abbrev pub higherBallot : Parts
 higherBallot = record { told = false; command = false; second = false; deps = false; joined = true }
 
+-- 5/12: the same with a second key
+abbrev pub longer : Parts → Parts
+longer p = record { told = p .told; command = p .command; second = true; deps = p .deps; joined = p .joined }
+
 abbrev pub saidBy : Role → Ballots → Parts → Row
 saidBy r b p = record { known = true; role = r; ballots = b; parts = p }
-
--- 5/12: the same with a second key
-abbrev pub longer : Row → Row
-longer r =
-    record {
-      known = r .known;
-      role = r .role;
-      ballots = r .ballots;
-      parts = record { told = r .parts .told; command = r .parts .command; second = true; deps = r .parts .deps; joined = r .parts .joined };
-    }
 
 -- a kind that is none
 abbrev pub unknown : Row
@@ -63,10 +57,10 @@ rows =
     ∷ saidBy Lead Recovery nothing
     ∷ saidBy Reply Recovery wholeVote
     ∷ saidBy Reply Any higherBallot
-    ∷ longer (saidBy Lead Fresh proposal)
-    ∷ longer (saidBy Lead Any proposal)
-    ∷ longer (saidBy Anyone Any proposal)
-    ∷ longer (saidBy Reply Recovery wholeVote)
+    ∷ saidBy Lead Fresh (longer proposal)
+    ∷ saidBy Lead Any (longer proposal)
+    ∷ saidBy Anyone Any (longer proposal)
+    ∷ saidBy Reply Recovery (longer wholeVote)
     ∷ []
 
 unfoldable pub rowOf : ℕ → Row

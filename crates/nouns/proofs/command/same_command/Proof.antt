@@ -21,14 +21,26 @@ wide32-requires-2 c κs = search needs
 equal-requires-2 : tie.Need-equal-requires-2
 equal-requires-2 c κs = search needs
 
+wide32-requires-3 : tie.Need-wide32-requires-3
+wide32-requires-3 c κs = search needs
+
+wide32-requires-4 : tie.Need-wide32-requires-4
+wide32-requires-4 c κs = search needs
+
+equal-requires-3 : tie.Need-equal-requires-3
+equal-requires-3 c κs = search needs
+
 both-requires : tie.Need-both-requires
 both-requires c κs = search needs
+
+both-requires-2 : tie.Need-both-requires-2
+both-requires-2 c κs = search needs
 
 equal64-requires : tie.Need-equal64-requires
 equal64-requires c κs = search needs
 
-both-requires-2 : tie.Need-both-requires-2
-both-requires-2 c κs = search needs
+both-requires-3 : tie.Need-both-requires-3
+both-requires-3 c κs = search needs
 
 returns : tie.Need-returns
 unfolding sameCommand
@@ -44,7 +56,11 @@ same-command-spec =
     wide32-requires
     wide32-requires-2
     equal-requires-2
+    wide32-requires-3
+    wide32-requires-4
+    equal-requires-3
     both-requires
-    equal64-requires
     both-requires-2
+    equal64-requires
+    both-requires-3
     returns)

@@ -12,17 +12,23 @@ is-noop-requires-2 c κs = search needs
 both-requires : tie.Need-both-requires
 both-requires c κs = search needs
 
-wide32-requires : tie.Need-wide32-requires
-wide32-requires c κs = search needs
+is-rewire-requires : tie.Need-is-rewire-requires
+is-rewire-requires c κs = search needs
 
-wide32-requires-2 : tie.Need-wide32-requires-2
-wide32-requires-2 c κs = search needs
-
-equal-requires : tie.Need-equal-requires
-equal-requires c κs = search needs
+touches-requires : tie.Need-touches-requires
+touches-requires c κs = search needs
 
 both-requires-2 : tie.Need-both-requires-2
 both-requires-2 c κs = search needs
+
+touches-requires-2 : tie.Need-touches-requires-2
+touches-requires-2 c κs = search needs
+
+either-requires : tie.Need-either-requires
+either-requires c κs = search needs
+
+both-requires-3 : tie.Need-both-requires-3
+both-requires-3 c κs = search needs
 
 returns : tie.Need-returns
 unfolding sameObject
@@ -35,8 +41,10 @@ same-object-spec =
     is-noop-requires
     is-noop-requires-2
     both-requires
-    wide32-requires
-    wide32-requires-2
-    equal-requires
+    is-rewire-requires
+    touches-requires
     both-requires-2
+    touches-requires-2
+    either-requires
+    both-requires-3
     returns)

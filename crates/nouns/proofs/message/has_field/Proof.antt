@@ -36,6 +36,9 @@ enum-told-9 c = search needs
 enum-told-10 : tie.Need-enum-told-10
 enum-told-10 c = search needs
 
+enum-told-11 : tie.Need-enum-told-11
+enum-told-11 c = search needs
+
 enum-known-f : tie.Need-enum-known-f
 enum-known-f c = search needs
 
@@ -48,8 +51,8 @@ below-requires c κs = search needs
 both-requires : tie.Need-both-requires
 both-requires c κs = search needs
 
-enum-told-11 : tie.Need-enum-told-11
-enum-told-11 c = search needs
+enum-told-12 : tie.Need-enum-told-12
+enum-told-12 c = search needs
 
 returns : tie.Need-returns
 returns c = search needs
@@ -82,10 +85,13 @@ returns-10 : tie.Need-returns-10
 returns-10 c = search needs
 
 returns-11 : tie.Need-returns-11
-returns-11 c = rw (c .before .before .before .before .f .given .1) (c .both .ensures ∙ ap (λ (b : Bool). c .before .before .before .before .before .before .args .p .deps && b) (c .before .below .ensures ∙ ap (λ (x : ℕ). ltb x 7) (c .before .before .wide8 .ensures)))
+returns-11 c = search needs
 
 returns-12 : tie.Need-returns-12
-returns-12 c = search needs
+returns-12 c = rw (c .before .before .before .before .f .given .1) (c .both .ensures ∙ ap (λ (b : Bool). c .before .before .before .before .before .before .args .p .deps && b) (c .before .below .ensures ∙ ap (λ (x : ℕ). ltb x 7) (c .before .before .wide8 .ensures)))
+
+returns-13 : tie.Need-returns-13
+returns-13 c = search needs
 
 pub has-field-spec : {M : Type 1} → statement M
 has-field-spec =
@@ -101,11 +107,12 @@ has-field-spec =
     enum-told-8
     enum-told-9
     enum-told-10
+    enum-told-11
     enum-known-f
     wide8-requires
     below-requires
     both-requires
-    enum-told-11
+    enum-told-12
     returns
     returns-2
     returns-3
@@ -117,4 +124,5 @@ has-field-spec =
     returns-9
     returns-10
     returns-11
-    returns-12)
+    returns-12
+    returns-13)

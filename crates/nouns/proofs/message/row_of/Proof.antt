@@ -53,6 +53,42 @@ higher-ballot-requires c κs = search needs
 said-by-requires-8 : tie.Need-said-by-requires-8
 said-by-requires-8 c κs = search needs
 
+proposal-requires-4 : tie.Need-proposal-requires-4
+proposal-requires-4 c κs = search needs
+
+longer-requires : tie.Need-longer-requires
+longer-requires c κs = search needs
+
+said-by-requires-9 : tie.Need-said-by-requires-9
+said-by-requires-9 c κs = search needs
+
+proposal-requires-5 : tie.Need-proposal-requires-5
+proposal-requires-5 c κs = search needs
+
+longer-requires-2 : tie.Need-longer-requires-2
+longer-requires-2 c κs = search needs
+
+said-by-requires-10 : tie.Need-said-by-requires-10
+said-by-requires-10 c κs = search needs
+
+proposal-requires-6 : tie.Need-proposal-requires-6
+proposal-requires-6 c κs = search needs
+
+longer-requires-3 : tie.Need-longer-requires-3
+longer-requires-3 c κs = search needs
+
+said-by-requires-11 : tie.Need-said-by-requires-11
+said-by-requires-11 c κs = search needs
+
+whole-vote-requires-2 : tie.Need-whole-vote-requires-2
+whole-vote-requires-2 c κs = search needs
+
+longer-requires-4 : tie.Need-longer-requires-4
+longer-requires-4 c κs = search needs
+
+said-by-requires-12 : tie.Need-said-by-requires-12
+said-by-requires-12 c κs = search needs
+
 unknown-requires : tie.Need-unknown-requires
 unknown-requires c κs = search needs
 
@@ -90,7 +126,23 @@ returns-8 c = rw (c .before .before .match .keys8, c .said-by8 .ensures, c .befo
 
 returns-9 : tie.Need-returns-9
 unfolding rowOf
-returns-9 c = c .unknown .ensures ∙ sym (unlisted _ _ _ _ _ _ _ _ unknown _ (c .before .match .rest .0 .0 .0 .0 .0 .0 .0 .1) (c .before .match .rest .0 .0 .0 .0 .0 .0 .1) (c .before .match .rest .0 .0 .0 .0 .0 .1) (c .before .match .rest .0 .0 .0 .0 .1) (c .before .match .rest .0 .0 .0 .1) (c .before .match .rest .0 .0 .1) (c .before .match .rest .0 .1) (c .before .match .rest .1))
+returns-9 c = rw (c .before .before .before .match .keys9, c .said-by9 .ensures, c .before .longer .ensures, c .before .before .proposal4 .ensures)
+
+returns-10 : tie.Need-returns-10
+unfolding rowOf
+returns-10 c = rw (c .before .before .before .match .keys10, c .said-by10 .ensures, c .before .longer2 .ensures, c .before .before .proposal5 .ensures)
+
+returns-11 : tie.Need-returns-11
+unfolding rowOf
+returns-11 c = rw (c .before .before .before .match .keys11, c .said-by11 .ensures, c .before .longer3 .ensures, c .before .before .proposal6 .ensures)
+
+returns-12 : tie.Need-returns-12
+unfolding rowOf
+returns-12 c = rw (c .before .before .before .match .keys12, c .said-by12 .ensures, c .before .longer4 .ensures, c .before .before .whole-vote2 .ensures)
+
+returns-13 : tie.Need-returns-13
+unfolding rowOf
+returns-13 c = c .unknown .ensures ∙ sym (unlisted _ _ _ _ _ _ _ _ _ _ _ _ unknown _ (c .before .match .rest .0 .0 .0 .0 .0 .0 .0 .0 .0 .0 .0 .1) (c .before .match .rest .0 .0 .0 .0 .0 .0 .0 .0 .0 .0 .1) (c .before .match .rest .0 .0 .0 .0 .0 .0 .0 .0 .0 .1) (c .before .match .rest .0 .0 .0 .0 .0 .0 .0 .0 .1) (c .before .match .rest .0 .0 .0 .0 .0 .0 .0 .1) (c .before .match .rest .0 .0 .0 .0 .0 .0 .1) (c .before .match .rest .0 .0 .0 .0 .0 .1) (c .before .match .rest .0 .0 .0 .0 .1) (c .before .match .rest .0 .0 .0 .1) (c .before .match .rest .0 .0 .1) (c .before .match .rest .0 .1) (c .before .match .rest .1))
 
 pub row-of-spec : {M : Type 1} → statement M
 row-of-spec =
@@ -112,6 +164,18 @@ row-of-spec =
     said-by-requires-7
     higher-ballot-requires
     said-by-requires-8
+    proposal-requires-4
+    longer-requires
+    said-by-requires-9
+    proposal-requires-5
+    longer-requires-2
+    said-by-requires-10
+    proposal-requires-6
+    longer-requires-3
+    said-by-requires-11
+    whole-vote-requires-2
+    longer-requires-4
+    said-by-requires-12
     unknown-requires
     returns
     returns-2
@@ -121,4 +185,8 @@ row-of-spec =
     returns-6
     returns-7
     returns-8
-    returns-9)
+    returns-9
+    returns-10
+    returns-11
+    returns-12
+    returns-13)
