@@ -3,11 +3,13 @@ use paper::Command;
 use paper::Op;
 use paper::Vote;
 ghost use mathlib.Core.Path.{_≡_};
+ghost use mathlib.Core.Bool.{true, false};
 ghost use Prim.Native.Nat.{_+_, _≤_};
 ghost use lib.ListN.{length};
 ghost use Rattle.numbers.specs.Num.{splice};
 ghost use Rattle.paper.specs.Command.{opNumber};
-ghost use Rattle.codec.specs.Parts.{opOf, commandAt, depsAt, voteAt, commandBytes, depsBytes, voteBytes};
+ghost use Rattle.numbers.specs.Fields.{sizeOf};
+ghost use Rattle.codec.specs.Parts.{opOf, shortOpOf, sentWidths, commandAt, sentAt, depsAt, voteAt, commandBytes, sentBytes, depsBytes, voteBytes};
 
 // Widths of the fields, and of what is made of them.
 pub const OP: usize = 1;
@@ -16,7 +18,7 @@ pub const KEY: usize = 4;
 
 pub const EDIT: usize = 8;
 
-pub const COMMAND: usize = OP + KEY + EDIT;
+pub const COMMAND: usize = OP + KEY + KEY + EDIT;
 
 pub const ENTRY: usize = 2;
 
@@ -29,7 +31,9 @@ pub const STATUS: usize = 1;
 pub const VOTE: usize = BALLOT + STATUS + COMMAND + DEPS;
 
 // Where a part stands in a command, and in a vote.
-pub const EDIT_AT: usize = OP + KEY;
+pub const SECOND_AT: usize = OP + KEY;
+
+pub const EDIT_AT: usize = SECOND_AT + KEY;
 
 pub const COMMAND_AT: usize = BALLOT + STATUS;
 
@@ -37,6 +41,17 @@ pub const DEPS_AT: usize = COMMAND_AT + COMMAND;
 
 pub fn op_of(b: u8) -> Op
     ensures { λ r. ⌜ r ≡ opOf b ⌝ }
+{
+    match b {
+        0 => Op::Noop,
+        1 => Op::Read,
+        2 => Op::Write,
+        _ => Op::Rewire,
+    }
+}
+
+fn short_op_of(b: u8) -> Op
+    ensures { λ r. ⌜ r ≡ shortOpOf b ⌝ }
 {
     match b {
         0 => Op::Noop,
@@ -52,19 +67,73 @@ pub fn op_byte(op: Op) -> u8
         Op::Noop => 0,
         Op::Read => 1,
         Op::Write => 2,
+        Op::Rewire => 3,
     }
 }
 
 pub fn read_command(s: &[u8], at: usize) -> Command
-    requires { ⌜ at + 13 ≤ length (now s) ⌝ }
+    requires { ⌜ at + 17 ≤ length (now s) ⌝ }
     ensures { λ r. ⌜ r ≡ commandAt (now (s .entry)) at ⌝ }
 {
     let a1 = at + OP;
     let a2 = a1 + KEY;
+    let a3 = a2 + KEY;
     let op = op_of(numbers::get_u8(s, at));
     let key = numbers::get_u32(s, a1);
+    let second = numbers::get_u32(s, a2);
+    let edit = numbers::get_u64(s, a3);
+    Command {
+        op,
+        key,
+        second,
+        edit,
+    }
+}
+
+fn read_short(s: &[u8], at: usize) -> Command
+    requires { ⌜ at + 13 ≤ length (now s) ⌝ }
+    ensures { λ r. ⌜ r ≡ sentAt false (now (s .entry)) at ⌝ }
+{
+    let a1 = at + OP;
+    let a2 = a1 + KEY;
+    let op = short_op_of(numbers::get_u8(s, at));
+    let key = numbers::get_u32(s, a1);
     let edit = numbers::get_u64(s, a2);
-    Command { op, key, edit }
+    Command {
+        op,
+        key,
+        second: 0,
+        edit,
+    }
+}
+
+fn read_long(s: &[u8], at: usize) -> Command
+    requires { ⌜ at + 17 ≤ length (now s) ⌝ }
+    ensures { λ r. ⌜ r ≡ sentAt true (now (s .entry)) at ⌝ }
+{
+    let a1 = at + OP;
+    let a2 = a1 + KEY;
+    let a3 = a2 + KEY;
+    let key = numbers::get_u32(s, a1);
+    let second = numbers::get_u32(s, a2);
+    let edit = numbers::get_u64(s, a3);
+    Command {
+        op: Op::Rewire,
+        key,
+        second,
+        edit,
+    }
+}
+
+// A command in a message, with its second key or without.
+pub fn read_sent(s: &[u8], at: usize, second: bool) -> Command
+    requires { ⌜ at + sizeOf (sentWidths second) ≤ length (now s) ⌝ }
+    ensures { λ r. ⌜ r ≡ sentAt second (now (s .entry)) at ⌝ }
+{
+    if second {
+        return read_long(s, at);
+    }
+    read_short(s, at)
 }
 
 pub fn read_deps(s: &[u8], at: usize) -> [u16; 7]
@@ -88,7 +157,7 @@ pub fn read_deps(s: &[u8], at: usize) -> [u16; 7]
 }
 
 pub fn read_vote(s: &[u8], at: usize) -> Vote
-    requires { ⌜ at + 32 ≤ length (now s) ⌝ }
+    requires { ⌜ at + 36 ≤ length (now s) ⌝ }
     ensures { λ r. ⌜ r ≡ voteAt (now (s .entry)) at ⌝ }
 {
     let a1 = at + BALLOT;
@@ -107,14 +176,37 @@ pub fn read_vote(s: &[u8], at: usize) -> Vote
 }
 
 pub fn write_command(s: &mut [u8], at: usize, c: Command)
-    requires { ⌜ at + 13 ≤ length (now s) ⌝ }
+    requires { ⌜ at + 17 ≤ length (now s) ⌝ }
     ensures { λ _. ⌜ now (s .exit) ≡ splice (now (s .entry)) at (commandBytes c) ⌝ }
 {
     let op = c.op;
     let b = op_byte(op);
     numbers::put_u8(&mut *s, at, b);
     numbers::put_u32(&mut *s, at + OP, c.key);
+    numbers::put_u32(&mut *s, at + SECOND_AT, c.second);
     numbers::put_u64(&mut *s, at + EDIT_AT, c.edit);
+}
+
+fn write_short(s: &mut [u8], at: usize, c: Command)
+    requires { ⌜ at + 13 ≤ length (now s) ⌝ }
+    ensures { λ _. ⌜ now (s .exit) ≡ splice (now (s .entry)) at (sentBytes false c) ⌝ }
+{
+    let op = c.op;
+    let b = op_byte(op);
+    numbers::put_u8(&mut *s, at, b);
+    numbers::put_u32(&mut *s, at + OP, c.key);
+    numbers::put_u64(&mut *s, at + SECOND_AT, c.edit);
+}
+
+pub fn write_sent(s: &mut [u8], at: usize, second: bool, c: Command)
+    requires { ⌜ at + sizeOf (sentWidths second) ≤ length (now s) ⌝ }
+    ensures { λ _. ⌜ now (s .exit) ≡ splice (now (s .entry)) at (sentBytes second c) ⌝ }
+{
+    if second {
+        write_command(s, at, c);
+    } else {
+        write_short(s, at, c);
+    }
 }
 
 pub fn write_deps(s: &mut [u8], at: usize, d: [u16; 7])
@@ -131,7 +223,7 @@ pub fn write_deps(s: &mut [u8], at: usize, d: [u16; 7])
 }
 
 pub fn write_vote(s: &mut [u8], at: usize, v: Vote)
-    requires { ⌜ at + 32 ≤ length (now s) ⌝ }
+    requires { ⌜ at + 36 ≤ length (now s) ⌝ }
     ensures { λ _. ⌜ now (s .exit) ≡ splice (now (s .entry)) at (voteBytes v) ⌝ }
 {
     let command = v.command;

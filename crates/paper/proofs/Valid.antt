@@ -11,7 +11,7 @@ use Rattle.paper.specs.Deps.{entryOk, depsOk}
 use Rattle.paper.specs.Vote.{votedOk, statusOk, voteOk, noneVoted, noneOp, noneEntry, noneIsBlank, toldOk}
 use Rattle.paper.specs.Message.{rowIn, partsIn, commandIn, voteIn, joinedIn}
 use Rattle.paper.specs.Valid.{fromRange, toRange, ownerRange, numberRange, ballotRange, recoveryBallot, toHere, fromAnother, fromLead, toLead, toldBelow, freshOp, joinedRange, joinedAbove, depsCarried, secondCarried, opRange, Clause, EntryRange, ToldEntry, carriedClauses, headClauses, wayClauses, toldClauses, commandClauses, entryClauses, depsClauses, joinedClauses, Failing, none, first, holdsOf, holds, clauses, firstOf, firstFailing, isNone, opIn, valid, verdictOf, verdictOn}
-use lib.Dec.{leb, eqb}
+use lib.Dec.{eqb}
 use Rattle.paper.specs.declared.Op.{Op}
 use Rattle.paper.specs.declared.Op.the-variants.{Noop, Read, Write, Rewire}
 use Rattle.paper.specs.declared.Command.{Command}
@@ -124,7 +124,7 @@ module _ (n s c : ℕ) (w : Row) (m : Message) (v : Vote) (o j : ℕ) where
         above = j2;
       }
 
-  clauses-all : Clauses n s c w m v j → opRange (w .parts) o ≡ true → All (holdsOf n s c w m v o j) clauses
+  clauses-all : Clauses n s c w m v j → opRange (w .parts .second) o ≡ true → All (holdsOf n s c w m v o j) clauses
   unfolding holdsOf depsOk voteOk commandOk noneIsBlank
   clauses-all k op =
       let (a, deps) = and-true (votedOk n v && statusOk 3 v && commandOk (v .command)) _ (k .vote) in
@@ -163,10 +163,10 @@ unfolding toldOk
 told-of n s c w m v j k e = rw (k .vote, asked _ _ (k .below) e) (asked _ _ (k .blank) e)
 
 -- an op by value is one that its kind carries
-op-in : (k : Command) → cond (isRewire k) (eqb (opNumber (k .op)) 3) (leb (opNumber (k .op)) 2) ≡ true
+op-in : (k : Command) → opRange (isRewire k) (opNumber (k .op)) ≡ true
 op-in k = go (k .op)
   where
-    go : (x : Op) → cond (eqb (opNumber x) 3) (eqb (opNumber x) 3) (leb (opNumber x) 2) ≡ true
+    go : (x : Op) → opRange (eqb (opNumber x) 3) (opNumber x) ≡ true
     go Noop = refl
     go Read = refl
     go Write = refl
@@ -183,14 +183,14 @@ module _ (n s c : ℕ) (m : Message) where
   Holding = Clauses n s c (rowIn (m .body)) m (voteIn m) (joinedIn (m .body))
 
   -- of the op in the bytes valid asks nothing but its range
-  from-none : (o : ℕ) → isNone (firstFailing n s c o m) ≡ true → (opRange (partsIn (m .body)) o ≡ true) × Holding
+  from-none : (o : ℕ) → isNone (firstFailing n s c o m) ≡ true → (opRange (partsIn (m .body) .second) o ≡ true) × Holding
   unfolding firstFailing holdsOf
   from-none o h =
       let a : All (holds n s c o m) clauses = all-of (holds n s c o m) clauses h in
       let (c1, (c2, (h1, (h2, (h3, (h4, (h5, (h6, (w1, (w2, (w3, (w4, (v1, (v2, (v3, (v4, (o0, more))))))))))))))))) = a in
       (o0, all-clauses n s c (rowIn (m .body)) m (voteIn m) o (joinedIn (m .body)) a)
 
-  to-none : (o : ℕ) → opRange (partsIn (m .body)) o ≡ true → Holding → isNone (firstFailing n s c o m) ≡ true
+  to-none : (o : ℕ) → opRange (partsIn (m .body) .second) o ≡ true → Holding → isNone (firstFailing n s c o m) ≡ true
   unfolding firstFailing
   to-none o e k = of-all (holds n s c o m) clauses (clauses-all n s c (rowIn (m .body)) m (voteIn m) o (joinedIn (m .body)) k e)
 
@@ -199,7 +199,7 @@ module _ (n s c : ℕ) (m : Message) where
   clauses-of h = from-none (opIn m) h .1
 
   -- an op by value is in range
-  pub op-fits : opRange (partsIn (m .body)) (opIn m) ≡ true
+  pub op-fits : opRange (partsIn (m .body) .second) (opIn m) ≡ true
   op-fits = rw (second-is (m .body)) (op-in (commandIn (m .body)))
 
   pub valid-of : Clauses n s c (rowIn (m .body)) m (voteIn m) (joinedIn (m .body)) → valid n s c m ≡ true
@@ -207,16 +207,16 @@ module _ (n s c : ℕ) (m : Message) where
   valid-of k = to-none (opIn m) op-fits k
 
   -- none fails of a valid message with an op in its bytes, and of no other
-  pub none-fails : (o : ℕ) → isNone (firstFailing n s c o m) ≡ (opRange (partsIn (m .body)) o && valid n s c m)
+  pub none-fails : (o : ℕ) → isNone (firstFailing n s c o m) ≡ (opRange (partsIn (m .body) .second) o && valid n s c m)
   none-fails o =
-      alike _ _ (λ h. let (e, k) = from-none o h in rw e (valid-of k)) (λ h. let (e, v) = and-true (opRange (partsIn (m .body)) o) (valid n s c m) h in to-none o e (clauses-of v))
+      alike _ _ (λ h. let (e, k) = from-none o h in rw e (valid-of k)) (λ h. let (e, v) = and-true (opRange (partsIn (m .body) .second) o) (valid n s c m) h in to-none o e (clauses-of v))
 
 -- the verdict is valid where none fails
 abbrev pub isValid : Verdict → Bool
 isValid verdict.Valid = true
 isValid (verdict.Blamed x) = false
 
-pub valid-verdict : (n s c o : ℕ) (m : Message) → isValid (verdictOn n s c o m) ≡ (opRange (partsIn (m .body)) o && valid n s c m)
+pub valid-verdict : (n s c o : ℕ) (m : Message) → isValid (verdictOn n s c o m) ≡ (opRange (partsIn (m .body) .second) o && valid n s c m)
 unfolding verdictOn
 valid-verdict n s c o m = go (firstFailing n s c o m) ∙ none-fails n s c m o
   where

@@ -84,9 +84,9 @@ toldOp w v = implies (w .parts .told) (noneOp v)
 abbrev pub toldEntry : Row → Vote → ℕ → Bool
 toldEntry w v i = implies (w .parts .told) (noneEntry v i)
 
--- 0, 1 or 2; with a second key 3 alone
-abbrev pub opRange : Parts → ℕ → Bool
-opRange p o = cond (p .second) (eqb o 3) (leb o 2)
+-- 0, 1 or 2; beside a second key 3 alone
+abbrev pub opRange : Bool → ℕ → Bool
+opRange second o = cond second (eqb o 3) (leb o 2)
 
 -- kind 1 at ballot 0 has no no-op
 abbrev pub freshOp : Row → Message → Vote → Bool
@@ -126,7 +126,7 @@ holdsOf n s c w m v o j VotedRange = votedOk n v
 holdsOf n s c w m v o j ToldBelow = toldBelow w m v
 holdsOf n s c w m v o j StatusRange = statusOk 3 v
 holdsOf n s c w m v o j ToldVoted = toldVoted w v
-holdsOf n s c w m v o j OpRange = opRange (w .parts) o
+holdsOf n s c w m v o j OpRange = opRange (w .parts .second) o
 holdsOf n s c w m v o j FreshOp = freshOp w m v
 holdsOf n s c w m v o j ToldOp = toldOp w v
 holdsOf n s c w m v o j KeyRange = keyOk (v .command)

@@ -9,6 +9,9 @@ add-a1 c = search needs
 add-a2 : tie.Need-add-a2
 add-a2 c = search needs
 
+add-a3 : tie.Need-add-a3
+add-a3 c = search needs
+
 get-u8-requires : tie.Need-get-u8-requires
 get-u8-requires c κs = search needs
 
@@ -17,6 +20,9 @@ op-of-requires c κs = search needs
 
 get-u32-requires : tie.Need-get-u32-requires
 get-u32-requires c κs = search needs
+
+get-u32-requires-2 : tie.Need-get-u32-requires-2
+get-u32-requires-2 c κs = search needs
 
 get-u64-requires : tie.Need-get-u64-requires
 get-u64-requires c κs = search needs
@@ -31,8 +37,10 @@ read-command-spec =
     (tie.spec
     add-a1
     add-a2
+    add-a3
     get-u8-requires
     op-of-requires
     get-u32-requires
+    get-u32-requires-2
     get-u64-requires
     returns)

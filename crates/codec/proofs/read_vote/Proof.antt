@@ -31,7 +31,7 @@ returns : tie.Need-returns
 unfolding commandAt depsAt voteAt
 returns c =
     let at : ℕ = c .before .before .before .before .before .args .at in
-    let e : at + 4 + 1 + 13 ≡ at + 4 + 1 + 1 + 4 + 8 = omega arith in
+    let e : at + 4 + 1 + 17 ≡ at + 4 + 1 + 1 + 4 + 4 + 8 = omega arith in
     cc
 
 pub read-vote-spec : {M : Type 1} → statement M

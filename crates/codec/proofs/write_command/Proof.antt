@@ -23,6 +23,12 @@ add-put-u32 c = search needs
 put-u32-requires : tie.Need-put-u32-requires
 put-u32-requires c κs = search needs
 
+add-put-u32-2 : tie.Need-add-put-u32-2
+add-put-u32-2 c = search needs
+
+put-u32-requires-2 : tie.Need-put-u32-requires-2
+put-u32-requires-2 c κs = search needs
+
 add-put-u64 : tie.Need-add-put-u64
 add-put-u64 c = search needs
 
@@ -35,7 +41,8 @@ same-length c = search needs
 returns : tie.Need-returns
 unfolding commandBytes
 returns c =
-    let c3 = c .before .before in
+    let c4 = c .before .before in
+    let c3 = c4 .before .before .before .before in
     let c2 = c3 .before .before .before .before in
     let c1 = c2 .before .before .before .before in
     let o = c1 .before .before in
@@ -43,11 +50,12 @@ returns c =
     let l : List ℕ = e .args .s .now in
     let at = e .args .at in
     let k = e .args .c in
-    let h : at + 13 ≤ length l = e .pre in
+    let h : at + 17 ≤ length l = e .pre in
     let u = bytesOf 1 (opNumber (k .op)) in
     let w0 = rw (o .op-byte .ensures) at (c1 .put-u8 .ensures) in
     let w1 = splice-step l at u (at + 1) (bytesOf 4 (k .key)) w0 (c2 .put-u32 .ensures) refl (omega arith) in
-    splice-step l at (u ++ bytesOf 4 (k .key)) (at + 5) (bytesOf 8 (k .edit)) w1 (c3 .put-u64 .ensures) refl (omega arith)
+    let w2 = splice-step l at (u ++ bytesOf 4 (k .key)) (at + 5) (bytesOf 4 (k .second)) w1 (c3 .put-u322 .ensures) refl (omega arith) in
+    splice-step l at (u ++ bytesOf 4 (k .key) ++ bytesOf 4 (k .second)) (at + 9) (bytesOf 8 (k .edit)) w2 (c4 .put-u64 .ensures) refl (omega arith)
 
 pub write-command-spec : {M : Type 1} → statement M
 write-command-spec =
@@ -57,6 +65,8 @@ write-command-spec =
     put-u8-requires
     add-put-u32
     put-u32-requires
+    add-put-u32-2
+    put-u32-requires-2
     add-put-u64
     put-u64-requires
     same-length

@@ -45,12 +45,12 @@ returns c =
     let l : List ℕ = e .args .s .now in
     let at = e .args .at in
     let v = e .args .v in
-    let h : at + 32 ≤ length l = e .pre in
+    let h : at + 36 ≤ length l = e .pre in
     let u = bytesOf 4 (v .voted) in
     let w = u ++ bytesOf 1 (v .status) in
     let w1 = splice-step l at u (at + 4) (bytesOf 1 (v .status)) (c1 .put-u32 .ensures) (c2 .put-u8 .ensures) refl (omega arith) in
     let w2 = splice-step l at w (at + 5) (commandBytes (v .command)) w1 (c3 .write-command .ensures) refl (omega arith) in
-    splice-step l at (w ++ commandBytes (v .command)) (at + 18) (depsBytes (v .deps)) w2 (c4 .write-deps .ensures) refl (omega arith)
+    splice-step l at (w ++ commandBytes (v .command)) (at + 22) (depsBytes (v .deps)) w2 (c4 .write-deps .ensures) refl (omega arith)
 
 pub write-vote-spec : {M : Type 1} → statement M
 write-vote-spec =
