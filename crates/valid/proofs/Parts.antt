@@ -8,12 +8,12 @@ use lib.Dec.{leb, ltb, eqb}
 use lib.ListN.{getD, getD-replicate}
 use borrow.Author.Tests.{eqb-true, le-leb, leb-true, eq-eqb}
 use Rattle.paper.specs.Logic.{implies}
-use Rattle.paper.specs.Command.{keyOk, editOk}
+use Rattle.paper.specs.Command.{keyOk, secondOk, editOk}
 use Rattle.paper.specs.Ballot.{ballotOk}
 use Rattle.paper.specs.Deps.{entryLimit, entryOk, sameDeps, noDeps}
 use Rattle.paper.specs.Vote.{votedOk, statusOk, votedBelow, noneVoted, noneOp}
 use Rattle.paper.specs.Message.{rowIn, partsIn, voteIn, joinedIn, isFresh}
-use Rattle.paper.specs.Valid.{toHere, fromAnother, fromLead, toLead, joinedRange, depsCarried, opRange, freshOp, toldEntry, Clause, DepsCarried, EntryRange, ToldEntry, first, holdsOf, holds, headClauses, wayClauses, toldClauses, commandClauses, entryClauses, depsClauses, joinedClauses, clauses, firstOf, firstFailing, blameOf, verdictOf, verdictOn}
+use Rattle.paper.specs.Valid.{toHere, fromAnother, fromLead, toLead, joinedRange, depsCarried, secondCarried, opRange, freshOp, toldEntry, Clause, EntryRange, ToldEntry, first, holdsOf, holds, carriedClauses, headClauses, wayClauses, toldClauses, commandClauses, entryClauses, depsClauses, joinedClauses, clauses, firstOf, firstFailing, blameOf, verdictOf, verdictOn}
 use Rattle.paper.specs.declared.Vote.{Vote}
 use Rattle.paper.specs.declared.Row.{Row}
 use Rattle.paper.specs.declared.Message.{Message}
@@ -23,8 +23,8 @@ use Rattle.paper.specs.declared.Blame.the-variants as blame
 use Rattle.paper.specs.declared.Verdict.{Verdict}
 use Rattle.paper.specs.declared.Verdict.the-variants as verdict
 use Rattle.paper.proofs.Laws.{and-true, allBelow-at}
-use Rattle.paper.proofs.Bodies.{untold-voted, untold-status, no-command, unjoined, stale}
-use Rattle.valid.specs.Groups.{unless, andThen, headVerdict, wayVerdict, toldVerdict, commandVerdict, highest, entriesVerdict, depsVerdict, joinedVerdict, bodyVerdict}
+use Rattle.paper.proofs.Bodies.{untold-voted, untold-status, no-command, no-second, unjoined, stale}
+use Rattle.valid.specs.Groups.{unless, andThen, allCarried, headVerdict, wayVerdict, toldVerdict, commandVerdict, highest, entriesVerdict, depsVerdict, joinedVerdict, bodyVerdict}
 
 -- the verdict on a list of clauses
 chain : (Clause → Bool) → List Clause → Verdict
@@ -137,9 +137,11 @@ module _ (n s c o : ℕ) (m : Message) (w : Row) (ew : w ≡ rowIn (m .body)) wh
   abbrev f : Clause → Bool
   f = holdsOf n s c w m v o j
 
-  head-chain : chain f (DepsCarried ∷ headClauses) ≡ headVerdict n s w m
+  head-chain : chain f (carriedClauses ++ headClauses) ≡ headVerdict n s w m
   unfolding chain holdsOf blameOf headVerdict
-  head-chain = rw (merge _ _ (blame.Of field.Ballot) verdict.Valid)
+  head-chain =
+      merge (depsCarried w m) (secondCarried w v) blame.Length (chain f headClauses)
+      ∙ ap (unless (allCarried w m) blame.Length) (rw (merge _ _ (blame.Of field.Ballot) verdict.Valid))
 
   way-chain : chain f wayClauses ≡ wayVerdict c w m
   unfolding chain holdsOf blameOf wayVerdict
@@ -165,14 +167,15 @@ module _ (n s c o : ℕ) (m : Message) (w : Row) (ew : w ≡ rowIn (m .body)) wh
           let p : partsIn (m .body) .told ≡ false = sym (flags (λ r. r .parts .told)) ∙ e in
           rw (e, untold-voted (m .body) p, untold-status (m .body) p)
 
-  command-chain : chain f commandClauses ≡ unless (opRange o) (blame.Of field.Op) (commandVerdict w m v)
+  command-chain : chain f commandClauses ≡ unless (opRange (w .parts .second) o) (blame.Of field.Op) (commandVerdict w m v)
   unfolding chain holdsOf blameOf commandVerdict
   command-chain = go (w .parts .command) refl
     where
-      go : (t : Bool) → w .parts .command ≡ t → chain f commandClauses ≡ unless (opRange o) (blame.Of field.Op) (commandVerdict w m v)
+      go : (t : Bool) → w .parts .command ≡ t → chain f commandClauses ≡ unless (opRange (w .parts .second) o) (blame.Of field.Op) (commandVerdict w m v)
       go true e =
-          let keys = unless (keyOk (v .command)) (blame.Of field.Key) (unless (editOk (v .command)) (blame.Of field.Edit) verdict.Valid) in
-          rw e (ap (unless (opRange o) (blame.Of field.Op)) (merge (freshOp w m v) (implies (w .parts .told) (noneOp v)) (blame.Of field.Op) keys))
+          let more = unless (secondOk (v .command)) (blame.Of field.Second) (unless (editOk (v .command)) (blame.Of field.Edit) verdict.Valid) in
+          let keys = unless (keyOk (v .command)) (blame.Of field.Key) more in
+          rw e (ap (unless (opRange (w .parts .second) o) (blame.Of field.Op)) (merge (freshOp w m v) (implies (w .parts .told) (noneOp v)) (blame.Of field.Op) keys))
       go false e =
           let p : partsIn (m .body) .command ≡ false = sym (flags (λ r. r .parts .command)) ∙ e in
           let k : isFresh (w .ballots) ≡ false = flags (λ r. isFresh (r .ballots)) ∙ stale (m .body) p in
@@ -209,12 +212,12 @@ module _ (n s c o : ℕ) (m : Message) (w : Row) (ew : w ≡ rowIn (m .body)) wh
   unfolding bodyVerdict
   body-chain h =
       rw (told-chain, command-chain, deps-chain h, joined-chain)
-      (ap (andThen (toldVerdict n w m v)) (then-unless (opRange o) (blame.Of field.Op) (commandVerdict w m v) (andThen (depsVerdict n s w v) (joinedVerdict n w m j))))
+      (ap (andThen (toldVerdict n w m v)) (then-unless (opRange (w .parts .second) o) (blame.Of field.Op) (commandVerdict w m v) (andThen (depsVerdict n s w v) (joinedVerdict n w m j))))
 
   grouped : chain f clauses
-      ≡ andThen (chain f (DepsCarried ∷ headClauses)) (andThen (chain f wayClauses) rest)
+      ≡ andThen (chain f (carriedClauses ++ headClauses)) (andThen (chain f wayClauses) rest)
   grouped =
-      let a = DepsCarried ∷ headClauses in
+      let a = carriedClauses ++ headClauses in
       let ab = a ++ wayClauses in
       let abc = ab ++ toldClauses in
       let abcd = abc ++ commandClauses in

@@ -6,10 +6,11 @@ use mathlib.Core.Bool.{Bool, true, false, _&&_, cond}
 use mathlib.Core.List.{List}
 use lib.Dec.{eqb, ltb}
 use Rattle.paper.specs.Logic.{implies}
-use Rattle.paper.specs.Command.{keyOk, editOk}
+use Rattle.paper.specs.Command.{keyOk, secondOk, editOk}
 use Rattle.paper.specs.Deps.{entryOk}
 use Rattle.paper.specs.Vote.{votedOk, statusOk, votedBelow, noneVoted, noneOp}
-use Rattle.paper.specs.Valid.{fromRange, toRange, ownerRange, numberRange, ballotRange, recoveryBallot, toHere, fromAnother, fromLead, toLead, opRange, freshOp, joinedRange, depsCarried}
+use Rattle.paper.specs.Message.{voteIn}
+use Rattle.paper.specs.Valid.{fromRange, toRange, ownerRange, numberRange, ballotRange, recoveryBallot, toHere, fromAnother, fromLead, toLead, opRange, freshOp, joinedRange, depsCarried, secondCarried}
 use Rattle.paper.specs.declared.Vote.{Vote}
 use Rattle.paper.specs.declared.Row.{Row}
 use Rattle.paper.specs.declared.Message.{Message}
@@ -32,9 +33,13 @@ abbrev pub isBlamed : Verdict → Bool
 isBlamed verdict.Valid = false
 isBlamed (verdict.Blamed x) = true
 
+-- nothing stands beside a kind that has no place for it
+abbrev pub allCarried : Row → Message → Bool
+allCarried w m = depsCarried w m && secondCarried w (voteIn m)
+
 unfoldable pub headVerdict : ℕ → ℕ → Row → Message → Verdict
 headVerdict n s w m =
-    unless (depsCarried w m) blame.Length
+    unless (allCarried w m) blame.Length
     (unless (fromRange n m) (blame.Of field.From)
     (unless (toRange n m) (blame.Of field.To)
     (unless (ownerRange n m) (blame.Of field.Owner)
@@ -55,7 +60,8 @@ unfoldable pub commandVerdict : Row → Message → Vote → Verdict
 commandVerdict w m v =
     cond (w .parts .command)
     (unless (freshOp w m v && implies (w .parts .told) (noneOp v)) (blame.Of field.Op)
-    (unless (keyOk (v .command)) (blame.Of field.Key) (unless (editOk (v .command)) (blame.Of field.Edit) verdict.Valid)))
+    (unless (keyOk (v .command)) (blame.Of field.Key)
+    (unless (secondOk (v .command)) (blame.Of field.Second) (unless (editOk (v .command)) (blame.Of field.Edit) verdict.Valid))))
     verdict.Valid
 
 -- the highest entry: told without a status there are no dependencies
@@ -77,4 +83,4 @@ joinedVerdict n w m j =
 unfoldable pub bodyVerdict : ℕ → ℕ → Row → ℕ → Message → Vote → ℕ → Verdict
 bodyVerdict n s w o m v j =
     andThen (toldVerdict n w m v)
-    (unless (opRange o) (blame.Of field.Op) (andThen (commandVerdict w m v) (andThen (depsVerdict n s w v) (joinedVerdict n w m j))))
+    (unless (opRange (w .parts .second) o) (blame.Of field.Op) (andThen (commandVerdict w m v) (andThen (depsVerdict n s w v) (joinedVerdict n w m j))))

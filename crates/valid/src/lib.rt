@@ -5,6 +5,7 @@ use nouns::ballot::lead;
 use nouns::command::edit_ok;
 use nouns::command::is_noop;
 use nouns::command::key_ok;
+use nouns::command::second_ok;
 use nouns::deps::deps_ok;
 use nouns::deps::entry_ok;
 use nouns::deps::no_deps;
@@ -17,6 +18,7 @@ use nouns::logic::implies;
 use nouns::logic::wide8;
 use nouns::logic::wide16;
 use nouns::logic::wide32;
+use nouns::message::command_in;
 use nouns::message::is_fresh;
 use nouns::message::is_recovery;
 use nouns::message::is_reply;
@@ -30,7 +32,7 @@ use paper::Row;
 use paper::Verdict;
 use paper::Vote;
 ghost use mathlib.Core.Path.{_≡_};
-ghost use Rattle.paper.specs.Message.{rowIn};
+ghost use Rattle.paper.specs.Message.{rowIn, voteIn};
 ghost use Rattle.paper.specs.Vote.{votedBelow, noneVoted, noneOp};
 ghost use Rattle.paper.specs.Valid.{
   leadOf,
@@ -48,11 +50,12 @@ ghost use Rattle.paper.specs.Valid.{
   freshOp,
   joinedRange,
   depsCarried,
+  secondCarried,
   verdictOn,
 };
 ghost use Rattle.paper.specs.declared.Blame.the-variants as blame;
 ghost use Rattle.paper.specs.declared.Verdict.the-variants as verdict;
-ghost use Rattle.valid.specs.Groups.{isBlamed, headVerdict, wayVerdict, toldVerdict, commandVerdict, highest, entriesVerdict, depsVerdict, joinedVerdict, bodyVerdict};
+ghost use Rattle.valid.specs.Groups.{isBlamed, allCarried, headVerdict, wayVerdict, toldVerdict, commandVerdict, highest, entriesVerdict, depsVerdict, joinedVerdict, bodyVerdict};
 
 fn lead_of(m: Message) -> usize
     ensures { λ r. ⌜ r ≡ leadOf m ⌝ }
@@ -141,9 +144,13 @@ fn none_op(v: Vote) -> bool
     implies(equal(wide8(v.status), 0), is_noop(v.command))
 }
 
-fn op_range(o: usize) -> bool
-    ensures { λ r. ⌜ r ≡ opRange o ⌝ }
+fn op_range(w: Row, o: usize) -> bool
+    ensures { λ r. ⌜ r ≡ opRange (w .parts .second) o ⌝ }
 {
+    let parts = w.parts;
+    if parts.second {
+        return equal(o, 3);
+    }
     at_most(o, 2)
 }
 
@@ -172,6 +179,24 @@ fn deps_carried(w: Row, m: Message) -> bool
     same_deps(deps, no_deps())
 }
 
+fn second_carried(w: Row, m: Message) -> bool
+    ensures { λ r. ⌜ r ≡ secondCarried w (voteIn m) ⌝ }
+{
+    let parts = w.parts;
+    if parts.second {
+        return true;
+    }
+    let body = m.body;
+    let command = command_in(body);
+    equal(wide32(command.second), 0)
+}
+
+fn all_carried(w: Row, m: Message) -> bool
+    ensures { λ r. ⌜ r ≡ allCarried w m ⌝ }
+{
+    both(deps_carried(w, m), second_carried(w, m))
+}
+
 fn of(field: Field) -> Verdict
     ensures { λ r. ⌜ r ≡ verdict.Blamed (blame.Of field) ⌝ }
 {
@@ -181,7 +206,7 @@ fn of(field: Field) -> Verdict
 fn head_verdict(n: usize, s: usize, w: Row, m: Message) -> Verdict
     ensures { λ r. ⌜ r ≡ headVerdict n s w m ⌝ }
 {
-    if !deps_carried(w, m) {
+    if !all_carried(w, m) {
         return Verdict::Blamed(Blame::Length);
     }
     if !from_range(n, m) {
@@ -242,6 +267,9 @@ fn command_verdict(w: Row, m: Message, v: Vote) -> Verdict
     }
     if !key_ok(v.command) {
         return of(Field::Key);
+    }
+    if !second_ok(v.command) {
+        return of(Field::Second);
     }
     if !edit_ok(v.command) {
         return of(Field::Edit);
@@ -318,7 +346,7 @@ fn body_verdict(n: usize, s: usize, w: Row, o: usize, m: Message, v: Vote, j: u3
     if is_blamed(told) {
         return told;
     }
-    if !op_range(o) {
+    if !op_range(w, o) {
         return of(Field::Op);
     }
     let command = command_verdict(w, m, v);

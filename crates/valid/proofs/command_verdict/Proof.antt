@@ -50,8 +50,8 @@ returns-3 c =
     let op : c .before .before .before .before .both .result ≡ (freshOp (a .w) (a .m) (a .v) && implies (a .w .parts .told) (noneOp (a .v))) = cc in
     c .of2 .ensures ∙ present (c .before .before .before .before .before .before .before .before .before .before .before .args .w .parts .command) (c .before .before .before .before .before .before .before .before .if1 .left) (held op (blame.Of field.Op) _ (c .before .before .before .if2 .left) (failed (c .before .before .key-ok .ensures) (blame.Of field.Key) _ (c .before .if3 .taken)))
 
-edit-ok-requires : tie.Need-edit-ok-requires
-edit-ok-requires c κs = search needs
+second-ok-requires : tie.Need-second-ok-requires
+second-ok-requires c κs = search needs
 
 of-requires-3 : tie.Need-of-requires-3
 of-requires-3 c κs = search needs
@@ -61,14 +61,27 @@ unfolding commandVerdict
 returns-4 c =
     let a = c .before .before .before .before .before .before .before .before .before .before .before .before .before .args in
     let op : c .before .before .before .before .before .before .both .result ≡ (freshOp (a .w) (a .m) (a .v) && implies (a .w .parts .told) (noneOp (a .v))) = cc in
-    c .of3 .ensures ∙ present (c .before .before .before .before .before .before .before .before .before .before .before .before .before .args .w .parts .command) (c .before .before .before .before .before .before .before .before .before .before .if1 .left) (held op (blame.Of field.Op) _ (c .before .before .before .before .before .if2 .left) (held (c .before .before .before .before .key-ok .ensures) (blame.Of field.Key) _ (c .before .before .before .if3 .left) (failed (c .before .before .edit-ok .ensures) (blame.Of field.Edit) _ (c .before .if4 .taken))))
+    c .of3 .ensures ∙ present (c .before .before .before .before .before .before .before .before .before .before .before .before .before .args .w .parts .command) (c .before .before .before .before .before .before .before .before .before .before .if1 .left) (held op (blame.Of field.Op) _ (c .before .before .before .before .before .if2 .left) (held (c .before .before .before .before .key-ok .ensures) (blame.Of field.Key) _ (c .before .before .before .if3 .left) (failed (c .before .before .second-ok .ensures) (blame.Of field.Second) _ (c .before .if4 .taken))))
+
+edit-ok-requires : tie.Need-edit-ok-requires
+edit-ok-requires c κs = search needs
+
+of-requires-4 : tie.Need-of-requires-4
+of-requires-4 c κs = search needs
 
 returns-5 : tie.Need-returns-5
 unfolding commandVerdict
 returns-5 c =
-    let a = c .before .before .before .before .before .before .before .before .before .before .before .before .args in
-    let op : c .before .before .before .before .before .both .result ≡ (freshOp (a .w) (a .m) (a .v) && implies (a .w .parts .told) (noneOp (a .v))) = cc in
-    present (c .before .before .before .before .before .before .before .before .before .before .before .before .args .w .parts .command) (c .before .before .before .before .before .before .before .before .before .if1 .left) (held op (blame.Of field.Op) _ (c .before .before .before .before .if2 .left) (held (c .before .before .before .key-ok .ensures) (blame.Of field.Key) _ (c .before .before .if3 .left) (held (c .before .edit-ok .ensures) (blame.Of field.Edit) _ (c .if4 .left) refl)))
+    let a = c .before .before .before .before .before .before .before .before .before .before .before .before .before .before .before .args in
+    let op : c .before .before .before .before .before .before .before .before .both .result ≡ (freshOp (a .w) (a .m) (a .v) && implies (a .w .parts .told) (noneOp (a .v))) = cc in
+    c .of4 .ensures ∙ present (c .before .before .before .before .before .before .before .before .before .before .before .before .before .before .before .args .w .parts .command) (c .before .before .before .before .before .before .before .before .before .before .before .before .if1 .left) (held op (blame.Of field.Op) _ (c .before .before .before .before .before .before .before .if2 .left) (held (c .before .before .before .before .before .before .key-ok .ensures) (blame.Of field.Key) _ (c .before .before .before .before .before .if3 .left) (held (c .before .before .before .before .second-ok .ensures) (blame.Of field.Second) _ (c .before .before .before .if4 .left) (failed (c .before .before .edit-ok .ensures) (blame.Of field.Edit) _ (c .before .if5 .taken)))))
+
+returns-6 : tie.Need-returns-6
+unfolding commandVerdict
+returns-6 c =
+    let a = c .before .before .before .before .before .before .before .before .before .before .before .before .before .before .args in
+    let op : c .before .before .before .before .before .before .before .both .result ≡ (freshOp (a .w) (a .m) (a .v) && implies (a .w .parts .told) (noneOp (a .v))) = cc in
+    present (c .before .before .before .before .before .before .before .before .before .before .before .before .before .before .args .w .parts .command) (c .before .before .before .before .before .before .before .before .before .before .before .if1 .left) (held op (blame.Of field.Op) _ (c .before .before .before .before .before .before .if2 .left) (held (c .before .before .before .before .before .key-ok .ensures) (blame.Of field.Key) _ (c .before .before .before .before .if3 .left) (held (c .before .before .before .second-ok .ensures) (blame.Of field.Second) _ (c .before .before .if4 .left) (held (c .before .edit-ok .ensures) (blame.Of field.Edit) _ (c .if5 .left) refl))))
 
 pub command-verdict-spec : {M : Type 1} → statement M
 command-verdict-spec =
@@ -84,7 +97,10 @@ command-verdict-spec =
     key-ok-requires
     of-requires-2
     returns-3
-    edit-ok-requires
+    second-ok-requires
     of-requires-3
     returns-4
-    returns-5)
+    edit-ok-requires
+    of-requires-4
+    returns-5
+    returns-6)
