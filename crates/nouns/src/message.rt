@@ -363,7 +363,7 @@ pub fn has_field(p: Parts, f: Field) -> bool
         Field::Status => p.told,
         Field::Op => p.command,
         Field::Key => p.command,
-        Field::Second => p.second,
+        Field::Second => both(p.command, p.second),
         Field::Edit => p.command,
         Field::Entry(i) => both(p.deps, below(wide8(i), 7)),
         Field::Joined => p.joined,

@@ -211,6 +211,10 @@ module _ (n s c o : ℕ) (m : Message) (carried : depsCarried (rowIn (m .body)) 
   no-entry true l e h = clash (sym e ∙ h)
   no-entry false l e h = refl
 
+  short-kind : (t : Bool) → partsIn (m .body) .command ≡ t → (t && partsIn (m .body) .second) ≡ false → partsIn (m .body) .second ≡ false
+  short-kind true e h = h
+  short-kind false e h = no-second (m .body) e
+
   both-true : (t e : Bool) → implies t (implies e true) ≡ true
   both-true true true = refl
   both-true true false = refl
@@ -240,7 +244,7 @@ module _ (n s c o : ℕ) (m : Message) (carried : depsCarried (rowIn (m .body)) 
   absent ToldOp l f e h = rw (no-command (m .body) (gone e h)) (both-true (partsIn (m .body) .told) (eqb (voteIn m .status) 0))
   absent KeyRange l f e h = rw (no-command (m .body) (gone e h))
   absent SecondRange l f e h =
-      let none : partsIn (m .body) .second ≡ false = gone e h in
+      let none : partsIn (m .body) .second ≡ false = short-kind (partsIn (m .body) .command) refl (gone e h) in
       rw (sym (second-is (m .body)) ∙ none) (rw none at short)
   absent EditRange l f e h = rw (no-command (m .body) (gone e h))
   absent (EntryRange i) l f e h =

@@ -6,8 +6,8 @@ use Prim.Native.Nat.{ℕ, _^_, _<_}
 use native.Mathlib.Omega.{arith}
 use Rattle.numbers.specs.Num.{numAt, Bytes}
 use Rattle.numbers.proofs.Laws.{numAt-small}
-use Rattle.codec.specs.Parts.{commandAt, depsAt}
-use Rattle.codec.proofs.Laws.{depsAt-fits}
+use Rattle.codec.specs.Parts.{sentAt, depsAt}
+use Rattle.codec.proofs.Laws.{sentAt-fits, depsAt-fits}
 use Rattle.paper.specs.Command.{noop}
 use Rattle.paper.specs.Deps.{noDeps}
 use Rattle.paper.specs.Fits.{CommandFits, DepsFit, CarriedFits, MessageFits}
@@ -24,7 +24,7 @@ read-fits true x w h z = h
 read-fits false x w h z = z
 
 carriedAt-fits : (p : Parts) (b : List ℕ) → Bytes b → CarriedFits (carriedAt p b)
-unfolding carriedAt kept commandAt
+unfolding carriedAt kept
 carriedAt-fits p b h =
     let n : (w i : ℕ) → numAt w b i < 256 ^ w = λ w i. numAt-small w b i h in
     record {
@@ -34,9 +34,9 @@ carriedAt-fits p b h =
       joined = read-fits (p .joined) _ _ (n 4 _) (omega arith);
     }
   where
-    command : (t : Bool) → CommandFits (cond t (commandAt b (commandStart p 10)) noop)
-    command true = record { key = numAt-small 4 b _ h; edit = numAt-small 8 b _ h }
-    command false = record { key = omega arith; edit = omega arith }
+    command : (t : Bool) → CommandFits (cond t (sentAt (p .second) b (commandStart p 10)) noop)
+    command true = sentAt-fits (p .second) b _ h
+    command false = record { key = omega arith; second = omega arith; edit = omega arith }
 
 body-fits : (k : ℕ) (b : List ℕ) → Bytes b → rowOf k .known ≡ true → CarriedFits (carriedIn (bodyAt k b))
 unfolding carriedAt

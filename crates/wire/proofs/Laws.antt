@@ -1,6 +1,6 @@
 -- The places of the parts, lengths of messages, and the outcomes of the two calls, one law each. Assumes nothing.
 use mathlib.Core.Path.{_≡_, refl, sym, ap, _∙_}
-use mathlib.Core.Bool.{Bool, true, false, _||_, not, cond, and-eq-true-iff}
+use mathlib.Core.Bool.{Bool, true, false, _&&_, _||_, not, cond, and-eq-true-iff}
 use mathlib.Core.List.{List, [], _∷_, _++_}
 use Prim.Native.Nat.{ℕ, _+_, _≤_, _<_}
 use native.Mathlib.Omega.{arith}
@@ -9,11 +9,13 @@ use lib.ListN.{length, length-append}
 use borrow.Author.Tests.{leb-true, eqb-true, eq-eqb, ne-eqb, lt-ltb, le-ltb}
 use Rattle.numbers.specs.Num.{splice}
 use Rattle.numbers.specs.Fields.{sizeOf}
-use Rattle.codec.specs.Parts.{commandWidths, depsWidths, commandBytes, depsBytes}
+use Rattle.codec.specs.Parts.{sentWidths, depsWidths, sentBytes, depsBytes}
+use Rattle.codec.proofs.Laws.{length-sentBytes, sentAt-rewire}
 use Rattle.paper.specs.Refusal.{numberOf}
 use Rattle.paper.specs.Setup.{setupOk}
-use Rattle.paper.specs.Message.{rowOf, rowIn, partsOf, partsIn, kindOf, carriedIn}
-use Rattle.paper.specs.Valid.{opIn, valid, verdictOn}
+use Rattle.paper.specs.Command.{isRewire}
+use Rattle.paper.specs.Message.{rowOf, rowIn, partsOf, partsIn, kindOf, carriedIn, kept}
+use Rattle.paper.specs.Valid.{opRange, opIn, valid, verdictOn}
 use Rattle.paper.specs.declared.Refusal.{Refusal}
 use Rattle.paper.specs.declared.Refusal.the-variants.{Setup, Room}
 use Rattle.paper.specs.declared.Refusal.the-variants as why
@@ -30,7 +32,7 @@ use Rattle.paper.specs.declared.Verdict.the-variants as verdict
 use Rattle.paper.proofs.Laws.{and-true}
 use Rattle.paper.proofs.Valid.{isValid, valid-verdict, op-fits}
 use Rattle.paper.proofs.Bodies.{allOf, everyRow, every-row, kind-is}
-use Rattle.wire.specs.Wire.{toldWidths, joinedWidths, headSize, past, commandStart, depsStart, joinedStart, restEnd, kindAt, lengthOf, part, toldBytes, joinedBytes, restBytes, headBytes, carriedAt, messageAt, messageBytes, framed, OfKind, opAt, validBytes, verdictAt}
+use Rattle.wire.specs.Wire.{toldWidths, joinedWidths, headSize, past, commandStart, depsStart, joinedStart, restEnd, kindAt, lengthOf, part, toldBytes, joinedBytes, restBytes, headBytes, carriedAt, bodyAt, messageAt, messageBytes, framed, OfKind, opAt, editInCommand, validBytes, verdictAt}
 use Rattle.wire.specs.Calls.{unread, refusalOf, unlessBlamed, readMessage, unwritten, Wrote, writeUnlessBlamed, wrote}
 
 -- a part moves what stands after it by its bytes or not at all
@@ -75,13 +77,27 @@ module _ (b : Bool) (ws : List ℕ) (at : ℕ) where
       go true = omega arith
       go false = omega arith
 
+-- a command in a message is 13 or 17 bytes long
+pub sent-least : (second : Bool) → 13 ≤ sizeOf (sentWidths second)
+sent-least true = omega arith
+sent-least false = omega arith
+
+pub sent-most : (second : Bool) → sizeOf (sentWidths second) ≤ 17
+sent-most true = omega arith
+sent-most false = omega arith
+
+-- its edit stands last
+pub edit-last : (second : Bool) → editInCommand second + 8 ≡ sizeOf (sentWidths second)
+edit-last true = refl
+edit-last false = refl
+
 -- each part that is there stands before the end, and the end is near
 module _ (p : Parts) (at : ℕ) where
   pub at-told : at ≤ commandStart p at
   at-told = past-over (p .told) toldWidths at
 
   pub at-command : commandStart p at ≤ depsStart p at
-  at-command = past-over (p .command) commandWidths (commandStart p at)
+  at-command = past-over (p .command) (sentWidths (p .second)) (commandStart p at)
 
   pub at-deps : depsStart p at ≤ joinedStart p at
   at-deps = past-over (p .deps) depsWidths (depsStart p at)
@@ -95,8 +111,8 @@ module _ (p : Parts) (at : ℕ) where
   pub told-room : p .told ≡ true → at + 5 ≤ restEnd p at
   told-room e = omega (arith, past-there (p .told) toldWidths at e, at-command, at-deps, at-joined)
 
-  pub command-room : p .command ≡ true → commandStart p at + 13 ≤ restEnd p at
-  command-room e = omega (arith, past-there (p .command) commandWidths (commandStart p at) e, at-deps, at-joined)
+  pub command-room : p .command ≡ true → commandStart p at + sizeOf (sentWidths (p .second)) ≤ restEnd p at
+  command-room e = omega (arith, past-there (p .command) (sentWidths (p .second)) (commandStart p at) e, at-deps, at-joined)
 
   pub deps-room : p .deps ≡ true → depsStart p at + 14 ≤ restEnd p at
   deps-room e = omega (arith, past-there (p .deps) depsWidths (depsStart p at) e, at-joined)
@@ -107,29 +123,29 @@ module _ (p : Parts) (at : ℕ) where
   pub command-near : commandStart p at ≤ at + 5
   command-near = past-most (p .told) toldWidths at
 
-  pub deps-near : depsStart p at ≤ at + 18
-  deps-near = omega (arith, past-most (p .command) commandWidths (commandStart p at), command-near)
+  pub deps-near : depsStart p at ≤ at + 22
+  deps-near = omega (arith, past-most (p .command) (sentWidths (p .second)) (commandStart p at), sent-most (p .second), command-near)
 
-  pub joined-near : joinedStart p at ≤ at + 32
+  pub joined-near : joinedStart p at ≤ at + 36
   joined-near = omega (arith, past-most (p .deps) depsWidths (depsStart p at), deps-near)
 
   pub end-further : (k : ℕ) → restEnd p (k + at) ≡ k + restEnd p at
   end-further k =
-      rw (past-further (p .told) toldWidths at k, past-further (p .command) commandWidths (commandStart p at) k, past-further (p .deps) depsWidths (depsStart p at) k)
+      rw (past-further (p .told) toldWidths at k, past-further (p .command) (sentWidths (p .second)) (commandStart p at) k, past-further (p .deps) depsWidths (depsStart p at) k)
       (past-further (p .joined) joinedWidths (joinedStart p at) k)
 
 pub ten : (k : ℕ) → 10 ≤ lengthOf k
 unfolding lengthOf
 ten k = begins (partsOf k) 10
 
--- no kind is longer than 42 bytes; one that tells of no ballot and status is at most 37
-pub long-enough : (k : ℕ) → lengthOf k ≤ 42
+-- no kind is longer than 46 bytes; one that tells of no ballot and status is at most 41
+pub long-enough : (k : ℕ) → lengthOf k ≤ 46
 unfolding lengthOf past everyRow allOf
-long-enough k = leb-true _ _ (every-row (λ r. leb (restEnd (r .parts) headSize) 42) refl k)
+long-enough k = leb-true _ _ (every-row (λ r. leb (restEnd (r .parts) headSize) 46) refl k)
 
-pub untold-short : (k : ℕ) → partsOf k .told ≡ false → lengthOf k ≤ 37
+pub untold-short : (k : ℕ) → partsOf k .told ≡ false → lengthOf k ≤ 41
 unfolding lengthOf past everyRow allOf
-untold-short k e = leb-true (lengthOf k) 37 (or-right (partsOf k .told) _ e (every-row (λ r. r .parts .told || leb (restEnd (r .parts) headSize) 37) refl k))
+untold-short k e = leb-true (lengthOf k) 41 (or-right (partsOf k .told) _ e (every-row (λ r. r .parts .told || leb (restEnd (r .parts) headSize) 41) refl k))
   where
     or-right : (a b : Bool) → a ≡ false → (a || b) ≡ true → b ≡ true
     or-right a b e h = rw e at h
@@ -145,6 +161,14 @@ framed-is b h =
     let p = and-eq-true-iff (rowOf (kindAt b) .known) _ .0 h in
     record { known = p .0; exact = eqb-true _ _ (p .1) }
 
+-- the command that is read is one that the kind carries, so the kind is the message's
+pub carried-fits : (p : Parts) (b : List ℕ) → p .command ≡ true → isRewire (carriedAt p b .command) ≡ p .second
+unfolding carriedAt kept
+carried-fits p b e = rw e (sentAt-rewire (p .second) b (commandStart p headSize))
+
+pub kind-held : (b : List ℕ) → rowOf (kindAt b) .known ≡ true → kindOf (bodyAt (kindAt b) b) ≡ kindAt b
+kind-held b known = kind-is (kindAt b) (carriedAt (partsOf (kindAt b)) b) known (carried-fits (partsOf (kindAt b)) b)
+
 -- what the reader has of them: their kind, its row, and with that the row of the message that they hold
 module _ (b : List ℕ) (k : ℕ) (r : Row) (kind : k ≡ kindAt b) (row : r ≡ rowOf k) (h : framed b ≡ true) where
   pub of-kind : OfKind k (r .parts) b
@@ -155,7 +179,7 @@ module _ (b : List ℕ) (k : ℕ) (r : Row) (kind : k ≡ kindAt b) (row : r ≡
 
   pub row-held : r ≡ rowIn (messageAt b .body)
   unfolding messageAt
-  row-held = row ∙ ap rowOf (kind ∙ sym (kind-is (kindAt b) (carriedAt (partsOf (kindAt b)) b) (framed-is b h .known)))
+  row-held = row ∙ ap rowOf (kind ∙ sym (kind-held b (framed-is b h .known)))
 
 pub length-headBytes : (m : Message) → length (headBytes m) ≡ 10
 unfolding headBytes
@@ -166,9 +190,8 @@ module _ (p : Parts) (x : Carried) (d : List ℕ) (at : ℕ) where
   pub told-size : at + length (part (p .told) (toldBytes x)) ≡ commandStart p at
   told-size = past-part (p .told) toldWidths at (toldBytes x) refl
 
-  pub command-size : commandStart p at + length (part (p .command) (commandBytes (x .command))) ≡ depsStart p at
-  unfolding commandBytes
-  command-size = past-part (p .command) commandWidths (commandStart p at) (commandBytes (x .command)) refl
+  pub command-size : commandStart p at + length (part (p .command) (sentBytes (p .second) (x .command))) ≡ depsStart p at
+  command-size = past-part (p .command) (sentWidths (p .second)) (commandStart p at) (sentBytes (p .second) (x .command)) (length-sentBytes (p .second) (x .command))
 
   pub deps-size : depsStart p at + length (part (p .deps) (depsBytes d)) ≡ joinedStart p at
   unfolding depsBytes
@@ -186,10 +209,10 @@ module _ (p : Parts) (x : Carried) (d h : List ℕ) (at : ℕ) (e : length h ≡
   pub told-ends : length (h ++ part (p .told) (toldBytes x)) ≡ commandStart p at
   told-ends = simp length-append (omega (arith, e, told-size p x d at))
 
-  pub command-ends : length (h ++ part (p .told) (toldBytes x) ++ part (p .command) (commandBytes (x .command))) ≡ depsStart p at
+  pub command-ends : length (h ++ part (p .told) (toldBytes x) ++ part (p .command) (sentBytes (p .second) (x .command))) ≡ depsStart p at
   command-ends = simp length-append (omega (arith, e, told-size p x d at, command-size p x d at))
 
-  pub deps-ends : length (h ++ part (p .told) (toldBytes x) ++ part (p .command) (commandBytes (x .command)) ++ part (p .deps) (depsBytes d)) ≡ joinedStart p at
+  pub deps-ends : length (h ++ part (p .told) (toldBytes x) ++ part (p .command) (sentBytes (p .second) (x .command)) ++ part (p .deps) (depsBytes d)) ≡ joinedStart p at
   deps-ends = simp length-append (omega (arith, e, told-size p x d at, command-size p x d at, deps-size p x d at))
 
   pub rest-ends : length (h ++ restBytes p x d) ≡ restEnd p at
@@ -219,6 +242,10 @@ module _ (n s c : ℕ) (b : List ℕ) where
   unfolding readMessage verdictAt framed
   received-rest p h = let (k, l) = and-true (rowOf (kindAt b) .known) _ h in rw (p, k, l)
 
+  kind-read : rowOf (kindAt b) .known ≡ true → kindOf (messageAt b .body) ≡ kindAt b
+  unfolding messageAt
+  kind-read p = kind-held b p
+
   -- no reason is given for what is valid, and one for everything else
   pub valid-bytes : isValid (verdictAt n s c b) ≡ validBytes n s c b
   unfolding verdictAt validBytes framed
@@ -227,7 +254,9 @@ module _ (n s c : ℕ) (b : List ℕ) where
       go : (k : Bool) → rowOf (kindAt b) .known ≡ k → (l : Bool) → eqb (length b) (lengthOf (kindAt b)) ≡ l → isValid (verdictAt n s c b) ≡ validBytes n s c b
       go false p l q = rw p
       go true p false q = rw (p, q)
-      go true p true q = rw (p, q) (valid-verdict n s c (opAt (partsOf (kindAt b)) b) (messageAt b))
+      go true p true q =
+          let held : partsIn (messageAt b .body) .second ≡ partsOf (kindAt b) .second = ap (λ (k : ℕ). partsOf k .second) (kind-read p) in
+          rw (p, q) (valid-verdict n s c (opAt (partsOf (kindAt b)) b) (messageAt b) ∙ ap (λ (t : Bool). opRange t (opAt (partsOf (kindAt b)) b) && valid n s c (messageAt b)) held)
 
 -- the refusal of a verdict that blames; of one that does not it is never asked
 pub whyOf : Parts → Verdict → Refusal

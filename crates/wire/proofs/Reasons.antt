@@ -8,6 +8,8 @@ use native.Mathlib.Omega.{arith}
 use lib.Dec.{eqb}
 use lib.ListN.{length}
 use borrow.Author.Tests.{ltb-true}
+use Rattle.numbers.specs.Fields.{sizeOf}
+use Rattle.codec.specs.Parts.{sentWidths}
 use Rattle.paper.specs.Setup.{setupOk}
 use Rattle.paper.specs.Message.{rowOf, partsOf, partsIn}
 use Rattle.paper.specs.Valid.{Clause, holds, entryClauses, clauses, firstFailing, blameOf, verdictOn, hasField}
@@ -21,14 +23,14 @@ use Rattle.paper.specs.declared.Verdict.the-variants as verdict
 use Rattle.paper.specs.declared.Refusal.{Refusal}
 use Rattle.paper.specs.declared.Refusal.the-variants as why
 use Rattle.paper.proofs.Laws.{and-true}
-use Rattle.paper.proofs.Bodies.{allOf, everyRow, every-row, kind-is}
-use Rattle.paper.proofs.First.{In, rising, first-of, named, named-carried, blamed-has}
+use Rattle.paper.proofs.Bodies.{allOf, everyRow, every-row}
+use Rattle.paper.proofs.First.{In, rising, first-of, named, named-carried, named-short, blamed-has}
 use Rattle.wire.specs.declared.Reading.{Reading}
 use Rattle.wire.specs.declared.Reading.the-variants as reading
 use Rattle.wire.specs.declared.Received.{Received}
-use Rattle.wire.specs.Wire.{headSize, past, restEnd, lengthOf, kindAt, carriedAt, messageAt, framed, opAt, offsetOf, widthOf, verdictAt}
+use Rattle.wire.specs.Wire.{headSize, past, restEnd, lengthOf, kindAt, messageAt, framed, opAt, offsetOf, widthOf, verdictAt}
 use Rattle.wire.specs.Calls.{unread, unlessBlamed, readMessage}
-use Rattle.wire.proofs.Laws.{begins, told-room, command-room, deps-room, joined-room, framed-is}
+use Rattle.wire.proofs.Laws.{begins, told-room, command-room, sent-least, edit-last, deps-room, joined-room, framed-is, kind-held}
 
 -- a field stands within a message that has it
 pub field-room : (p : Parts) (f : Field) → hasField p f ≡ true → offsetOf p f + widthOf f ≤ restEnd p headSize
@@ -39,9 +41,13 @@ field-room p field.Number h = omega (arith, begins p 10)
 field-room p field.Ballot h = omega (arith, begins p 10)
 field-room p field.Voted h = omega (arith, told-room p 10 h)
 field-room p field.Status h = omega (arith, told-room p 10 h)
-field-room p field.Op h = omega (arith, command-room p 10 h)
-field-room p field.Key h = omega (arith, command-room p 10 h)
-field-room p field.Edit h = omega (arith, command-room p 10 h)
+field-room p field.Op h = omega (arith, command-room p 10 h, sent-least (p .second))
+field-room p field.Key h = omega (arith, command-room p 10 h, sent-least (p .second))
+field-room p field.Second h =
+    let (k, t) = and-true (p .command) _ h in
+    let long : sizeOf (sentWidths (p .second)) ≡ 17 = rw t in
+    omega (arith, command-room p 10 k, long)
+field-room p field.Edit h = omega (arith, command-room p 10 h, edit-last (p .second))
 field-room p (field.Entry i) h = let (d, l) = and-true (p .deps) _ h in omega (arith, deps-room p 10 d, ltb-true i 7 l)
 field-room p field.Joined h = omega (arith, joined-room p 10 h)
 
@@ -81,7 +87,7 @@ pub record FirstBad (n s c : ℕ) (b : List ℕ) (a : ℕ) : Type 0 where
 -- the message that framed bytes hold has the parts of their kind
 parts-held : (b : List ℕ) → framed b ≡ true → partsIn (messageAt b .body) ≡ partsOf (kindAt b)
 unfolding messageAt
-parts-held b h = ap partsOf (kind-is (kindAt b) (carriedAt (partsOf (kindAt b)) b) (framed-is b h .known))
+parts-held b h = ap partsOf (kind-held b (framed-is b h .known))
 
 module _ (n s c : ℕ) (b : List ℕ) (h : framed b ≡ true) where
   abbrev p : Parts
@@ -100,8 +106,9 @@ module _ (n s c : ℕ) (b : List ℕ) (h : framed b ≡ true) where
       let k = named n s c (opAt p b) (messageAt b) (blame.Of g) e in
       let x : Clause = k .clause in
       let carried = named-carried n s c (opAt p b) (messageAt b) g k in
+      let short = named-short n s c (opAt p b) (messageAt b) g k in
       let has : hasField p g ≡ true =
-      rw (← parts-held b h) (blamed-has n s c (opAt p b) (messageAt b) carried no-op x (k .is .listed) (k .is .fails) g (k .blames)) in
+      rw (← parts-held b h) (blamed-has n s c (opAt p b) (messageAt b) carried short no-op x (k .is .listed) (k .is .fails) g (k .blames)) in
       let r = first-of (λ y. aboutField p (blameOf y)) (λ y. offsetIn p (blameOf y)) f 0 clauses x (in-order (kindAt b)) (k .failing) in
       let counts : aboutField p (blameOf x) ≡ true = ap (aboutField p) (k .blames) ∙ has in
       let here : offsetIn p (blameOf x) ≡ offsetOf p g = ap (offsetIn p) (k .blames) in

@@ -7,22 +7,23 @@ use native.Mathlib.Omega.{arith}
 use lib.Dec.{leb, ltb}
 use lib.ListN.{length, getD, take, drop, take-append-drop, length-drop}
 use lib.Seq.{take-all, take-add, drop-drop}
-use borrow.Author.Tests.{leb-true, le-leb, eq-eqb, eqb-true, ltb-false}
+use borrow.Author.Tests.{eq-eqb, eqb-true, ltb-false}
 use Rattle.numbers.specs.Num.{numAt, splice}
 use Rattle.numbers.specs.Fields.{sizeOf, fieldsAt, FieldsFit}
 use Rattle.numbers.proofs.Laws.{splice-same}
 use Rattle.numbers.proofs.Fields.{fieldsAt-fieldsBytes, fieldsBytes-fieldsAt}
-use Rattle.codec.specs.Parts.{commandWidths, depsWidths, commandNumbers, commandOf, commandAt, commandBytes, depsAt, depsBytes}
-use Rattle.codec.proofs.Laws.{op-small, command-is, depsAt-depsBytes, commandBytes-commandAt, depsBytes-depsAt}
-use Rattle.paper.specs.Command.{noop}
+use Rattle.codec.specs.Parts.{sentWidths, sentNumbers, sentOf, sentAt, sentBytes, depsWidths, depsAt, depsBytes}
+use Rattle.codec.proofs.Laws.{Sendable, sent-is, sentNumbers-fit, sentBytes-sentAt, depsAt-depsBytes, depsBytes-depsAt}
+use Rattle.paper.specs.Command.{opNumber, noop}
 use Rattle.paper.specs.Deps.{noDeps, sameDeps}
 use Rattle.paper.specs.Setup.{copiesOk, numbersOk, copyOk, setupOk}
 use Rattle.paper.specs.Fits.{DepsFit, CarriedFits, MessageFits}
-use Rattle.paper.specs.Message.{rowIn, partsOf, partsIn, kindOf, carriedIn, bodyOf, kept}
-use Rattle.paper.specs.Valid.{valid, depsCarried}
+use Rattle.paper.specs.Message.{rowIn, partsOf, partsIn, kindOf, carriedIn, commandIn, voteIn, bodyOf, kept}
+use Rattle.paper.specs.Valid.{opRange, valid, depsCarried, secondCarried}
 use Rattle.paper.proofs.Laws.{and-true, sameDeps-eq}
-use Rattle.paper.proofs.Bodies.{kind-small, kind-known, body-is, kind-is, carried-is, carried-kept, kept-kept}
-use Rattle.paper.proofs.Valid.{clauses-of}
+use Rattle.paper.proofs.Bodies.{kind-small, kind-known, body-is, second-is, no-second, carried-is, carried-kept, kept-kept}
+use Rattle.paper.proofs.Valid.{clauses-of, op-fits}
+use Rattle.paper.specs.declared.Command.{Command}
 use Rattle.paper.specs.declared.Carried.{Carried}
 use Rattle.paper.specs.declared.Parts.{Parts}
 use Rattle.paper.specs.declared.Message.{Message}
@@ -33,7 +34,7 @@ use Rattle.wire.specs.declared.Received.{Received}
 use Rattle.wire.specs.declared.Writing.the-variants as writing
 use Rattle.wire.specs.Wire.{headWidths, toldWidths, joinedWidths, headNumbers, past, commandStart, depsStart, joinedStart, restEnd, lengthOf, part, toldBytes, joinedBytes, headBytes, restBytes, messageBytes, kindAt, carriedAt, besideAt, bodyAt, messageAt, framed, opAt, opFits, validBytes}
 use Rattle.wire.specs.Calls.{unread, readMessage, unwritten, Wrote, wrote, writingCount}
-use Rattle.wire.proofs.Laws.{past-over, told-room, command-room, deps-room, joined-room, ten, long-enough, Framed, framed-is, length-headBytes, told-ends, command-ends, deps-ends, length-messageBytes, whyRead, whyWritten, read-is, wrote-is, wrote-ok}
+use Rattle.wire.proofs.Laws.{past-over, told-room, command-room, deps-room, joined-room, ten, long-enough, Framed, framed-is, kind-held, length-headBytes, told-ends, command-ends, deps-ends, length-messageBytes, whyRead, whyWritten, read-is, wrote-is, wrote-ok}
 
 -- each number fits its field
 headNumbers-fit : (m : Message) → MessageFits m → FieldsFit headWidths (headNumbers m)
@@ -46,12 +47,12 @@ same-where true u v z h = h refl
 same-where false u v z h = refl
 
 -- what the parts of a written rest read as
-module _ (p : Parts) (x : Carried) (d h : List ℕ) (e : length h ≡ 10) (fx : CarriedFits x) (fd : DepsFit d) where
+module _ (p : Parts) (x : Carried) (d h : List ℕ) (e : length h ≡ 10) (fx : CarriedFits x) (fd : DepsFit d) (sx : Sendable (p .second) (x .command)) where
   abbrev told : List ℕ
   told = part (p .told) (toldBytes x)
 
   abbrev command : List ℕ
-  command = part (p .command) (commandBytes (x .command))
+  command = part (p .command) (sentBytes (p .second) (x .command))
 
   abbrev deps : List ℕ
   deps = part (p .deps) (depsBytes d)
@@ -70,15 +71,15 @@ module _ (p : Parts) (x : Carried) (d h : List ℕ) (e : length h ≡ 10) (fx : 
       ap (λ (l : List ℕ). fieldsAt toldWidths l 10) u
       ∙ fieldsAt-fieldsBytes toldWidths (x .voted ∷ x .status ∷ []) h (command ++ (deps ++ joined)) 10 e (fx .voted, (omega (arith, fx .status), tt))
 
-  command-reads : p .command ≡ true → fieldsAt commandWidths all (commandStart p 10) ≡ commandNumbers (x .command)
-  unfolding restBytes commandBytes
+  command-reads : p .command ≡ true → fieldsAt (sentWidths (p .second)) all (commandStart p 10) ≡ sentNumbers (p .second) (x .command)
+  unfolding restBytes sentBytes
   command-reads t =
       let s : all ≡ h ++ told ++ (command ++ (deps ++ joined)) = simp append-assoc in
-      let u : all ≡ h ++ told ++ (commandBytes (x .command) ++ (deps ++ joined)) =
-      s ∙ ap (λ (b : Bool). h ++ told ++ (part b (commandBytes (x .command)) ++ (deps ++ joined))) t in
-      ap (λ (l : List ℕ). fieldsAt commandWidths l (commandStart p 10)) u
-      ∙ fieldsAt-fieldsBytes commandWidths (commandNumbers (x .command)) (h ++ told) (deps ++ joined) (commandStart p 10) (told-ends p x d h 10 e)
-      (omega (arith, op-small (x .command .op)), (fx .command .key, (fx .command .edit, tt)))
+      let u : all ≡ h ++ told ++ (sentBytes (p .second) (x .command) ++ (deps ++ joined)) =
+      s ∙ ap (λ (b : Bool). h ++ told ++ (part b (sentBytes (p .second) (x .command)) ++ (deps ++ joined))) t in
+      ap (λ (l : List ℕ). fieldsAt (sentWidths (p .second)) l (commandStart p 10)) u
+      ∙ fieldsAt-fieldsBytes (sentWidths (p .second)) (sentNumbers (p .second) (x .command)) (h ++ told) (deps ++ joined) (commandStart p 10) (told-ends p x d h 10 e)
+      (sentNumbers-fit (p .second) (x .command) (fx .command))
 
   deps-reads : p .deps ≡ true → depsAt all (depsStart p 10) ≡ d
   unfolding restBytes
@@ -96,11 +97,11 @@ module _ (p : Parts) (x : Carried) (d h : List ℕ) (e : length h ≡ 10) (fx : 
       ∙ fieldsAt-fieldsBytes joinedWidths (x .joined ∷ []) (h ++ told ++ command ++ deps) [] (joinedStart p 10) (deps-ends p x d h 10 e) (fx .joined, tt)
 
   rest-carried : carriedAt p all ≡ kept p x
-  unfolding carriedAt kept commandAt
+  unfolding carriedAt kept sentAt
   rest-carried = λ i. record {
     voted = same-where (p .told) (numAt 4 all 10) (x .voted) 0 (λ t. ap (λ (l : List ℕ). getD l 0 0) (told-reads t)) i;
     status = same-where (p .told) (numAt 1 all 14) (x .status) 0 (λ t. ap (λ (l : List ℕ). getD l 1 0) (told-reads t)) i;
-    command = same-where (p .command) (commandAt all (commandStart p 10)) (x .command) noop (λ t. ap commandOf (command-reads t) ∙ command-is (x .command)) i;
+    command = same-where (p .command) (sentAt (p .second) all (commandStart p 10)) (x .command) noop (λ t. ap (sentOf (p .second)) (command-reads t) ∙ sent-is (p .second) (x .command) sx) i;
     joined = same-where (p .joined) (numAt 4 all (joinedStart p 10)) (x .joined) 0 (λ t. ap (λ (l : List ℕ). getD l 0 0) (joined-reads t)) i;
   }
 
@@ -108,16 +109,25 @@ module _ (p : Parts) (x : Carried) (d h : List ℕ) (e : length h ≡ 10) (fx : 
   unfolding besideAt
   rest-beside = same-where (p .deps) (depsAt all (depsStart p 10)) d noDeps deps-reads
 
-  rest-op : opAt p all ≤ 2
+  -- the op byte is the command's op, where there is one
+  rest-op : p .command ≡ true → opAt p all ≡ opNumber (x .command .op)
   unfolding opAt
-  rest-op = go (p .command) refl
+  rest-op t = (rw t) ∙ op-first (p .second) (commandStart p 10) ∙ ap (λ (l : List ℕ). getD l 0 0) (command-reads t) ∙ sent-first (p .second) (x .command)
     where
-      go : (b : Bool) → p .command ≡ b → cond b (numAt 1 all (commandStart p 10)) 0 ≤ 2
-      go true t = rw (ap (λ (l : List ℕ). getD l 0 0) (command-reads t)) (op-small (x .command .op))
-      go false t = omega arith
+      op-first : (b : Bool) (at : ℕ) → numAt 1 all at ≡ getD (fieldsAt (sentWidths b) all at) 0 0
+      op-first true at = refl
+      op-first false at = refl
+
+      sent-first : (b : Bool) (k : Command) → getD (sentNumbers b k) 0 0 ≡ opNumber (k .op)
+      sent-first true k = refl
+      sent-first false k = refl
+
+-- a command that its kind carries whole
+sendable : (m : Message) → secondCarried (rowIn (m .body)) (voteIn m) ≡ true → Sendable (partsIn (m .body) .second) (commandIn (m .body))
+sendable m h = record { rewire = sym (second-is (m .body)); none = λ e. eqb-true (commandIn (m .body) .second) 0 (rw e at h) }
 
 -- what a written message reads as
-module _ (m : Message) (f : MessageFits m) where
+module _ (m : Message) (f : MessageFits m) (short : secondCarried (rowIn (m .body)) (voteIn m) ≡ true) where
   head-reads : fieldsAt headWidths (messageBytes m) 0 ≡ headNumbers m
   unfolding messageBytes headBytes
   head-reads =
@@ -134,14 +144,14 @@ module _ (m : Message) (f : MessageFits m) where
   body-reads =
       ap (λ (k : ℕ). bodyAt k (messageBytes m)) kind-reads
       ∙ ap (bodyOf (kindOf (m .body)))
-      (rest-carried (partsIn (m .body)) (carriedIn (m .body)) (m .deps) (headBytes m) (length-headBytes m) (f .body) (f .deps) ∙ carried-kept (m .body))
+      (rest-carried (partsIn (m .body)) (carriedIn (m .body)) (m .deps) (headBytes m) (length-headBytes m) (f .body) (f .deps) (sendable m short) ∙ carried-kept (m .body))
       ∙ body-is (m .body)
 
   beside-reads : depsCarried (rowIn (m .body)) m ≡ true → besideAt (partsOf (kindAt (messageBytes m))) (messageBytes m) ≡ m .deps
   unfolding messageBytes
   beside-reads h =
       ap (λ (k : ℕ). besideAt (partsOf k) (messageBytes m)) kind-reads
-      ∙ rest-beside (partsIn (m .body)) (carriedIn (m .body)) (m .deps) (headBytes m) (length-headBytes m) (f .body) (f .deps)
+      ∙ rest-beside (partsIn (m .body)) (carriedIn (m .body)) (m .deps) (headBytes m) (length-headBytes m) (f .body) (f .deps) (sendable m short)
       ∙ go (partsIn (m .body) .deps) h
     where
       go : (b : Bool) → (b || sameDeps (m .deps) noDeps) ≡ true → cond b (m .deps) noDeps ≡ m .deps
@@ -169,10 +179,16 @@ module _ (m : Message) (f : MessageFits m) where
       rw (k, l, kind-known (m .body)) (eq-eqb (lengthOf (kindOf (m .body))) (lengthOf (kindOf (m .body))) refl)
 
   op-written : opFits (messageBytes m) ≡ true
-  unfolding messageBytes
+  unfolding messageBytes opAt
   op-written =
-      ap (λ (k : ℕ). leb (opAt (partsOf k) (messageBytes m)) 2) kind-reads
-      ∙ le-leb _ 2 (rest-op (partsIn (m .body)) (carriedIn (m .body)) (m .deps) (headBytes m) (length-headBytes m) (f .body) (f .deps))
+      ap (λ (k : ℕ). opRange (partsOf k .second) (opAt (partsOf k) (messageBytes m))) kind-reads ∙ go (partsIn (m .body) .command) refl
+    where
+      go : (t : Bool) → partsIn (m .body) .command ≡ t → opRange (partsIn (m .body) .second) (opAt (partsIn (m .body)) (messageBytes m)) ≡ true
+      go true e =
+          let o = rest-op (partsIn (m .body)) (carriedIn (m .body)) (m .deps) (headBytes m) (length-headBytes m) (f .body) (f .deps) (sendable m short) e in
+          ap (opRange (partsIn (m .body) .second)) o ∙ op-fits 0 0 0 m
+      go false e = rw (no-second (m .body) e, e)
+
 
 -- the bytes from one place to another
 abbrev span : List ℕ → ℕ → ℕ → List ℕ
@@ -190,7 +206,7 @@ span-part s true ws l at h = let n : at + sizeOf ws - at ≡ sizeOf ws = omega a
 span-part s false ws l at h = let n : at - at ≡ 0 = omega arith in rw n
 
 -- the parts of bytes of their length write back as these bytes
-module _ (p : Parts) (b : List ℕ) (byte : (i : ℕ) → getD b i 0 < 256) (l : length b ≡ restEnd p 10) (o : opAt p b ≤ 2) where
+module _ (p : Parts) (b : List ℕ) (byte : (i : ℕ) → getD b i 0 < 256) (l : length b ≡ restEnd p 10) (o : opRange (p .second) (opAt p b) ≡ true) where
   told-back : part (p .told) (toldBytes (carriedAt p b)) ≡ span b 10 (commandStart p 10)
   unfolding carriedAt kept
   told-back = span-part b (p .told) toldWidths (toldBytes (carriedAt p b)) 10 go
@@ -198,12 +214,12 @@ module _ (p : Parts) (b : List ℕ) (byte : (i : ℕ) → getD b i 0 < 256) (l :
       go : p .told ≡ true → toldBytes (carriedAt p b) ≡ take 5 (drop 10 b)
       go t = rw t (fieldsBytes-fieldsAt toldWidths b 10 byte (omega (arith, l, told-room p 10 t)))
 
-  command-back : part (p .command) (commandBytes (carriedAt p b .command)) ≡ span b (commandStart p 10) (depsStart p 10)
+  command-back : part (p .command) (sentBytes (p .second) (carriedAt p b .command)) ≡ span b (commandStart p 10) (depsStart p 10)
   unfolding carriedAt kept opAt
-  command-back = span-part b (p .command) commandWidths (commandBytes (carriedAt p b .command)) (commandStart p 10) go
+  command-back = span-part b (p .command) (sentWidths (p .second)) (sentBytes (p .second) (carriedAt p b .command)) (commandStart p 10) go
     where
-      go : p .command ≡ true → commandBytes (carriedAt p b .command) ≡ take 13 (drop (commandStart p 10) b)
-      go t = rw t (commandBytes-commandAt b (commandStart p 10) byte (omega (arith, l, command-room p 10 t)) (rw t at o))
+      go : p .command ≡ true → sentBytes (p .second) (carriedAt p b .command) ≡ take (sizeOf (sentWidths (p .second))) (drop (commandStart p 10) b)
+      go t = rw t (sentBytes-sentAt (p .second) b (commandStart p 10) byte (omega (arith, l, command-room p 10 t)) (rw t at o))
 
   deps-back : part (p .deps) (depsBytes (besideAt p b)) ≡ span b (depsStart p 10) (joinedStart p 10)
   unfolding besideAt
@@ -232,9 +248,9 @@ module _ (p : Parts) (b : List ℕ) (byte : (i : ℕ) → getD b i 0 < 256) (l :
       rw (told-back, command-back, deps-back, joined-back, j1, j2, j3) (take-all (restEnd p 10 - 10) (drop 10 b) (simp length-drop (omega arith)))
 
 -- accepted bytes write back as themselves
-module _ (b : List ℕ) (byte : (i : ℕ) → getD b i 0 < 256) (f : Framed b) (o : opAt (partsOf (kindAt b)) b ≤ 2) where
+module _ (b : List ℕ) (byte : (i : ℕ) → getD b i 0 < 256) (f : Framed b) (o : opFits b ≡ true) where
   kind-back : kindOf (bodyAt (kindAt b) b) ≡ kindAt b
-  kind-back = kind-is (kindAt b) (carriedAt (partsOf (kindAt b)) b) (f .known)
+  kind-back = kind-held b (f .known)
 
   carried-back : carriedIn (bodyAt (kindAt b) b) ≡ carriedAt (partsOf (kindAt b)) b
   unfolding carriedAt
@@ -256,6 +272,9 @@ module _ (b : List ℕ) (byte : (i : ℕ) → getD b i 0 < 256) (f : Framed b) (
 valid-carried : (n s c : ℕ) (m : Message) → valid n s c m ≡ true → depsCarried (rowIn (m .body)) m ≡ true
 valid-carried n s c m h = clauses-of n s c m h .carried
 
+valid-short : (n s c : ℕ) (m : Message) → valid n s c m ≡ true → secondCarried (rowIn (m .body)) (voteIn m) ≡ true
+valid-short n s c m h = clauses-of n s c m h .short
+
 valid-here : (n s c : ℕ) (m : Message) → valid n s c m ≡ true → m .to ≡ c
 valid-here n s c m h = eqb-true (m .to) c (clauses-of n s c m h .here)
 
@@ -267,8 +286,9 @@ valid-written n s c b f o v = rw (f, o) v
 pub written-reads-back : (n s c : ℕ) (m : Message) → MessageFits m → setupOk n s c ≡ true → valid n s c m ≡ true
     → readMessage n s c (messageBytes m) ≡ record { answer = reading.Valid; message = m }
 written-reads-back n s c m f p v =
-    let e : messageAt (messageBytes m) ≡ m = messageAt-messageBytes m f (valid-carried n s c m v) in
-    let w : validBytes n s c (messageBytes m) ≡ true = valid-written n s c (messageBytes m) (framed-written m f) (op-written m f) (ap (valid n s c) e ∙ v) in
+    let h = valid-short n s c m v in
+    let e : messageAt (messageBytes m) ≡ m = messageAt-messageBytes m f h (valid-carried n s c m v) in
+    let w : validBytes n s c (messageBytes m) ≡ true = valid-written n s c (messageBytes m) (framed-written m f h) (op-written m f h) (ap (valid n s c) e ∙ v) in
     read-is n s c (messageBytes m) ∙ rw (p, w) (ap (λ (x : Message). record { answer = reading.Valid; message = x }) e)
 
 write-then-read : (n s c : ℕ) (out : List ℕ) (m : Message) → MessageFits m → setupOk n s c ≡ true → setupOk n s (m .to) ≡ true → 256 ≤ length out
@@ -276,7 +296,7 @@ write-then-read : (n s c : ℕ) (out : List ℕ) (m : Message) → MessageFits m
 write-then-read n s c out m f p q r v =
     let w = ap (λ (x : Wrote). x .out) (wrote-ok n s c out m p r v) in
     let l = length-messageBytes m in
-    let short : lengthOf (kindOf (m .body)) ≤ 42 = long-enough (kindOf (m .body)) in
+    let short : lengthOf (kindOf (m .body)) ≤ 46 = long-enough (kindOf (m .body)) in
     let t : take (lengthOf (kindOf (m .body))) (splice out 0 (messageBytes m)) ≡ messageBytes m =
     splice-same out 0 (messageBytes m) (lengthOf (kindOf (m .body))) l (omega arith) in
     rw (← w, t) (written-reads-back n s (m .to) m f q v)
@@ -313,7 +333,7 @@ unfolding validBytes
 accepted-writes-back n s c b byte h =
     let p = and-true (framed b && opFits b) (valid n s c (messageAt b)) h in
     let q = and-true (framed b) (opFits b) (p .0) in
-    messageBytes-messageAt b byte (framed-is b (q .0)) (leb-true _ 2 (q .1))
+    messageBytes-messageAt b byte (framed-is b (q .0)) (q .1)
 
 read-then-write : (n s c d : ℕ) (b out : List ℕ) → ((i : ℕ) → getD b i 0 < 256) → setupOk n s d ≡ true → 256 ≤ length out → validBytes n s c b ≡ true
     → wrote n s d out (messageAt b) ≡ record { answer = writing.Bytes (length b); out = splice out 0 b }

@@ -1,6 +1,6 @@
 -- Each kind is written as its bytes say, and each clause that is broken is named with its offset, by computation. Assumes nothing.
 use mathlib.Core.Path.{_≡_, refl}
-use Rattle.codec.specs.Parts.{commandBytes, depsBytes, commandAt, depsAt}
+use Rattle.codec.specs.Parts.{sentBytes, depsBytes, sentAt, depsAt}
 use Rattle.paper.specs.Logic.{allBelow}
 use Rattle.paper.specs.Ballot.{ballotOk, lead}
 use Rattle.paper.specs.Deps.{sameDeps}
@@ -13,7 +13,7 @@ use Rattle.wire.specs.Examples.{Examples}
 use Rattle.wire.specs.Reasons.{reasons, answersOf, refusalsOf}
 
 pub examples : Examples
-unfolding commandBytes depsBytes rowOf headBytes restBytes messageBytes
+unfolding sentBytes depsBytes rowOf headBytes restBytes messageBytes
 examples =
     record {
       preAccept = refl;
@@ -24,8 +24,12 @@ examples =
       prepare = refl;
       prepareOk = refl;
       nack = refl;
+      longPreAccept = refl;
+      longAccept = refl;
+      longCommit = refl;
+      longPrepareOk = refl;
     }
 
 pub each-reason : answersOf reasons ≡ refusalsOf reasons
-unfolding reasons answersOf refusalsOf readMessage setupOk verdictAt past lengthOf rowOf opAt messageAt carriedAt besideAt commandAt depsAt kept bodyOf verdictOn firstFailing entryClauses firstOf holdsOf ballotOk lead sameDeps allBelow blameOf
+unfolding reasons answersOf refusalsOf readMessage setupOk verdictAt past lengthOf rowOf opAt messageAt carriedAt besideAt sentAt depsAt kept bodyOf verdictOn firstFailing entryClauses firstOf holdsOf ballotOk lead sameDeps allBelow blameOf
 each-reason = refl

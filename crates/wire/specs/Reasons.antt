@@ -17,6 +17,13 @@ command op key edit = op ∷ key ∷ 0 ∷ 0 ∷ 0 ∷ edit ∷ 0 ∷ 0 ∷ 0 �
 abbrev pub write : List ℕ
 write = command 2 7 100
 
+-- op, two keys and an edit
+abbrev pub long : ℕ → ℕ → ℕ → ℕ → List ℕ
+long op key second edit = op ∷ key ∷ 0 ∷ 0 ∷ 0 ∷ second ∷ 0 ∷ 0 ∷ 0 ∷ edit ∷ 0 ∷ 0 ∷ 0 ∷ 0 ∷ 0 ∷ 0 ∷ 0 ∷ []
+
+abbrev pub rewire : List ℕ
+rewire = long 3 7 9 100
+
 abbrev pub noop : List ℕ
 noop = command 0 0 0
 
@@ -33,6 +40,10 @@ commit q c o j b = head 5 q c o j b ++ write ++ none
 abbrev pub tells : ℕ → ℕ → List ℕ → List ℕ → List ℕ
 tells v t k d = head 7 0 2 1 3 18 ++ v ∷ 0 ∷ 0 ∷ 0 ∷ t ∷ [] ++ k ++ d
 
+-- and of a rewire
+abbrev pub tellsLong : ℕ → ℕ → List ℕ → List ℕ → List ℕ
+tellsLong v t k d = head 12 0 2 1 3 18 ++ v ∷ 0 ∷ 0 ∷ 0 ∷ t ∷ [] ++ k ++ d
+
 pub record Reason : Type 0 where
   pub answer : Reading
   pub is : Reading
@@ -45,11 +56,13 @@ reasons =
     -- nothing at all, a kind that is none, and that before the length
     refuses why.UnknownKind ([])
     ∷ refuses why.UnknownKind (head 0 0 2 1 3 0)
-    ∷ refuses why.UnknownKind (9 ∷ [])
+    ∷ refuses why.UnknownKind (13 ∷ [])
     -- a byte too few or too many
     ∷ refuses why.WrongLength (4 ∷ [])
     ∷ refuses why.WrongLength (head 6 1 2 1 3 9 ++ 0 ∷ [])
     ∷ refuses why.WrongLength (head 5 0 2 1 3 0 ++ write)
+    ∷ refuses why.WrongLength (head 5 0 2 1 3 0 ++ rewire ++ none)
+    ∷ refuses why.WrongLength (head 11 0 2 1 3 0 ++ write ++ none)
     -- the head, field by field
     ∷ refuses (why.WrongField 1) (commit 5 2 1 3 0)
     ∷ refuses (why.WrongField 2) (commit 0 5 1 3 0)
@@ -85,6 +98,22 @@ reasons =
     ∷ refuses (why.WrongField 16) (head 2 0 2 1 3 10 ++ entry 3 5)
     ∷ refuses (why.WrongField 10) (head 8 0 2 1 3 10 ++ 13 ∷ 0 ∷ 0 ∷ 0 ∷ [])
     ∷ refuses (why.WrongField 10) (head 8 0 2 1 3 10 ++ 10 ∷ 0 ∷ 0 ∷ 0 ∷ [])
+    -- a rewire: its kind, its op, its keys, and what stands behind them
+    ∷ refuses why.WrongLead (head 9 3 2 1 3 0 ++ rewire ++ none)
+    ∷ refuses why.WrongLead (head 10 3 2 1 3 9 ++ rewire ++ none)
+    ∷ refuses (why.WrongField 6) (head 12 0 2 2 3 0 ++ 0 ∷ 0 ∷ 0 ∷ 0 ∷ 1 ∷ [] ++ rewire ++ none)
+    ∷ refuses (why.WrongField 10) (head 5 0 2 1 3 0 ++ command 3 7 100 ++ none)
+    ∷ refuses (why.WrongField 10) (head 11 0 2 1 3 0 ++ long 2 7 9 100 ++ none)
+    ∷ refuses (why.WrongField 10) (head 11 0 2 1 3 0 ++ long 0 0 0 0 ++ none)
+    ∷ refuses (why.WrongField 10) (head 11 0 2 1 3 0 ++ long 4 7 9 100 ++ none)
+    ∷ refuses (why.WrongField 15) (head 11 0 2 1 3 0 ++ long 3 7 7 100 ++ none)
+    ∷ refuses (why.WrongField 15) (head 11 0 2 1 3 0 ++ long 3 9 7 100 ++ none)
+    ∷ refuses (why.WrongField 27) (head 11 0 2 1 3 0 ++ rewire ++ entry 0 5)
+    ∷ refuses (why.WrongField 39) (head 11 0 2 1 3 0 ++ rewire ++ entry 6 1)
+    ∷ refuses (why.WrongField 15) (tellsLong 0 0 rewire none)
+    ∷ refuses (why.WrongField 15) (tellsLong 9 3 (long 1 7 9 100) none)
+    ∷ refuses (why.WrongField 20) (tellsLong 9 3 (long 3 7 7 100) none)
+    ∷ refuses (why.WrongField 42) (tellsLong 9 3 rewire (entry 5 1))
     -- of several the first: the ranges of the head, the way, the lead, the body
     ∷ refuses (why.WrongField 3) (head 1 3 3 5 3 0 ++ noop ++ entry 0 5)
     ∷ refuses why.WrongWay (head 1 3 3 1 3 0 ++ noop ++ entry 0 5)

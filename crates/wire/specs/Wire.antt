@@ -2,13 +2,13 @@
 -- the places that follow from the parts' widths. Assumes nothing.
 use Prim.Native.Nat.{ℕ, _+_, _*_}
 use mathlib.Core.Path.{_≡_}
-use mathlib.Core.Bool.{Bool, true, _&&_, not, cond}
+use mathlib.Core.Bool.{Bool, true, false, _&&_, not, cond}
 use mathlib.Core.List.{List, [], _∷_, _++_}
 use lib.Dec.{eqb}
 use lib.ListN.{length, take}
 use Rattle.numbers.specs.Num.{numAt}
 use Rattle.numbers.specs.Fields.{sizeOf, fieldsBytes}
-use Rattle.codec.specs.Parts.{commandWidths, depsWidths, commandAt, depsAt, commandBytes, depsBytes}
+use Rattle.codec.specs.Parts.{sentWidths, depsWidths, sentAt, depsAt, sentBytes, depsBytes}
 use Rattle.paper.specs.Deps.{noDeps}
 use Rattle.paper.specs.Message.{rowOf, partsOf, partsIn, kindOf, carriedIn, bodyOf, kept}
 use Rattle.paper.specs.Valid.{opRange, valid, verdictOn}
@@ -46,7 +46,7 @@ abbrev pub commandStart : Parts → ℕ → ℕ
 commandStart p at = past (p .told) toldWidths at
 
 abbrev pub depsStart : Parts → ℕ → ℕ
-depsStart p at = past (p .command) commandWidths (commandStart p at)
+depsStart p at = past (p .command) (sentWidths (p .second)) (commandStart p at)
 
 abbrev pub joinedStart : Parts → ℕ → ℕ
 joinedStart p at = past (p .deps) depsWidths (depsStart p at)
@@ -77,7 +77,7 @@ part b l = cond b l []
 -- the rest: the parts of x that these are, and of the dependencies beside it
 unfoldable pub restBytes : Parts → Carried → List ℕ → List ℕ
 restBytes p x d =
-    part (p .told) (toldBytes x) ++ part (p .command) (commandBytes (x .command)) ++ part (p .deps) (depsBytes d) ++ part (p .joined) (joinedBytes x)
+    part (p .told) (toldBytes x) ++ part (p .command) (sentBytes (p .second) (x .command)) ++ part (p .deps) (depsBytes d) ++ part (p .joined) (joinedBytes x)
 
 -- a message as written
 unfoldable pub messageBytes : Message → List ℕ
@@ -92,7 +92,7 @@ carriedAt p b =
     kept p (record {
       voted = numAt 4 b headSize;
       status = numAt 1 b (headSize + 4);
-      command = commandAt b (commandStart p headSize);
+      command = sentAt (p .second) b (commandStart p headSize);
       joined = numAt 4 b (joinedStart p headSize);
     })
 
@@ -130,9 +130,9 @@ pub record OfKind (k : ℕ) (p : Parts) (b : List ℕ) : Type 0 where
 unfoldable pub opAt : Parts → List ℕ → ℕ
 opAt p b = cond (p .command) (numAt 1 b (commandStart p headSize)) 0
 
--- 0, 1 or 2: a message read from other bytes could not be told from a valid one
+-- as the kind has it: a message read from other bytes could not be told from a valid one
 abbrev pub opFits : List ℕ → Bool
-opFits b = opRange (opAt (partsOf (kindAt b)) b)
+opFits b = opRange (partsOf (kindAt b) .second) (opAt (partsOf (kindAt b)) b)
 
 -- valid as received by copy c
 unfoldable pub validBytes : ℕ → ℕ → ℕ → List ℕ → Bool
@@ -145,6 +145,10 @@ verdictAt n s c b =
     (cond (not (eqb (length b) (lengthOf (kindAt b)))) (verdict.Blamed blame.Length)
     (verdictOn n s c (opAt (partsOf (kindAt b)) b) (messageAt b)))
 
+-- the edit stands in a command behind the keys
+abbrev pub editInCommand : Bool → ℕ
+editInCommand second = cond second (sizeOf (take 3 (sentWidths true))) (sizeOf (take 2 (sentWidths false)))
+
 -- the first byte of a field, in a message with these parts
 abbrev pub offsetOf : Parts → Field → ℕ
 offsetOf p field.From = sizeOf (take 1 headWidths)
@@ -155,8 +159,9 @@ offsetOf p field.Ballot = sizeOf (take 5 headWidths)
 offsetOf p field.Voted = headSize
 offsetOf p field.Status = headSize + sizeOf (take 1 toldWidths)
 offsetOf p field.Op = commandStart p headSize
-offsetOf p field.Key = commandStart p headSize + sizeOf (take 1 commandWidths)
-offsetOf p field.Edit = commandStart p headSize + sizeOf (take 2 commandWidths)
+offsetOf p field.Key = commandStart p headSize + sizeOf (take 1 (sentWidths true))
+offsetOf p field.Second = commandStart p headSize + sizeOf (take 2 (sentWidths true))
+offsetOf p field.Edit = commandStart p headSize + editInCommand (p .second)
 offsetOf p (field.Entry i) = depsStart p headSize + 2 * i
 offsetOf p field.Joined = joinedStart p headSize
 
@@ -171,6 +176,7 @@ widthOf field.Voted = 4
 widthOf field.Status = 1
 widthOf field.Op = 1
 widthOf field.Key = 4
+widthOf field.Second = 4
 widthOf field.Edit = 8
 widthOf (field.Entry i) = 2
 widthOf field.Joined = 4

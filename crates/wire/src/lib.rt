@@ -24,10 +24,11 @@ ghost use Prim.Native.Nat.{_+_, _≤_, _<_};
 ghost use mathlib.Core.Bool.{cond};
 ghost use lib.ListN.{length};
 ghost use Rattle.numbers.specs.Num.{numAt, splice};
-ghost use Rattle.codec.specs.Parts.{commandAt, commandBytes, depsBytes};
+ghost use Rattle.numbers.specs.Fields.{sizeOf};
+ghost use Rattle.codec.specs.Parts.{sentWidths, sentAt, sentBytes, depsBytes};
 ghost use Rattle.paper.specs.Command.{noop};
 ghost use Rattle.paper.specs.Message.{bodyOf, noMessage};
-ghost use Rattle.wire.specs.Wire.{headSize, commandStart, depsStart, joinedStart, restEnd, lengthOf, kindAt, carriedAt, besideAt, messageAt, OfKind, opAt, offsetOf, widthOf, toldBytes, joinedBytes, part, headBytes, restBytes, messageBytes};
+ghost use Rattle.wire.specs.Wire.{headSize, commandStart, depsStart, joinedStart, restEnd, lengthOf, kindAt, carriedAt, besideAt, messageAt, OfKind, opAt, editInCommand, offsetOf, widthOf, toldBytes, joinedBytes, part, headBytes, restBytes, messageBytes};
 ghost use Rattle.wire.specs.Calls.{unread, refusalOf, readMessage, wrote};
 
 // How many bytes the head takes, and each part of the rest.
@@ -35,7 +36,9 @@ const HEAD: usize = 10;
 
 const TOLD: usize = 5;
 
-const COMMAND: usize = 13;
+const SHORT: usize = 13;
+
+const LONG: usize = 17;
 
 const DEPS: usize = 14;
 
@@ -57,24 +60,35 @@ pub enum Writing {
     Refused(Refusal),
 }
 
+// How many bytes a command takes, with its second key or without.
+fn command_length(second: bool) -> usize
+    ensures { λ r. ⌜ r ≡ sizeOf (sentWidths second) ⌝ }
+{
+    if second { LONG } else { SHORT }
+}
+
 // The places of the parts of a rest that begins at `at`, and its end.
 fn command_start(p: Parts, at: usize) -> usize
-    requires { ⌜ at + 32 < 18446744073709551616 ⌝ }
+    requires { ⌜ at + 36 < 18446744073709551616 ⌝ }
     ensures { λ r. ⌜ r ≡ commandStart p at ⌝ }
 {
     if p.told { at + TOLD } else { at }
 }
 
 fn deps_start(p: Parts, at: usize) -> usize
-    requires { ⌜ at + 32 < 18446744073709551616 ⌝ }
+    requires { ⌜ at + 36 < 18446744073709551616 ⌝ }
     ensures { λ r. ⌜ r ≡ depsStart p at ⌝ }
 {
     let start = command_start(p, at);
-    if p.command { start + COMMAND } else { start }
+    if p.command {
+        start + command_length(p.second)
+    } else {
+        start
+    }
 }
 
 fn joined_start(p: Parts, at: usize) -> usize
-    requires { ⌜ at + 32 < 18446744073709551616 ⌝ }
+    requires { ⌜ at + 36 < 18446744073709551616 ⌝ }
     ensures { λ r. ⌜ r ≡ joinedStart p at ⌝ }
 {
     let start = deps_start(p, at);
@@ -82,7 +96,7 @@ fn joined_start(p: Parts, at: usize) -> usize
 }
 
 fn rest_end(p: Parts, at: usize) -> usize
-    requires { ⌜ at + 36 < 18446744073709551616 ⌝ }
+    requires { ⌜ at + 40 < 18446744073709551616 ⌝ }
     ensures { λ r. ⌜ r ≡ restEnd p at ⌝ }
 {
     let start = joined_start(p, at);
@@ -141,13 +155,13 @@ fn read_status(p: Parts, b: &[u8]) -> u8
 
 fn read_command(p: Parts, b: &[u8]) -> Command
     requires { ⌜ length (now b) ≡ restEnd p headSize ⌝ }
-    ensures { λ r. ⌜ r ≡ cond (p .command) (commandAt (now (b .entry)) (commandStart p headSize)) noop ⌝ }
+    ensures { λ r. ⌜ r ≡ cond (p .command) (sentAt (p .second) (now (b .entry)) (commandStart p headSize)) noop ⌝ }
 {
     if !p.command {
         return noop();
     }
     let at = command_start(p, HEAD);
-    codec::read_command(b, at)
+    codec::read_sent(b, at, p.second)
 }
 
 fn read_joined(p: Parts, b: &[u8]) -> u32
@@ -243,6 +257,12 @@ fn unread(why: Refusal) -> Received
     }
 }
 
+fn edit_in_command(second: bool) -> usize
+    ensures { λ r. ⌜ r ≡ editInCommand second ⌝ }
+{
+    if second { 9 } else { 5 }
+}
+
 // The first byte of a field, in a message with these parts.
 pub fn offset_of(p: Parts, f: Field) -> usize
     ensures { λ r. ⌜ r ≡ offsetOf p f ⌝ }
@@ -257,7 +277,8 @@ pub fn offset_of(p: Parts, f: Field) -> usize
         Field::Status => HEAD + 4,
         Field::Op => command_start(p, HEAD),
         Field::Key => command_start(p, HEAD) + 1,
-        Field::Edit => command_start(p, HEAD) + 5,
+        Field::Second => command_start(p, HEAD) + 5,
+        Field::Edit => command_start(p, HEAD) + edit_in_command(p.second),
         Field::Entry(i) => deps_start(p, HEAD) + 2 * wide8(i),
         Field::Joined => joined_start(p, HEAD),
     }
@@ -277,6 +298,7 @@ pub fn width_of(f: Field) -> usize
         Field::Status => 1,
         Field::Op => 1,
         Field::Key => 4,
+        Field::Second => 4,
         Field::Edit => 8,
         Field::Entry(_) => 2,
         Field::Joined => 4,
@@ -323,7 +345,7 @@ pub fn read_message(n: usize, s: usize, c: usize, b: &[u8]) -> Received
 }
 
 fn write_head(out: &mut [u8], at: usize, m: Message)
-    requires { ⌜ at + 42 ≤ length (now out) ⌝ }
+    requires { ⌜ at + 46 ≤ length (now out) ⌝ }
     ensures { λ _. ⌜ now (out .exit) ≡ splice (now (out .entry)) at (headBytes m) ⌝ }
 {
     let body = m.body;
@@ -346,12 +368,12 @@ fn write_told(out: &mut [u8], at: usize, has: bool, x: Carried)
     }
 }
 
-fn write_command(out: &mut [u8], at: usize, has: bool, k: Command)
-    requires { ⌜ at + length (part has (commandBytes k)) ≤ length (now out) ⌝ }
-    ensures { λ _. ⌜ now (out .exit) ≡ splice (now (out .entry)) at (part has (commandBytes k)) ⌝ }
+fn write_command(out: &mut [u8], at: usize, p: Parts, k: Command)
+    requires { ⌜ at + length (part (p .command) (sentBytes (p .second) k)) ≤ length (now out) ⌝ }
+    ensures { λ _. ⌜ now (out .exit) ≡ splice (now (out .entry)) at (part (p .command) (sentBytes (p .second) k)) ⌝ }
 {
-    if has {
-        codec::write_command(out, at, k);
+    if p.command {
+        codec::write_sent(out, at, p.second, k);
     }
 }
 
@@ -374,21 +396,21 @@ fn write_joined(out: &mut [u8], at: usize, has: bool, x: Carried)
 }
 
 fn write_rest(out: &mut [u8], at: usize, p: Parts, x: Carried, d: [u16; 7])
-    requires { ⌜ restEnd p at ≤ length (now out) × (at + 32 < 18446744073709551616) ⌝ }
+    requires { ⌜ restEnd p at ≤ length (now out) × (at + 36 < 18446744073709551616) ⌝ }
     ensures { λ _. ⌜ now (out .exit) ≡ splice (now (out .entry)) at (restBytes p x d) ⌝ }
 {
     let a1 = command_start(p, at);
     let a2 = deps_start(p, at);
     let a3 = joined_start(p, at);
     write_told(&mut *out, at, p.told, x);
-    write_command(&mut *out, a1, p.command, x.command);
+    write_command(&mut *out, a1, p, x.command);
     write_beside(&mut *out, a2, p.deps, d);
     write_joined(&mut *out, a3, p.joined, x);
 }
 
 // Writes a message at an offset, and nothing beyond its length.
 pub fn message_bytes(out: &mut [u8], at: usize, m: Message)
-    requires { ⌜ at + 42 ≤ length (now out) ⌝ }
+    requires { ⌜ at + 46 ≤ length (now out) ⌝ }
     ensures { λ _. ⌜ now (out .exit) ≡ splice (now (out .entry)) at (messageBytes m) ⌝ }
 {
     let body = m.body;

@@ -26,7 +26,7 @@ write-rest-requires c κs =
     let s = c .before .before .before .before .before .before .before .before .before in
     let at = s .args .at in
     let m = s .args .m in
-    let short : restEnd (partsIn (m .body)) 10 ≤ 42 = long-enough (kindOf (m .body)) in
+    let short : restEnd (partsIn (m .body)) 10 ≤ 46 = long-enough (kindOf (m .body)) in
     let end = end-further (partsIn (m .body)) 10 at in
     let h = s .pre in
     rw (c .before .before .before .before .before .before .row-in .ensures) (omega arith, omega arith)
@@ -40,7 +40,7 @@ returns c =
     let s = c .before .before .before .before .before .before .before .before .before .before .before .before in
     let at = s .args .at in
     let m = s .args .m in
-    let short : restEnd (partsIn (m .body)) 10 ≤ 42 = long-enough (kindOf (m .body)) in
+    let short : restEnd (partsIn (m .body)) 10 ≤ 46 = long-enough (kindOf (m .body)) in
     let end = end-further (partsIn (m .body)) 10 at in
     let h = s .pre in
     let l = s .args .out .now in

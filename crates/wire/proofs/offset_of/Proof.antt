@@ -1,7 +1,7 @@
 use mathlib.Core.Path.{ap, ap₂}
 use Prim.Native.Nat.{ℕ, _+_, _*_}
 use native.Mathlib.Omega.{arith}
-use Rattle.wire.proofs.Laws.{command-near, deps-near}
+use Rattle.wire.proofs.Laws.{edit-last, sent-most, command-near, deps-near}
 use borrow.Author.Needs.{needs}
 use Rattle.wire.proofs.offset_of.Statement.{statement}
 use Rattle.wire.proofs.offset_of.Tie as tie
@@ -54,6 +54,20 @@ command-start-requires-3 c κs = search needs
 add-result-3 : tie.Need-add-result-3
 add-result-3 c = omega (arith, c .command-start3 .ensures, command-near (c .before .before .before .args .p) 10)
 
+enum-told-11 : tie.Need-enum-told-11
+enum-told-11 c = search needs
+
+command-start-requires-4 : tie.Need-command-start-requires-4
+command-start-requires-4 c κs = search needs
+
+edit-in-command-requires : tie.Need-edit-in-command-requires
+edit-in-command-requires c κs = search needs
+
+add-result-4 : tie.Need-add-result-4
+add-result-4 c =
+    let p = c .before .before .before .before .args .p in
+    omega (arith, c .before .command-start4 .ensures, c .edit-in-command .ensures, edit-last (p .second), sent-most (p .second), command-near p 10)
+
 enum-known-f : tie.Need-enum-known-f
 enum-known-f c = search needs
 
@@ -66,11 +80,11 @@ wide8-requires c κs = search needs
 mul-result : tie.Need-mul-result
 mul-result c = search needs
 
-add-result-4 : tie.Need-add-result-4
-add-result-4 c = omega (arith, c .before .deps-start .ensures, c .wide8 .ensures, deps-near (c .before .before .before .before .before .args .p) 10)
+add-result-5 : tie.Need-add-result-5
+add-result-5 c = omega (arith, c .before .deps-start .ensures, c .wide8 .ensures, deps-near (c .before .before .before .before .before .args .p) 10)
 
-enum-told-11 : tie.Need-enum-told-11
-enum-told-11 c = search needs
+enum-told-12 : tie.Need-enum-told-12
+enum-told-12 c = search needs
 
 joined-start-requires : tie.Need-joined-start-requires
 joined-start-requires c κs = search needs
@@ -106,10 +120,13 @@ returns-10 : tie.Need-returns-10
 returns-10 c = rw (c .before .enum-told10 .given .1) (ap (λ (x : ℕ). x + 5) (c .command-start3 .ensures))
 
 returns-11 : tie.Need-returns-11
-returns-11 c = rw (c .before .before .before .f .given .1) (ap₂ (λ (x y : ℕ). x + 2 * y) (c .before .deps-start .ensures) (c .wide8 .ensures))
+returns-11 c = rw (c .before .before .enum-told11 .given .1) (ap₂ (λ (x y : ℕ). x + y) (c .before .command-start4 .ensures) (c .edit-in-command .ensures))
 
 returns-12 : tie.Need-returns-12
-returns-12 c = rw (c .before .enum-told11 .given .1) (c .joined-start .ensures)
+returns-12 c = rw (c .before .before .before .f .given .1) (ap₂ (λ (x y : ℕ). x + 2 * y) (c .before .deps-start .ensures) (c .wide8 .ensures))
+
+returns-13 : tie.Need-returns-13
+returns-13 c = rw (c .before .enum-told12 .given .1) (c .joined-start .ensures)
 
 pub offset-of-spec : {M : Type 1} → statement M
 offset-of-spec =
@@ -131,12 +148,16 @@ offset-of-spec =
     enum-told-10
     command-start-requires-3
     add-result-3
+    enum-told-11
+    command-start-requires-4
+    edit-in-command-requires
+    add-result-4
     enum-known-f
     deps-start-requires
     wide8-requires
     mul-result
-    add-result-4
-    enum-told-11
+    add-result-5
+    enum-told-12
     joined-start-requires
     returns
     returns-2
@@ -149,4 +170,5 @@ offset-of-spec =
     returns-9
     returns-10
     returns-11
-    returns-12)
+    returns-12
+    returns-13)

@@ -3,7 +3,7 @@ use native.Mathlib.Omega.{arith}
 use borrow.Author.Tests.{not-true, not-false}
 use Rattle.numbers.specs.Num.{numAt}
 use Rattle.wire.specs.Wire.{opAt}
-use Rattle.wire.proofs.Laws.{command-room}
+use Rattle.wire.proofs.Laws.{command-room, sent-least}
 use borrow.Author.Needs.{needs}
 use Rattle.wire.proofs.op_at.Statement.{statement}
 use Rattle.wire.proofs.op_at.Tie as tie
@@ -16,7 +16,7 @@ command-start-requires : tie.Need-command-start-requires
 command-start-requires c κs = search needs
 
 get-u8-requires : tie.Need-get-u8-requires
-get-u8-requires c κs = let s = c .before .before .before .before in omega (arith, s .pre, c .command-start .ensures, command-room (s .args .p) 10 (not-false _ (c .before .if1 .left)))
+get-u8-requires c κs = let s = c .before .before .before .before in omega (arith, s .pre, c .command-start .ensures, command-room (s .args .p) 10 (not-false _ (c .before .if1 .left)), sent-least (s .args .p .second))
 
 wide8-requires : tie.Need-wide8-requires
 wide8-requires c κs = search needs

@@ -3,7 +3,7 @@ use mathlib.Core.List.{_++_}
 use native.Mathlib.Omega.{arith}
 use lib.ListN.{length-append}
 use Rattle.numbers.proofs.Laws.{splice-step}
-use Rattle.codec.specs.Parts.{commandBytes, depsBytes}
+use Rattle.codec.specs.Parts.{sentBytes, depsBytes}
 use Rattle.wire.specs.Wire.{part, toldBytes, joinedBytes, restBytes}
 use Rattle.wire.proofs.Laws.{at-told, at-command, at-deps, at-joined, told-size, command-size, deps-size, joined-size}
 use borrow.Author.Needs.{needs}
@@ -113,7 +113,7 @@ returns c =
     let room = s .pre .0 in
     let l = s .args .out .now in
     let t = part (p .told) (toldBytes x) in
-    let k = part (p .command) (commandBytes (x .command)) in
+    let k = part (p .command) (sentBytes (p .second) (x .command)) in
     let b = part (p .deps) (depsBytes d) in
     let j = part (p .joined) (joinedBytes x) in
     let e1 = c .before .before .before .before .before .before .before .before .before .before .before .before .before .before .before .before .before .before .command-start .ensures in

@@ -36,6 +36,9 @@ enum-told-9 c = search needs
 enum-told-10 : tie.Need-enum-told-10
 enum-told-10 c = search needs
 
+both-requires : tie.Need-both-requires
+both-requires c κs = search needs
+
 enum-told-11 : tie.Need-enum-told-11
 enum-told-11 c = search needs
 
@@ -48,8 +51,8 @@ wide8-requires c κs = search needs
 below-requires : tie.Need-below-requires
 below-requires c κs = search needs
 
-both-requires : tie.Need-both-requires
-both-requires c κs = search needs
+both-requires-2 : tie.Need-both-requires-2
+both-requires-2 c κs = search needs
 
 enum-told-12 : tie.Need-enum-told-12
 enum-told-12 c = search needs
@@ -82,13 +85,13 @@ returns-9 : tie.Need-returns-9
 returns-9 c = search needs
 
 returns-10 : tie.Need-returns-10
-returns-10 c = search needs
+returns-10 c = rw (c .before .enum-told10 .given .1) (c .both .ensures)
 
 returns-11 : tie.Need-returns-11
 returns-11 c = search needs
 
 returns-12 : tie.Need-returns-12
-returns-12 c = rw (c .before .before .before .before .f .given .1) (c .both .ensures ∙ ap (λ (b : Bool). c .before .before .before .before .before .before .args .p .deps && b) (c .before .below .ensures ∙ ap (λ (x : ℕ). ltb x 7) (c .before .before .wide8 .ensures)))
+returns-12 c = rw (c .before .before .before .before .f .given .1) (c .both2 .ensures ∙ ap (λ (b : Bool). c .before .before .before .before .before .before .args .p .deps && b) (c .before .below .ensures ∙ ap (λ (x : ℕ). ltb x 7) (c .before .before .wide8 .ensures)))
 
 returns-13 : tie.Need-returns-13
 returns-13 c = search needs
@@ -107,11 +110,12 @@ has-field-spec =
     enum-told-8
     enum-told-9
     enum-told-10
+    both-requires
     enum-told-11
     enum-known-f
     wide8-requires
     below-requires
-    both-requires
+    both-requires-2
     enum-told-12
     returns
     returns-2
