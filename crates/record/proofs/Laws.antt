@@ -25,16 +25,16 @@ use Rattle.paper.specs.declared.Record.{Record}
 use Rattle.record.specs.Layout.{voteLength, repliesLength, recordLength, replyPlace, votesAt, votesBytes, frontBytes, recordAt, recordBytes}
 use Rattle.record.specs.Part.{opFits, opsFit, soundPart, commandFits, frontOk, plainOk, busyPart, replyPart}
 
-pub length-voteBytes : (v : Vote) → length (voteBytes v) ≡ 32
+pub length-voteBytes : (v : Vote) → length (voteBytes v) ≡ 36
 unfolding voteBytes
 length-voteBytes v = refl
 
-pub length-votesBytes : (vs : List Vote) → length (votesBytes vs) ≡ 32 * length vs
+pub length-votesBytes : (vs : List Vote) → length (votesBytes vs) ≡ 36 * length vs
 unfolding votesBytes
 length-votesBytes [] = refl
 length-votesBytes (v ∷ vs) = simp (length-append, length-voteBytes, length-votesBytes vs) (omega arith)
 
-pub length-frontBytes : (r : Record) → length (frontBytes r) ≡ 39
+pub length-frontBytes : (r : Record) → length (frontBytes r) ≡ 43
 unfolding frontBytes
 length-frontBytes r = simp (length-append, length-voteBytes)
 
@@ -56,12 +56,12 @@ votesBytes-snoc vs k d h =
 
 -- one more reply is written after the first k
 pub votes-step : (l : List ℕ) (at : ℕ) (vs : List Vote) (k : ℕ) (d : Vote) {l₁ l₂ : List ℕ} → l₁ ≡ splice l at (votesBytes (take k vs))
-    → l₂ ≡ splice l₁ (at + 32 * k) (voteBytes (getD vs k d)) → k < length vs → at + 32 * k + 32 ≤ length l → l₂ ≡ splice l at (votesBytes (take (k + 1) vs))
+    → l₂ ≡ splice l₁ (at + 36 * k) (voteBytes (getD vs k d)) → k < length vs → at + 36 * k + 36 ≤ length l → l₂ ≡ splice l at (votesBytes (take (k + 1) vs))
 votes-step l at vs k d p q h r =
     let n : length (take k vs) ≡ k = length-take-le k vs (omega arith) in
-    let m : length (votesBytes (take k vs)) ≡ 32 * k = length-votesBytes (take k vs) ∙ ap (λ (x : ℕ). 32 * x) n in
-    let o : length (voteBytes (getD vs k d)) ≡ 32 = length-voteBytes (getD vs k d) in
-    splice-step l at (votesBytes (take k vs)) (at + 32 * k) (voteBytes (getD vs k d)) p q (omega arith) (omega arith)
+    let m : length (votesBytes (take k vs)) ≡ 36 * k = length-votesBytes (take k vs) ∙ ap (λ (x : ℕ). 36 * x) n in
+    let o : length (voteBytes (getD vs k d)) ≡ 36 = length-voteBytes (getD vs k d) in
+    splice-step l at (votesBytes (take k vs)) (at + 36 * k) (voteBytes (getD vs k d)) p q (omega arith) (omega arith)
     ∙ ap (λ (v : List ℕ). splice l at v) (votesBytes-snoc vs k d h)
 
 -- tests of each place that are asked one after the other
@@ -150,17 +150,17 @@ soundPart-is n s c o b =
     go true false false p z e h = rw h
     go false x y p z e h = rw h
 
-votesAt-at : (k : ℕ) (b : List ℕ) (at q : ℕ) (d : Vote) → q < k → getD (votesAt k b at) q d ≡ voteAt b (at + 32 * q)
+votesAt-at : (k : ℕ) (b : List ℕ) (at q : ℕ) (d : Vote) → q < k → getD (votesAt k b at) q d ≡ voteAt b (at + 36 * q)
 unfolding votesAt
 votesAt-at zero b at q d h = absurd (omega arith)
-votesAt-at (suc k) b at zero d h = let e : at ≡ at + 32 * 0 = omega arith in ap (voteAt b) e
+votesAt-at (suc k) b at zero d h = let e : at ≡ at + 36 * 0 = omega arith in ap (voteAt b) e
 votesAt-at (suc k) b at (suc q) d h =
-    let e : at + 32 + 32 * q ≡ at + 32 * suc q = omega arith in
-    votesAt-at k b (at + 32) q d (omega arith) ∙ ap (voteAt b) e
+    let e : at + 36 + 36 * q ≡ at + 36 * suc q = omega arith in
+    votesAt-at k b (at + 36) q d (omega arith) ∙ ap (voteAt b) e
 
 -- the reply of copy q stands at its place
-pub votesAt-place : (q : ℕ) (b : List ℕ) (d : Vote) → q < 7 → getD (votesAt 7 b 39) q d ≡ voteAt b (replyPlace q)
-votesAt-place q b d h = votesAt-at 7 b 39 q d h
+pub votesAt-place : (q : ℕ) (b : List ℕ) (d : Vote) → q < 7 → getD (votesAt 7 b 43) q d ≡ voteAt b (replyPlace q)
+votesAt-place q b d h = votesAt-at 7 b 43 q d h
 
 -- what is asked of a reply's place
 module _ (n s c : ℕ) (b : List ℕ) (q : ℕ) (h : q < 7) where
@@ -168,17 +168,17 @@ module _ (n s c : ℕ) (b : List ℕ) (q : ℕ) (h : q < 7) where
   unfolding replyPart
   replyPart-op p = rw p
 
-  pub replyPart-in : opFits b (replyPlace q) ≡ true → member q (numAt 1 b 38) ≡ true
-      → collectedOk n s c (numAt 1 b 37) (numAt 4 b 0) (voteAt b 4) q (voteAt b (replyPlace q)) ≡ replyPart n s c b q
+  pub replyPart-in : opFits b (replyPlace q) ≡ true → member q (numAt 1 b 42) ≡ true
+      → collectedOk n s c (numAt 1 b 41) (numAt 4 b 0) (voteAt b 4) q (voteAt b (replyPlace q)) ≡ replyPart n s c b q
   unfolding replyPart replyOk recordAt
   replyPart-in p m = rw (p, m, votesAt-place q b noVote h)
 
-  pub replyPart-out : opFits b (replyPlace q) ≡ true → member q (numAt 1 b 38) ≡ false → sameVote (voteAt b (replyPlace q)) noVote ≡ replyPart n s c b q
+  pub replyPart-out : opFits b (replyPlace q) ≡ true → member q (numAt 1 b 42) ≡ false → sameVote (voteAt b (replyPlace q)) noVote ≡ replyPart n s c b q
   unfolding replyPart replyOk recordAt
   replyPart-out p m = rw (p, m, votesAt-place q b noVote h)
 
 -- of the fields as they were read
-module _ (b : List ℕ) {j : ℕ} {v : Vote} {p t : ℕ} (ej : j ≡ numAt 4 b 0) (ev : v ≡ voteAt b 4) (ep : p ≡ numAt 1 b 37) (et : t ≡ numAt 1 b 38) where
+module _ (b : List ℕ) {j : ℕ} {v : Vote} {p t : ℕ} (ej : j ≡ numAt 4 b 0) (ev : v ≡ voteAt b 4) (ep : p ≡ numAt 1 b 41) (et : t ≡ numAt 1 b 42) where
   pub phase-judged : (n c o : ℕ) {z : Bool} → z ≡ phasesOk n c o (front j v 0 p t) → z ≡ phasesOk n c o (recordAt b)
   unfolding recordAt phasesOk preparingOk proposingOk busyOk
   phase-judged n c o ez = rw (ez, ej, ev, ep, et)

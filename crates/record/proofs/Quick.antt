@@ -40,27 +40,27 @@ or-none a x = go (eqb x 0) refl (eqb a 0) refl
 
 -- the bytes before i have no bit set that is not in `any`
 pub record Clear (b : List ℕ) (any i : ℕ) : Type 0 where
-  pub so : eqb any 0 ≡ allBelow (i - 39) (λ k. eqb (getD b (39 + k) 0) 0)
-  pub first : 39 ≤ i
-  pub last : i ≤ 263
+  pub so : eqb any 0 ≡ allBelow (i - 43) (λ k. eqb (getD b (43 + k) 0) 0)
+  pub first : 43 ≤ i
+  pub last : i ≤ 295
 
-pub clear-start : (b : List ℕ) → Clear b 0 39
+pub clear-start : (b : List ℕ) → Clear b 0 43
 unfolding allBelow
 clear-start b = record { so = refl; first = omega arith; last = omega arith }
 
-pub clear-next : (b : List ℕ) (any i : ℕ) → Clear b any i → i < 263 → {x : ℕ} → x ≡ getD b i 0 → Clear b (bitOr any x) (i + 1)
+pub clear-next : (b : List ℕ) (any i : ℕ) → Clear b any i → i < 295 → {x : ℕ} → x ≡ getD b i 0 → Clear b (bitOr any x) (i + 1)
 unfolding allBelow
 clear-next b any i c h {x} e =
     let f = c .first in
-    let k : i + 1 - 39 ≡ suc (i - 39) = omega arith in
-    let j : 39 + (i - 39) ≡ i = omega arith in
-    let so : eqb (bitOr any x) 0 ≡ (eqb (getD b (39 + (i - 39)) 0) 0 && allBelow (i - 39) (λ k. eqb (getD b (39 + k) 0) 0)) =
+    let k : i + 1 - 43 ≡ suc (i - 43) = omega arith in
+    let j : 43 + (i - 43) ≡ i = omega arith in
+    let so : eqb (bitOr any x) 0 ≡ (eqb (getD b (43 + (i - 43)) 0) 0 && allBelow (i - 43) (λ k. eqb (getD b (43 + k) 0) 0)) =
     or-none any x ∙ rw (e, j, c .so) in
     record { so = rw k so; first = omega arith; last = omega arith }
 
-pub clear-all : (b : List ℕ) (any i : ℕ) → Clear b any i → (i < 263 → ⊥) → eqb any 0 ≡ noReplies b
+pub clear-all : (b : List ℕ) (any i : ℕ) → Clear b any i → (i < 295 → ⊥) → eqb any 0 ≡ noReplies b
 unfolding noReplies
-clear-all b any i c h = let f = c .last in let k : i - 39 ≡ 224 = omega arith in c .so ∙ rw k
+clear-all b any i c h = let f = c .last in let k : i - 43 ≡ 252 = omega arith in c .so ∙ rw k
 
 -- zero bytes are the number 0
 numAt-zero : (w : ℕ) (b : List ℕ) (at : ℕ) → ((i : ℕ) → i < w → getD b (at + i) 0 ≡ 0) → numAt w b at ≡ 0
@@ -80,7 +80,7 @@ fields-zero (w ∷ ws) b at h =
     λ i. x i ∷ y i
 
 -- zero bytes are no vote
-vote-zero : (b : List ℕ) (at : ℕ) → ((i : ℕ) → i < 32 → getD b (at + i) 0 ≡ 0) → voteAt b at ≡ noVote
+vote-zero : (b : List ℕ) (at : ℕ) → ((i : ℕ) → i < 36 → getD b (at + i) 0 ≡ 0) → voteAt b at ≡ noVote
 unfolding voteAt
 vote-zero b at h = ap voteOf (fields-zero voteWidths b at h)
 
@@ -96,33 +96,33 @@ no-member (suc (suc (suc (suc (suc (suc zero)))))) h = refl
 no-member (suc (suc (suc (suc (suc (suc (suc q))))))) h = absurd (omega arith)
 
 module _ (n s c : ℕ) (b : List ℕ) (h : isIdle b ≡ true) where
-  tests : (numAt 1 b 37 ≡ 0) × (numAt 1 b 38 ≡ 0) × (noReplies b ≡ true)
+  tests : (numAt 1 b 41 ≡ 0) × (numAt 1 b 42 ≡ 0) × (noReplies b ≡ true)
   unfolding isIdle
   tests =
-      let p = and-true (eqb (numAt 1 b 37) 0) _ h in
-      let q = and-true (eqb (numAt 1 b 38) 0) (noReplies b) (p .1) in
-      (eqb-true (numAt 1 b 37) 0 (p .0), eqb-true (numAt 1 b 38) 0 (q .0), q .1)
+      let p = and-true (eqb (numAt 1 b 41) 0) _ h in
+      let q = and-true (eqb (numAt 1 b 42) 0) (noReplies b) (p .1) in
+      (eqb-true (numAt 1 b 41) 0 (p .0), eqb-true (numAt 1 b 42) 0 (q .0), q .1)
 
-  byte : (i : ℕ) → i < 224 → getD b (39 + i) 0 ≡ 0
+  byte : (i : ℕ) → i < 252 → getD b (43 + i) 0 ≡ 0
   unfolding noReplies
-  byte i l = eqb-true _ _ (allBelow-at 224 (λ i. eqb (getD b (39 + i) 0) 0) (tests .2) i l)
+  byte i l = eqb-true _ _ (allBelow-at 252 (λ i. eqb (getD b (43 + i) 0) 0) (tests .2) i l)
 
   reply : (q : ℕ) → q < 7 → replyPart n s c b q ≡ true
   unfolding sameVote sameCommand sameDeps allBelow
   reply q l =
-      let at : (k : ℕ) → k < 32 → getD b (replyPlace q + k) 0 ≡ 0 = λ k m.
-      let e : 39 + 32 * q + k ≡ 39 + (32 * q + k) = omega arith in
-      ap (λ (k : ℕ). getD b k 0) e ∙ byte (32 * q + k) (omega arith) in
+      let at : (k : ℕ) → k < 36 → getD b (replyPlace q + k) 0 ≡ 0 = λ k m.
+      let e : 43 + 36 * q + k ≡ 43 + (36 * q + k) = omega arith in
+      ap (λ (k : ℕ). getD b k 0) e ∙ byte (36 * q + k) (omega arith) in
       let v = vote-zero b (replyPlace q) at in
       let o : numAt 1 b (replyPlace q + 5) ≡ 0 = numAt-zero 1 b (replyPlace q + 5) (λ i m. let e : replyPlace q + 5 + i ≡ replyPlace q + (5 + i) = omega arith in ap (λ (k : ℕ). getD b k 0) e ∙ at (5 + i) (omega arith)) in
-      sym (replyPart-out n s c b q l (le-leb (numAt 1 b (replyPlace q + 5)) 2 (omega (arith, o))) (ap (member q) (tests .1) ∙ no-member q l)) ∙ ap (λ (x : Vote). sameVote x noVote) v
+      sym (replyPart-out n s c b q l (le-leb (numAt 1 b (replyPlace q + 5)) 3 (omega (arith, o))) (ap (member q) (tests .1) ∙ no-member q l)) ∙ ap (λ (x : Vote). sameVote x noVote) v
 
   -- no phase, nothing collected: every clause about phases is met
   idle-phase : (o : ℕ) → phasesOk n c o (recordAt b) ≡ true
   unfolding phasesOk busyOk preparingOk proposingOk recordAt
   idle-phase o = rw (tests .0, tests .1)
 
-  idle-small : phasedOk n (numAt 1 b 37) (numAt 1 b 38) ≡ true
+  idle-small : phasedOk n (numAt 1 b 41) (numAt 1 b 42) ≡ true
   unfolding phasedOk
   idle-small = rw (tests .0, tests .1, lt-ltb 0 (2 ^ n) (pow-pos n))
 

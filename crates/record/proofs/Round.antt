@@ -26,8 +26,8 @@ unfolding votesAt votesBytes
 votesAt-votesBytes [] p at e f = refl
 votesAt-votesBytes (v ∷ vs) p at e f =
     let one : voteAt (p ++ (voteBytes v ++ votesBytes vs)) at ≡ v = voteAt-voteBytes v p (votesBytes vs) at e (f .0) in
-    let l : length (p ++ voteBytes v) ≡ at + 32 = simp (length-append, length-voteBytes) (omega arith) in
-    let more : votesAt (length vs) (p ++ voteBytes v ++ votesBytes vs) (at + 32) ≡ vs = votesAt-votesBytes vs (p ++ voteBytes v) (at + 32) l (f .1) in
+    let l : length (p ++ voteBytes v) ≡ at + 36 = simp (length-append, length-voteBytes) (omega arith) in
+    let more : votesAt (length vs) (p ++ voteBytes v ++ votesBytes vs) (at + 36) ≡ vs = votesAt-votesBytes vs (p ++ voteBytes v) (at + 36) l (f .1) in
     rw one (ap (λ (l : List Vote). v ∷ l) (rw (← append-assoc p (voteBytes v) (votesBytes vs)) more))
 
 -- what was written is read back
@@ -40,23 +40,23 @@ module _ (r : Record) (f : RecordFits r) where
   unfolding recordBytes frontBytes voteAt voteBytes
   vote-reads = voteAt-voteBytes (r .vote) [] [] 0 refl (f .vote)
 
-  mark-reads : numAt 1 (recordBytes r) 36 ≡ r .mark
+  mark-reads : numAt 1 (recordBytes r) 40 ≡ r .mark
   unfolding recordBytes frontBytes voteBytes
   mark-reads = omega (arith, f .mark)
 
-  phase-reads : numAt 1 (recordBytes r) 37 ≡ r .phase
+  phase-reads : numAt 1 (recordBytes r) 41 ≡ r .phase
   unfolding recordBytes frontBytes voteBytes
   phase-reads = omega (arith, f .phase)
 
-  set-reads : numAt 1 (recordBytes r) 38 ≡ r .set
+  set-reads : numAt 1 (recordBytes r) 42 ≡ r .set
   unfolding recordBytes frontBytes voteBytes
   set-reads = omega (arith, f .set)
 
-  replies-read : votesAt 7 (recordBytes r) 39 ≡ r .replies
+  replies-read : votesAt 7 (recordBytes r) 43 ≡ r .replies
   unfolding recordBytes
   replies-read =
-      ap (λ (k : ℕ). votesAt k (frontBytes r ++ votesBytes (r .replies)) 39) (sym (f .seven))
-      ∙ votesAt-votesBytes (r .replies) (frontBytes r) 39 (length-frontBytes r) (f .replies)
+      ap (λ (k : ℕ). votesAt k (frontBytes r ++ votesBytes (r .replies)) 43) (sym (f .seven))
+      ∙ votesAt-votesBytes (r .replies) (frontBytes r) 43 (length-frontBytes r) (f .replies)
 
   pub recordAt-recordBytes : recordAt (recordBytes r) ≡ r
   unfolding recordAt
@@ -71,42 +71,42 @@ module _ (r : Record) (f : RecordFits r) where
 
 -- what was read is written back, where each op byte is the number of an op
 module _ (b : List ℕ) (byte : Bytes b) (long : length b ≡ recordLength) where
-  votes-back : (k at : ℕ) → at + 32 * k ≤ recordLength → ((q : ℕ) → q < k → numAt 1 b (at + 32 * q + 5) ≤ 2) → votesBytes (votesAt k b at) ≡ take (32 * k) (drop at b)
+  votes-back : (k at : ℕ) → at + 36 * k ≤ recordLength → ((q : ℕ) → q < k → numAt 1 b (at + 36 * q + 5) ≤ 3) → votesBytes (votesAt k b at) ≡ take (36 * k) (drop at b)
   unfolding votesAt votesBytes
   votes-back zero at h o = refl
   votes-back (suc k) at h o =
-      let e : at + 32 * 0 + 5 ≡ at + 5 = omega arith in
-      let one : voteBytes (voteAt b at) ≡ take 32 (drop at b) = voteBytes-voteAt b at byte (omega arith) (rw e at (o 0 (omega arith))) in
-      let next : (q : ℕ) → q < k → numAt 1 b (at + 32 + 32 * q + 5) ≤ 2 =
-      λ q l. let g : at + 32 * suc q + 5 ≡ at + 32 + 32 * q + 5 = omega arith in rw g at (o (suc q) (omega arith)) in
-      let more : votesBytes (votesAt k b (at + 32)) ≡ take (32 * k) (drop (at + 32) b) = votes-back k (at + 32) (omega arith) next in
-      let n : 32 * suc k ≡ 32 + 32 * k = omega arith in
-      rw (one, more, n, take-add 32 (32 * k) (drop at b), drop-drop 32 at b)
+      let e : at + 36 * 0 + 5 ≡ at + 5 = omega arith in
+      let one : voteBytes (voteAt b at) ≡ take 36 (drop at b) = voteBytes-voteAt b at byte (omega arith) (rw e at (o 0 (omega arith))) in
+      let next : (q : ℕ) → q < k → numAt 1 b (at + 36 + 36 * q + 5) ≤ 3 =
+      λ q l. let g : at + 36 * suc q + 5 ≡ at + 36 + 36 * q + 5 = omega arith in rw g at (o (suc q) (omega arith)) in
+      let more : votesBytes (votesAt k b (at + 36)) ≡ take (36 * k) (drop (at + 36) b) = votes-back k (at + 36) (omega arith) next in
+      let n : 36 * suc k ≡ 36 + 36 * k = omega arith in
+      rw (one, more, n, take-add 36 (36 * k) (drop at b), drop-drop 36 at b)
 
-  ops-at : opsFit b ≡ true → (q : ℕ) → q < 7 → numAt 1 b (39 + 32 * q + 5) ≤ 2
+  ops-at : opsFit b ≡ true → (q : ℕ) → q < 7 → numAt 1 b (43 + 36 * q + 5) ≤ 3
   unfolding opsFit
   ops-at h q l =
-      leb-true _ 2 (allBelow-at 7 (λ k. opFits b (replyPlace k)) (and-true (opFits b 4) (allBelow 7 (λ k. opFits b (replyPlace k))) h .1) q l)
+      leb-true _ 3 (allBelow-at 7 (λ k. opFits b (replyPlace k)) (and-true (opFits b 4) (allBelow 7 (λ k. opFits b (replyPlace k))) h .1) q l)
 
-  op-at : opsFit b ≡ true → numAt 1 b (4 + 5) ≤ 2
+  op-at : opsFit b ≡ true → numAt 1 b (4 + 5) ≤ 3
   unfolding opsFit
-  op-at h = leb-true _ 2 (and-true (opFits b 4) (allBelow 7 (λ k. opFits b (replyPlace k))) h .0)
+  op-at h = leb-true _ 3 (and-true (opFits b 4) (allBelow 7 (λ k. opFits b (replyPlace k))) h .0)
 
   recordBytes-recordAt : opsFit b ≡ true → recordBytes (recordAt b) ≡ b
   unfolding recordBytes frontBytes recordAt
   recordBytes-recordAt h =
       let j = bytesOf-numAt 4 b 0 byte (omega arith) in
       let v = voteBytes-voteAt b 4 byte (omega arith) (op-at h) in
-      let m = bytesOf-numAt 1 b 36 byte (omega arith) in
-      let p = bytesOf-numAt 1 b 37 byte (omega arith) in
-      let s = bytesOf-numAt 1 b 38 byte (omega arith) in
-      let w = votes-back 7 39 (omega arith) (ops-at h) in
+      let m = bytesOf-numAt 1 b 40 byte (omega arith) in
+      let p = bytesOf-numAt 1 b 41 byte (omega arith) in
+      let s = bytesOf-numAt 1 b 42 byte (omega arith) in
+      let w = votes-back 7 43 (omega arith) (ops-at h) in
       whole j v m p s w
     where
-      whole : {j v m p s w : List ℕ} → j ≡ take 4 (drop 0 b) → v ≡ take 32 (drop 4 b) → m ≡ take 1 (drop 36 b) → p ≡ take 1 (drop 37 b) → s ≡ take 1 (drop 38 b)
-          → w ≡ take 224 (drop 39 b) → (j ++ v ++ m ++ p ++ s ++ w) ≡ b
+      whole : {j v m p s w : List ℕ} → j ≡ take 4 (drop 0 b) → v ≡ take 36 (drop 4 b) → m ≡ take 1 (drop 40 b) → p ≡ take 1 (drop 41 b) → s ≡ take 1 (drop 42 b)
+          → w ≡ take 252 (drop 43 b) → (j ++ v ++ m ++ p ++ s ++ w) ≡ b
       whole ej ev em ep es ew =
-          rw (ej, ev, em, ep, es, ew, ← take-add 4 32 b, ← take-add 36 1 b, ← take-add 37 1 b, ← take-add 38 1 b, ← take-add 39 224 b)
+          rw (ej, ev, em, ep, es, ew, ← take-add 4 36 b, ← take-add 40 1 b, ← take-add 41 1 b, ← take-add 42 1 b, ← take-add 43 252 b)
           (take-all recordLength b (omega arith))
 
 -- of bytes that are sound: the record is, and they are what it is written as

@@ -75,11 +75,11 @@ all-in zero f h = refl
 all-in (suc n) f h = rw (h n (omega arith), all-in n f (λ k l. h k (omega arith)))
 
 -- the op bytes
-vote-op : (v : Vote) (q : List ℕ) → getD (voteBytes v ++ q) opInVote 0 ≤ 2
+vote-op : (v : Vote) (q : List ℕ) → getD (voteBytes v ++ q) opInVote 0 ≤ 3
 unfolding voteBytes
 vote-op v q = omega (arith, op-small (v .command .op))
 
-votes-op : (vs : List Vote) (q : ℕ) → q < length vs → getD (votesBytes vs) (voteLength * q + opInVote) 0 ≤ 2
+votes-op : (vs : List Vote) (q : ℕ) → q < length vs → getD (votesBytes vs) (voteLength * q + opInVote) 0 ≤ 3
 unfolding votesBytes
 votes-op [] q h = absurd (omega arith)
 votes-op (v ∷ vs) zero h = vote-op v (votesBytes vs)
@@ -87,22 +87,22 @@ votes-op (v ∷ vs) (suc q) h =
     let e : voteLength * suc q + opInVote ≡ length (voteBytes v) + (voteLength * q + opInVote) = omega (arith, length-voteBytes v) in
     rw (e, getD-append-add (voteBytes v) (votesBytes vs) (voteLength * q + opInVote) 0) (votes-op vs q (omega arith))
 
-front-op : (r : Record) (q : List ℕ) → getD (frontBytes r ++ q) (votePlace + opInVote) 0 ≤ 2
+front-op : (r : Record) (q : List ℕ) → getD (frontBytes r ++ q) (votePlace + opInVote) 0 ≤ 3
 unfolding frontBytes voteBytes
 front-op r q = omega (arith, op-small (r .vote .command .op))
 
 ops-written : (r : Record) → length (r .replies) ≡ 7 → opsFit (recordBytes r) ≡ true
 unfolding opsFit recordBytes
 ops-written r seven =
-    let f : numAt 1 (frontBytes r ++ votesBytes (r .replies)) (votePlace + opInVote) ≤ 2 = omega (arith, front-op r (votesBytes (r .replies))) in
-    both _ _ (le-leb _ 2 f)
+    let f : numAt 1 (frontBytes r ++ votesBytes (r .replies)) (votePlace + opInVote) ≤ 3 = omega (arith, front-op r (votesBytes (r .replies))) in
+    both _ _ (le-leb _ 3 f)
     (all-in 7 (λ q. opFits (frontBytes r ++ votesBytes (r .replies)) (replyPlace q))
     (λ q l.
     let e : replyPlace q + opInVote ≡ length (frontBytes r) + (voteLength * q + opInVote) = omega (arith, length-frontBytes r) in
-    let v : getD (votesBytes (r .replies)) (voteLength * q + opInVote) 0 ≤ 2 = votes-op (r .replies) q (omega arith) in
-    let g : numAt 1 (frontBytes r ++ votesBytes (r .replies)) (replyPlace q + opInVote) ≤ 2 =
+    let v : getD (votesBytes (r .replies)) (voteLength * q + opInVote) 0 ≤ 3 = votes-op (r .replies) q (omega arith) in
+    let g : numAt 1 (frontBytes r ++ votesBytes (r .replies)) (replyPlace q + opInVote) ≤ 3 =
     rw (e, getD-append-add (frontBytes r) (votesBytes (r .replies)) (voteLength * q + opInVote) 0) (omega arith) in
-    le-leb _ 2 g))
+    le-leb _ 3 g))
 
 -- a sound record is sound as it is written
 pub written-sound : (n s c o : ℕ) (r : Record) → RecordFits r → soundRecord n s c o r ≡ true → soundPart n s c o (recordBytes r) ≡ true

@@ -17,7 +17,7 @@ use Rattle.record.specs.Layout.{opInVote, joinedPlace, votePlace, status
 
 -- the op byte of the vote at a place
 abbrev pub opFits : List ℕ → ℕ → Bool
-opFits b at = leb (numAt 1 b (at + opInVote)) 2
+opFits b at = leb (numAt 1 b (at + opInVote)) 3
 
 unfoldable pub opsFit : List ℕ → Bool
 opsFit b = opFits b votePlace && allBelow 7 (λ q. opFits b (replyPlace q))

@@ -8,6 +8,7 @@ use crate::places::LENGTH;
 use crate::places::MARK;
 use crate::places::PHASE;
 use crate::places::REPLIES;
+use crate::places::SECOND;
 use crate::places::SET;
 use crate::places::STATUS;
 use crate::places::VOTE;
@@ -116,19 +117,26 @@ fn op_fits(b: &[u8], at: usize) -> bool
     requires { ⌜ at + voteLength ≤ length (now b) ⌝ }
     ensures { λ r. ⌜ r ≡ opFits (now (b .entry)) at ⌝ }
 {
-    at_most(wide8(numbers::get_u8(b, at + codec::COMMAND_AT)), 2)
+    at_most(wide8(numbers::get_u8(b, at + codec::COMMAND_AT)), 3)
 }
 
-// The op byte, and the command: a no-op has zero key and edit.
+// The op byte, and the command: a rewire has two keys that rise, a no-op has zero key and edit.
 fn command_fits(b: &[u8]) -> bool
     requires { ⌜ recordLength ≤ length (now b) ⌝ }
     ensures { λ r. ⌜ r ≡ commandFits (now (b .entry)) ⌝ }
 {
     let op = numbers::get_u8(b, COMMAND);
-    if op != 0 {
-        return op <= 2;
-    }
+    let second = numbers::get_u32(b, SECOND);
     let key = numbers::get_u32(b, KEY);
+    if op == 3 {
+        return key < second;
+    }
+    if second != 0 {
+        return false;
+    }
+    if op != 0 {
+        return op <= 3;
+    }
     if key != 0 {
         return false;
     }

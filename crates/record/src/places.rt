@@ -10,6 +10,8 @@ pub const COMMAND: usize = VOTE + codec::COMMAND_AT;
 
 pub const KEY: usize = COMMAND + codec::OP;
 
+pub const SECOND: usize = COMMAND + codec::SECOND_AT;
+
 pub const EDIT: usize = COMMAND + codec::EDIT_AT;
 
 pub const DEPS: usize = VOTE + codec::DEPS_AT;

@@ -41,18 +41,18 @@ returns c =
     let e = c1 .before .before .before .before in
     let l : List ℕ = e .args .b .now in
     let r = e .args .r in
-    let h : 39 ≤ length l = e .pre in
-    let n : length (voteBytes (r .vote)) ≡ 32 = length-voteBytes (r .vote) in
+    let h : 43 ≤ length l = e .pre in
+    let n : length (voteBytes (r .vote)) ≡ 36 = length-voteBytes (r .vote) in
     let b1 = bytesOf 4 (r .joined) ++ voteBytes (r .vote) in
     let b2 = b1 ++ bytesOf 1 (r .mark) in
     let b3 = b2 ++ bytesOf 1 (r .phase) in
-    let n1 : length b1 ≡ 36 = simp length-append (omega arith) in
-    let n2 : length b2 ≡ 37 = simp length-append (omega arith) in
-    let n3 : length b3 ≡ 38 = simp length-append (omega arith) in
+    let n1 : length b1 ≡ 40 = simp length-append (omega arith) in
+    let n2 : length b2 ≡ 41 = simp length-append (omega arith) in
+    let n3 : length b3 ≡ 42 = simp length-append (omega arith) in
     let w1 = splice-step l 0 (bytesOf 4 (r .joined)) 4 (voteBytes (r .vote)) (c1 .put-u32 .ensures) (c2 .write-vote .ensures) refl (omega arith) in
-    let w2 = splice-step l 0 b1 36 (bytesOf 1 (r .mark)) w1 (c3 .put-u8 .ensures) (omega arith) (omega arith) in
-    let w3 = splice-step l 0 b2 37 (bytesOf 1 (r .phase)) w2 (c4 .put-u82 .ensures) (omega arith) (omega arith) in
-    splice-step l 0 b3 38 (bytesOf 1 (r .set)) w3 (c5 .put-u83 .ensures) (omega arith) (omega arith)
+    let w2 = splice-step l 0 b1 40 (bytesOf 1 (r .mark)) w1 (c3 .put-u8 .ensures) (omega arith) (omega arith) in
+    let w3 = splice-step l 0 b2 41 (bytesOf 1 (r .phase)) w2 (c4 .put-u82 .ensures) (omega arith) (omega arith) in
+    splice-step l 0 b3 42 (bytesOf 1 (r .set)) w3 (c5 .put-u83 .ensures) (omega arith) (omega arith)
 
 pub write-front-spec : {M : Type 1} → statement M
 write-front-spec =

@@ -27,10 +27,10 @@ returns c =
     let e = c1 .before .before .before .before in
     let l : List ℕ = e .args .b .now in
     let r = e .args .r in
-    let h : length l ≡ 263 = e .pre in
-    let n : length (frontBytes r) ≡ 39 = length-frontBytes r in
-    let m : length (votesBytes (r .replies)) ≡ 224 = length-votesBytes (r .replies) ∙ ap (λ (k : ℕ). 32 * k) (c2 .write-votes .ensures .1) in
-    splice-step l 0 (frontBytes r) 39 (votesBytes (r .replies)) (c1 .write-front .ensures) (c2 .write-votes .ensures .0) (omega arith) (omega arith)
+    let h : length l ≡ 295 = e .pre in
+    let n : length (frontBytes r) ≡ 43 = length-frontBytes r in
+    let m : length (votesBytes (r .replies)) ≡ 252 = length-votesBytes (r .replies) ∙ ap (λ (k : ℕ). 36 * k) (c2 .write-votes .ensures .1) in
+    splice-step l 0 (frontBytes r) 43 (votesBytes (r .replies)) (c1 .write-front .ensures) (c2 .write-votes .ensures .0) (omega arith) (omega arith)
     ∙ splice-all l (frontBytes r ++ votesBytes (r .replies)) (simp length-append (omega arith))
 
 pub write-record-spec : {M : Type 1} → statement M

@@ -12,7 +12,7 @@ use Rattle.record.proofs.write_votes.Statement.{statement}
 use Rattle.record.proofs.write_votes.Tie as tie
 
 abbrev Inv-loop : tie.InvT-loop
-Inv-loop b₀ at vs k₀ b k = (k ≤ 7) × (b ≡ splice b₀ at (votesBytes (take k vs))) × (length b ≡ length b₀) × (at + 224 ≤ length b₀) × (length vs ≡ 7)
+Inv-loop b₀ at vs k₀ b k = (k ≤ 7) × (b ≡ splice b₀ at (votesBytes (take k vs))) × (length b ≡ length b₀) × (at + 252 ≤ length b₀) × (length vs ≡ 7)
 
 abbrev μ-loop : tie.MeasureT-loop
 μ-loop b₀ at vs k₀ b k = 7 - k
