@@ -1,6 +1,6 @@
 -- Every event keeps every record of a table sound and writable, and what it sends is valid where it goes. Assumes nothing.
 use Prim.Native.Nat.{ℕ, zero, suc, _+_, _*_, _-_, _≤_}
-use mathlib.Core.Path.{_≡_, refl}
+use mathlib.Core.Path.{_≡_, refl, sym, _∙_}
 use mathlib.Core.Bool.{Bool, true, false, _&&_, cond}
 use native.Mathlib.Omega.{arith}
 use native.Mathlib.Nat.{mul-le-mul}
@@ -12,6 +12,7 @@ use Rattle.paper.specs.Instance.{instanceOk}
 use Rattle.paper.specs.Command.{isNoop, commandOk, Interference}
 use Rattle.paper.specs.Deps.{depsOk}
 use Rattle.paper.specs.Message.{kindOf, partsOf, partsIn}
+use Rattle.paper.proofs.Bodies.{said-told}
 use Rattle.paper.specs.Valid.{valid}
 use Rattle.paper.specs.Vote.{blank, member}
 use Rattle.paper.specs.declared.Command.{Command}
@@ -136,11 +137,11 @@ module _ (n s c : ℕ) (setup : setupOk n s c ≡ true) where
       let (least, most, numbers, copy) = setup-is n s c setup in
       (few-messages n c (x .to) (x .message) (λ q e. let t = h .each q e in (t .copy, t .other)) copy, omega arith)
 
-  -- whatever the lengths of the kinds are, if they are at most 37, and 42 where a vote is told: at most 222 bytes go out
-  pub room : (size : ℕ → ℕ) → ((k : ℕ) → partsOf k .told ≡ false → size k ≤ 37) → ((k : ℕ) → size k ≤ 42) → (x : Step) → Sent n s c x
-      → length (messages x) * size (kindOf (x .message .body)) ≤ 222
+  -- whatever the lengths of the kinds are, if they are at most 41, and 46 where a vote is told: at most 246 bytes go out
+  pub room : (size : ℕ → ℕ) → ((k : ℕ) → partsOf k .told ≡ false → size k ≤ 41) → ((k : ℕ) → size k ≤ 46) → (x : Step) → Sent n s c x
+      → length (messages x) * size (kindOf (x .message .body)) ≤ 246
   room size short long x h = go (partsIn (x .message .body) .told) refl
     where
-      go : (b : Bool) → partsIn (x .message .body) .told ≡ b → length (messages x) * size (kindOf (x .message .body)) ≤ 222
-      go true e = omega (arith, mul-le-mul (h .single e) (long (kindOf (x .message .body))))
+      go : (b : Bool) → partsIn (x .message .body) .told ≡ b → length (messages x) * size (kindOf (x .message .body)) ≤ 246
+      go true e = omega (arith, mul-le-mul (h .single (sym (said-told (x .message .body)) ∙ e)) (long (kindOf (x .message .body))))
       go false e = let l : length (messages x) ≤ 6 = let (a, b) = few x h in omega arith in omega (arith, mul-le-mul l (short (kindOf (x .message .body)) e))

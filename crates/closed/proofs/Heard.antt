@@ -1,6 +1,6 @@
 -- What a valid message says of itself, by its body. Assumes nothing.
 use Prim.Native.Nat.{ℕ, _^_, _<_}
-use mathlib.Core.Path.{_≡_}
+use mathlib.Core.Path.{_≡_, _∙_}
 use mathlib.Core.Bool.{true, false}
 use lib.Dec.{leb, ltb, eqb}
 use borrow.Author.Tests.{ltb-true, eqb-true, eqb-false, not-true}
@@ -10,13 +10,14 @@ use Rattle.paper.specs.Command.{commandOk}
 use Rattle.paper.specs.Deps.{depsOk}
 use Rattle.paper.specs.Ballot.{ballotOk, lead}
 use Rattle.paper.specs.Vote.{member, toldOk}
-use Rattle.paper.specs.Message.{rowIn, partsIn, carriedIn, commandIn, votedIn, statusIn, joinedIn, voteIn, isWord, isRecovery}
+use Rattle.paper.specs.Message.{rowIn, saidIn, carriedIn, commandIn, votedIn, statusIn, joinedIn, voteIn, isWord, isRecovery}
 use Rattle.paper.specs.Valid.{valid}
 use Rattle.paper.specs.declared.Record.{Record}
 use Rattle.paper.specs.declared.Body.{Body}
 use Rattle.paper.specs.declared.Message.{Message}
 use Rattle.rules.specs.Step.{awaited}
 use Rattle.paper.specs.Fits.{DepsFit, CarriedFits, MessageFits}
+use Rattle.paper.proofs.Bodies.{said-role, said-ballots, said-told, said-joined}
 use Rattle.paper.proofs.Valid.{clauses-of, told-of}
 use Rattle.closed.proofs.Laws.{both, three}
 use Rattle.closed.proofs.Votes.{vote-is}
@@ -26,13 +27,13 @@ pub record Heard (n s c o : ℕ) (m : Message) (x : Body) : Type 0 where
   pub from : m .from < n
   pub other : m .from ≡ c → ⊥
   pub ballot : ballotOk n (m .ballot) ≡ true
-  pub recovery : implies (isRecovery (rowIn x .ballots)) (leb 8 (m .ballot)) ≡ true
-  pub lead : implies (isWord (rowIn x .role)) (eqb (m .from) (lead o (m .ballot))) ≡ true
+  pub recovery : implies (isRecovery (saidIn x .ballots)) (leb 8 (m .ballot)) ≡ true
+  pub lead : implies (isWord (saidIn x .role)) (eqb (m .from) (lead o (m .ballot))) ≡ true
   pub command : commandOk (commandIn x) ≡ true
   pub deps : depsOk n s (m .deps) ≡ true
   pub joined : ballotOk n (joinedIn x) ≡ true
-  pub told : partsIn x .told ≡ true → toldOk n s (m .ballot) (record { voted = votedIn x; status = statusIn x; command = commandIn x; deps = m .deps }) ≡ true
-  pub above : implies (partsIn x .joined) (ltb (m .ballot) (joinedIn x)) ≡ true
+  pub told : saidIn x .parts .told ≡ true → toldOk n s (m .ballot) (record { voted = votedIn x; status = statusIn x; command = commandIn x; deps = m .deps }) ≡ true
+  pub above : implies (saidIn x .parts .joined) (ltb (m .ballot) (joinedIn x)) ≡ true
   pub ballotFits : m .ballot < 256 ^ 4
   pub bodyFits : CarriedFits (carriedIn x)
   pub depsFit : DepsFit (m .deps)
@@ -45,13 +46,13 @@ heard n s c m v g =
       from = ltb-true _ _ (k .from);
       other = eqb-false _ _ (not-true _ (k .another));
       ballot = k .ballot;
-      recovery = k .recovery;
-      lead = k .lead;
+      recovery = rw (← said-ballots (m .body)) (k .recovery);
+      lead = rw (← said-role (m .body)) (k .lead);
       command = vote .command;
       deps = vote .deps;
       joined = k .joined;
-      told = told-of n s c (rowIn (m .body)) m (voteIn m) (joinedIn (m .body)) k;
-      above = k .above;
+      told = λ e. told-of n s c (rowIn (m .body)) m (voteIn m) (joinedIn (m .body)) k (said-told (m .body) ∙ e);
+      above = rw (← said-joined (m .body)) (k .above);
       ballotFits = g .ballot;
       bodyFits = g .body;
       depsFit = g .deps;

@@ -13,8 +13,9 @@ use Rattle.paper.specs.Command.{isNoop, commandOk}
 use Rattle.paper.specs.Deps.{noDeps, depsOk, sameDeps}
 use Rattle.paper.specs.Ballot.{ballotOk, lead}
 use Rattle.paper.specs.Vote.{member, votedBelow, noneIsBlank, voteOk, toldOk}
-use Rattle.paper.specs.Message.{rowOf, rowIn, partsIn, commandCarried, noneCarried, carriedIn, commandIn, votedIn, statusIn, joinedIn, isWord, isReply, isFresh, isRecovery}
-use Rattle.paper.proofs.Valid.{valid-of}
+use Rattle.paper.specs.Message.{rowOf, saidIn, commandCarried, noneCarried, carriedIn, commandIn, votedIn, statusIn, joinedIn, isWord, isReply, isFresh, isRecovery}
+use Rattle.paper.proofs.Bodies.{said-role, said-ballots, said-told, said-deps, said-joined}
+use Rattle.paper.proofs.Valid.{valid-of, carried-whole}
 use Rattle.paper.specs.declared.Command.{Command}
 use Rattle.paper.specs.declared.Vote.{Vote}
 use Rattle.paper.specs.declared.Record.{Record}
@@ -26,6 +27,7 @@ use Rattle.rules.specs.Step.{say, silent, sending}
 use Rattle.rules.specs.Events.{addressed, messagesFrom}
 use Rattle.paper.specs.Fits.{CommandFits, DepsFit, VoteFits, CarriedFits, MessageFits}
 use Rattle.closed.specs.Held.{Taken, Sent}
+use Rattle.closed.proofs.Votes.{vote-is}
 use Rattle.closed.proofs.Laws.{eqb-self, two, three, imp-in, not-in, is-false, tf}
 use Rattle.closed.proofs.Sets.{member-none, member-only-is, member-others, member-absent}
 use Rattle.paper.proofs.Deps.{none-fits}
@@ -102,15 +104,15 @@ module _ (n s c o j : ℕ) (p : Spot n s c o j) where
   -- a body x at ballot b, with d beside it, as validity asks it of any receiver
   record Saying (b : ℕ) (x : Body) (d : List ℕ) : Type 0 where
     vote : voteOk n s 3 (record { voted = votedIn x; status = statusIn x; command = commandIn x; deps = d }) ≡ true
-    below : implies (partsIn x .told) (ltb (votedIn x) b) ≡ true
-    blank : implies (partsIn x .told) (noneIsBlank (record { voted = votedIn x; status = statusIn x; command = commandIn x; deps = d })) ≡ true
-    fresh : implies (isFresh (rowIn x .ballots) && eqb b 0) (not (isNoop (commandIn x))) ≡ true
+    below : implies (saidIn x .parts .told) (ltb (votedIn x) b) ≡ true
+    blank : implies (saidIn x .parts .told) (noneIsBlank (record { voted = votedIn x; status = statusIn x; command = commandIn x; deps = d })) ≡ true
+    fresh : implies (isFresh (saidIn x .ballots) && eqb b 0) (not (isNoop (commandIn x))) ≡ true
     joined : ballotOk n (joinedIn x) ≡ true
-    above : implies (partsIn x .joined) (ltb b (joinedIn x)) ≡ true
-    carried : (partsIn x .deps || sameDeps d noDeps) ≡ true
+    above : implies (saidIn x .parts .joined) (ltb b (joinedIn x)) ≡ true
+    carried : (saidIn x .parts .deps || sameDeps d noDeps) ≡ true
 
-  taken : (q b : ℕ) (x : Body) (d : List ℕ) → q < n → (q ≡ c → ⊥) → ballotOk n b ≡ true → implies (isRecovery (rowIn x .ballots)) (leb 8 b) ≡ true
-      → implies (isWord (rowIn x .role)) (eqb c (lead o b)) ≡ true → implies (isReply (rowIn x .role)) (eqb q (lead o b)) ≡ true
+  taken : (q b : ℕ) (x : Body) (d : List ℕ) → q < n → (q ≡ c → ⊥) → ballotOk n b ≡ true → implies (isRecovery (saidIn x .ballots)) (leb 8 b) ≡ true
+      → implies (isWord (saidIn x .role)) (eqb c (lead o b)) ≡ true → implies (isReply (saidIn x .role)) (eqb q (lead o b)) ≡ true
       → Saying b x d → Taken n s c q (say c o j b x d)
   taken q b x d lq other hb recovery word reply says =
       record {
@@ -122,18 +124,19 @@ module _ (n s c o j : ℕ) (p : Spot n s c o j) where
           owner = lt-ltb o n (p .owner);
           number = p .number;
           ballot = hb;
-          recovery = recovery;
+          recovery = rw (said-ballots x) recovery;
           here = eqb-self q;
           another = not-in _ (ne-eqb c q (λ e. other (sym e)));
-          lead = word;
-          reply = reply;
+          lead = rw (said-role x) word;
+          reply = rw (said-role x) reply;
           vote = says .vote;
-          below = says .below;
-          blank = says .blank;
-          fresh = says .fresh;
+          below = rw (said-told x) (says .below);
+          blank = rw (said-told x) (says .blank);
+          fresh = rw (said-ballots x) (says .fresh);
           joined = says .joined;
-          above = says .above;
-          carried = says .carried;
+          above = rw (said-joined x) (says .above);
+          carried = rw (said-deps x) (says .carried);
+          short = carried-whole x (record { voted = votedIn x; status = statusIn x; command = commandIn x; deps = d }) refl (vote-is n s 3 _ (says .vote) .command);
         });
       }
 
@@ -155,7 +158,7 @@ module _ (n s c o j : ℕ) (p : Spot n s c o j) where
   command-fits f = record { voted = omega arith; status = omega arith; command = f; joined = omega arith }
 
   none-carried-fits : CarriedFits noneCarried
-  none-carried-fits = command-fits (record { key = omega arith; edit = omega arith })
+  none-carried-fits = command-fits (record { key = omega arith; second = omega arith; edit = omega arith })
 
   module _ (r : Record) (to b : ℕ) (hb : ballotOk n b ≡ true) (lb : b < 256 ^ 4) where
     -- PreAccept, Accept and Commit to others
@@ -235,7 +238,7 @@ module _ (n s c o j : ℕ) (p : Spot n s c o j) where
                 taken q b (Nack x) noDeps l f hb refl refl (eq-eqb q (lead o b) g)
                 (record { vote = rw (no-deps n s) refl; below = refl; blank = refl; fresh = refl; joined = hx; above = lt-ltb b x above; carried = refl });
             single = λ e. tf _ e refl;
-            fits = fits b (Nack x) noDeps lb (record { voted = omega arith; status = omega arith; command = record { key = omega arith; edit = omega arith }; joined = lx }) none-fits;
+            fits = fits b (Nack x) noDeps lb (record { voted = omega arith; status = omega arith; command = record { key = omega arith; second = omega arith; edit = omega arith }; joined = lx }) none-fits;
           }
 
   -- a PrepareOK goes to one copy
@@ -267,7 +270,7 @@ silent-sent n s c r =
         owner = omega arith;
         number = omega arith;
         ballot = omega arith;
-        body = record { voted = omega arith; status = omega arith; command = record { key = omega arith; edit = omega arith }; joined = omega arith };
+        body = record { voted = omega arith; status = omega arith; command = record { key = omega arith; second = omega arith; edit = omega arith }; joined = omega arith };
         deps = none-fits;
       };
     }

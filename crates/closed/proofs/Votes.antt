@@ -9,7 +9,7 @@ use lib.Dec.{ltb, eqb}
 use lib.ListN.{length, getD, set, List·getD-eq-default}
 use borrow.Author.Tests.{leb-true, le-leb, ne-eqb}
 use Rattle.paper.specs.Logic.{allBelow}
-use Rattle.paper.specs.Command.{noop, opNumber, sameCommand, commandOk}
+use Rattle.paper.specs.Command.{noop, sameCommand, commandOk}
 use Rattle.paper.specs.Deps.{depsOk, sameDeps}
 use Rattle.paper.specs.Ballot.{ballotOk}
 use Rattle.paper.specs.Vote.{noVote, sameVote, noneIsBlank, voteOk, toldOk, addedOk, member}
@@ -17,7 +17,7 @@ use Rattle.paper.specs.Sound.{collectedOk, replyOk, repliesOk}
 use Rattle.paper.specs.declared.Command.{Command}
 use Rattle.paper.specs.declared.Vote.{Vote}
 use Rattle.paper.specs.declared.Record.{Record}
-use Rattle.paper.proofs.Laws.{allBelow-at, sameCommand-eq}
+use Rattle.paper.proofs.Laws.{allBelow-at, sameCommand-eq, sameCommand-refl}
 use Rattle.rules.specs.Step.{noReplies}
 use Rattle.paper.proofs.Deps.{none-fits}
 use Rattle.paper.specs.Fits.{CommandFits, VoteFits, VotesFit}
@@ -39,17 +39,13 @@ pub no-vote-fits : VoteFits noVote
 no-vote-fits = record { voted = omega arith; status = omega arith; command = noop-fits; deps = none-fits }
 
 -- equal votes are the same
-same-command-refl : (k : Command) → sameCommand k k ≡ true
-unfolding sameCommand
-same-command-refl k = both _ _ (both _ _ (eqb-self (opNumber (k .op))) (eqb-self (k .key))) (eqb-self (k .edit))
-
 pub same-deps-refl : (d : List ℕ) → sameDeps d d ≡ true
 unfolding sameDeps
 same-deps-refl d = all-in 7 (λ i. eqb (getD d i 0) (getD d i 0)) (λ i l. eqb-self (getD d i 0))
 
 pub same-vote-refl : (v : Vote) → sameVote v v ≡ true
 unfolding sameVote
-same-vote-refl v = both _ _ (both _ _ (both _ _ (eqb-self (v .voted)) (eqb-self (v .status))) (same-command-refl (v .command))) (same-deps-refl (v .deps))
+same-vote-refl v = both _ _ (both _ _ (both _ _ (eqb-self (v .voted)) (eqb-self (v .status))) (sameCommand-refl (v .command))) (same-deps-refl (v .deps))
 
 -- a vote that is not none
 pub none-in : (v : Vote) → 1 ≤ v .status → noneIsBlank v ≡ true

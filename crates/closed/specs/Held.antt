@@ -6,7 +6,7 @@ use mathlib.Core.Bool.{true}
 use lib.ListN.{length}
 use Rattle.paper.specs.Instance.{instanceOk}
 use Rattle.paper.specs.Vote.{member}
-use Rattle.paper.specs.Message.{partsIn}
+use Rattle.paper.specs.Message.{saidIn}
 use Rattle.paper.specs.Sound.{soundRecord}
 use Rattle.paper.specs.Valid.{valid}
 use Rattle.paper.specs.declared.Record.{Record}
@@ -30,7 +30,7 @@ pub record Taken (n s c q : ℕ) (m : Message) : Type 0 where
 -- each member of the set takes what goes out; what tells of a whole vote, longer than a proposal, goes to one copy
 pub record Sent (n s c : ℕ) (x : Step) : Type 0 where
   pub each : (q : ℕ) → member q (x .to) ≡ true → Taken n s c q (x .message)
-  pub single : partsIn (x .message .body) .told ≡ true → length (messages x) ≤ 1
+  pub single : saidIn (x .message .body) .parts .told ≡ true → length (messages x) ≤ 1
   pub fits : MessageFits (x .message)
 
 -- what each event leaves and sends

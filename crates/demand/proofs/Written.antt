@@ -58,7 +58,7 @@ few [] = omega arith
 few (m ∷ ms) = rw (length-append (messageBytes m) (allBytes ms)) (omega (arith, few ms, ten (kindOf (m .body)), length-messageBytes m))
 
 -- what an event writes is cut into the messages of its step
-pub written-is : (x : Step) (out : List ℕ) → 256 ≤ length out → length (outBytes x) ≤ 222
+pub written-is : (x : Step) (out : List ℕ) → 256 ≤ length out → length (outBytes x) ≤ 246
     → written (length (outBytes x)) (splice out 0 (outBytes x)) ≡ map messageBytes (messages x)
 written-is x out h l =
     let t : take (length (outBytes x)) (splice out 0 (outBytes x)) ≡ outBytes x = splice-same out 0 (outBytes x) (length (outBytes x)) refl (omega arith) in

@@ -40,7 +40,7 @@ all-long (suc k) q to m = go (member q to) refl (all-long k (q + 1) to m)
     go false e h = rw e h
 
 -- what an event sends fits the room
-pub out-short : (n s c : ℕ) → setupOk n s c ≡ true → (x : Step) → Sent n s c x → length (outBytes x) ≤ 222
+pub out-short : (n s c : ℕ) → setupOk n s c ≡ true → (x : Step) → Sent n s c x → length (outBytes x) ≤ 246
 out-short n s c p x h =
     let r = room n s c p lengthOf untold-short long-enough x h in
     rw (all-long 7 0 (x .to) (x .message)) r

@@ -17,17 +17,17 @@ use Rattle.paper.specs.Command.{interfere}
 use Rattle.rules.specs.Events.{requestNumber, onRequest, onRecover, onNudge}
 use Rattle.table.specs.Table.{recordIn}
 use Rattle.seen.specs.Records.{recordsIn}
-use Rattle.log.specs.Events.{refuse, acted, opTaken, asked, requestOpen, recoverOpen, nudgeOpen}
+use Rattle.log.specs.Events.{refuse, acted, commandTaken, asked, requestOpen, recoverOpen, nudgeOpen}
 
 module _ (n s c : ℕ) (t out : List ℕ) where
   -- a request: 4, then 5
-  module _ (op key edit : ℕ) where
-    pub request-4 : opTaken op ≡ false → refuse why.Op t out ≡ requestOpen n s c t out op key edit
+  module _ (op key second edit : ℕ) where
+    pub request-4 : commandTaken op key second edit ≡ false → refuse why.Op t out ≡ requestOpen n s c t out op key second edit
     unfolding requestOpen
     request-4 e = rw e
 
-    pub request-ok : {x : Op} → x ≡ opOf op → opTaken op ≡ true
-        → asked interfere n s c t out (record { op = x; key = key; edit = edit }) ≡ requestOpen n s c t out op key edit
+    pub request-ok : {x : Op} → x ≡ opOf op → commandTaken op key second edit ≡ true
+        → asked interfere n s c t out (record { op = x; key = key; second = second; edit = edit }) ≡ requestOpen n s c t out op key second edit
     unfolding requestOpen asked
     request-ok ex e = rw (ex, e)
 

@@ -19,7 +19,7 @@ use Rattle.log.specs.Out.{allBytes, Turn}
 -- all but those below copy q are still to be written, after `at` bytes
 pub record Going (out₀ : List ℕ) (to : ℕ) (m : Message) (out : List ℕ) (at q : ℕ) : Type 0 where
   pub room : 256 ≤ length out₀
-  pub short : length (allBytes (messagesFrom 7 0 to m)) ≤ 222
+  pub short : length (allBytes (messagesFrom 7 0 to m)) ≤ 246
   pub copies : q ≤ 7
   pub long : length out ≡ length out₀
   pub within : at ≤ length (allBytes (messagesFrom 7 0 to m))
@@ -42,7 +42,7 @@ from-none : (k q to : ℕ) (m : Message) → k ≡ 0 → allBytes (messagesFrom 
 unfolding messagesFrom allBytes
 from-none k q to m e = rw e
 
-pub start : (out₀ : List ℕ) (to : ℕ) (m : Message) → 256 ≤ length out₀ → length (allBytes (messagesFrom 7 0 to m)) ≤ 222 → Going out₀ to m out₀ 0 0
+pub start : (out₀ : List ℕ) (to : ℕ) (m : Message) → 256 ≤ length out₀ → length (allBytes (messagesFrom 7 0 to m)) ≤ 246 → Going out₀ to m out₀ 0 0
 start out₀ to m h l =
     record { room = h; short = l; copies = omega arith; long = refl; within = omega arith; rest = refl; done = splice-nil out₀ 0 }
 
@@ -62,7 +62,7 @@ module _ (out₀ : List ℕ) (to : ℕ) (m : Message) (out : List ℕ) (at q : �
   split e = g .rest ∙ from-in (7 - q) q to m (omega arith) e
 
   -- a message more fits
-  pub fits : member q to ≡ true → (at + lengthOf (kindOf (m .body)) ≤ 222) × (at + 42 ≤ length out)
+  pub fits : member q to ≡ true → (at + lengthOf (kindOf (m .body)) ≤ 246) × (at + 46 ≤ length out)
   unfolding all
   fits e =
       let l : length (drop at all) ≡ length one + length (allBytes (messagesFrom (7 - q - 1) (q + 1) to m)) = ap length (split e) ∙ length-append one _ in

@@ -3,14 +3,14 @@
 -- have `interfere`.
 use Prim.Native.Nat.{ℕ, _≤_}
 use mathlib.Core.Path.{_≡_}
-use mathlib.Core.Bool.{Bool, true, _||_, not, cond}
+use mathlib.Core.Bool.{Bool, true, _&&_, not, cond}
 use mathlib.Core.List.{List}
-use lib.Dec.{ltb, eqb}
+use lib.Dec.{leb, ltb}
 use lib.ListN.{length}
 use Rattle.numbers.specs.Num.{splice}
 use Rattle.codec.specs.Parts.{opOf}
 use Rattle.paper.specs.Instance.{instanceOk}
-use Rattle.paper.specs.Command.{Interference, interfere}
+use Rattle.paper.specs.Command.{Interference, interfere, secondOk}
 use Rattle.paper.specs.Refusal.{numberOf, offsetIn}
 use Rattle.paper.specs.declared.Command.{Command}
 use Rattle.paper.specs.declared.Message.{Message}
@@ -63,25 +63,29 @@ unfoldable pub gated : ℕ → ℕ → ℕ → List ℕ → List ℕ → Outcome
 gated n s c t out rest = through (gateOf n s c t (length out)) t out rest
 
 -- the command of a request
-abbrev pub commandOf : ℕ → ℕ → ℕ → Command
-commandOf op key edit = record { op = opOf op; key = key; edit = edit }
+abbrev pub commandOf : ℕ → ℕ → ℕ → ℕ → Command
+commandOf op key second edit = record { op = opOf op; key = key; second = second; edit = edit }
 
--- the ops that the call takes
+-- the ops that the call takes, and the commands: each with the keys that go with its op
 abbrev pub opTaken : ℕ → Bool
-opTaken op = eqb op 1 || eqb op 2
+opTaken op = leb 1 op && leb op 3
 
--- a request past that, of any command that is no no-op: 5, then the event
+abbrev pub commandTaken : ℕ → ℕ → ℕ → ℕ → Bool
+commandTaken op key second edit = opTaken op && secondOk (commandOf op key second edit)
+
+-- a request past that, of any command that is no no-op and has its keys: 5, then the event
 unfoldable pub asked : Interference → ℕ → ℕ → ℕ → List ℕ → List ℕ → Command → Outcome
 asked w n s c t out k =
     cond (ltb s (requestNumber s c (recordsIn s t))) (refuse why.NoBlank t out)
     (acted s t out c (requestNumber s c (recordsIn s t)) (onRequest w n s c (recordsIn s t) k))
 
 -- Request: 4, then the rest
-unfoldable pub requestOpen : ℕ → ℕ → ℕ → List ℕ → List ℕ → ℕ → ℕ → ℕ → Outcome
-requestOpen n s c t out op key edit = cond (not (opTaken op)) (refuse why.Op t out) (asked interfere n s c t out (commandOf op key edit))
+unfoldable pub requestOpen : ℕ → ℕ → ℕ → List ℕ → List ℕ → ℕ → ℕ → ℕ → ℕ → Outcome
+requestOpen n s c t out op key second edit =
+    cond (not (commandTaken op key second edit)) (refuse why.Op t out) (asked interfere n s c t out (commandOf op key second edit))
 
-abbrev pub requested : ℕ → ℕ → ℕ → List ℕ → List ℕ → ℕ → ℕ → ℕ → Outcome
-requested n s c t out op key edit = gated n s c t out (requestOpen n s c t out op key edit)
+abbrev pub requested : ℕ → ℕ → ℕ → List ℕ → List ℕ → ℕ → ℕ → ℕ → ℕ → Outcome
+requested n s c t out op key second edit = gated n s c t out (requestOpen n s c t out op key second edit)
 
 -- what the reader refuses is refused
 abbrev pub unlessRefused : Reading → List ℕ → List ℕ → Outcome → Outcome

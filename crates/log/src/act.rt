@@ -26,7 +26,7 @@ pub fn short(x: usize) -> u16
 }
 
 pub fn act(t: &mut [u8], out: &mut [u8], n: usize, s: usize, o: usize, j: usize, x: Step) -> Answer
-    requires { ⌜ Has n s o j (now t) × (256 ≤ length (now out)) × (length (outBytes x) ≤ 222) ⌝ }
+    requires { ⌜ Has n s o j (now t) × (256 ≤ length (now out)) × (length (outBytes x) ≤ 246) ⌝ }
     ensures answers { λ r. ⌜ r ≡ Answer.Event o j (length (outBytes x)) ⌝ }
     ensures table { λ _. ⌜ now (t .exit) ≡ putRecord s (now (t .entry)) o j (x .entry) ⌝ }
     ensures room { λ _. ⌜ now (out .exit) ≡ splice (now (out .entry)) 0 (outBytes x) ⌝ }

@@ -64,7 +64,7 @@ fn send_one(out: &mut [u8], at: usize, q: usize, to: u8, m: Message) -> usize
 
 // Writes the messages one after the other at the front of the room; how many bytes they are.
 pub fn send_all(out: &mut [u8], to: u8, m: Message) -> usize
-    requires { ⌜ (256 ≤ length (now out)) × (length (allBytes (messagesFrom 7 0 to m)) ≤ 222) ⌝ }
+    requires { ⌜ (256 ≤ length (now out)) × (length (allBytes (messagesFrom 7 0 to m)) ≤ 246) ⌝ }
     ensures answers { λ x. ⌜ x ≡ length (allBytes (messagesFrom 7 0 to m)) ⌝ }
     ensures room { λ _. ⌜ now (out .exit) ≡ splice (now (out .entry)) 0 (allBytes (messagesFrom 7 0 to m)) ⌝ }
 {

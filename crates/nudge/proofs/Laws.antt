@@ -21,7 +21,7 @@ use Rattle.log.proofs.Calls.{setup-of}
 
 module _ (n s c : ℕ) (t out : List ℕ) (o j : ℕ) where
   pub nudge-room : Bytes t → Passed n s c t (length out) → instanceOk n s o j ≡ true → nothingToNudge (recordIn s t o j) ≡ false
-      → length (outBytes (onNudge n c (recordsIn s t) o j)) ≤ 222
+      → length (outBytes (onNudge n c (recordsIn s t) o j)) ≤ 246
   nudge-room b p i k =
       let setup = setup-of n s c t (p .setup) in
       out-short n s c setup _ (nudge-event n s c setup (recordsIn s t) (sound-records n s c t b (p .setup) (p .sound)) o j i k .sent)

@@ -39,7 +39,7 @@ hand-out-unique n s c t list x y u v k l p q = (p .0 ∙ sym (q .0), p .1 .0 ∙
 pub settling-apart : (a b : Settling) → settlingNumber a ≡ settlingNumber b → settlingValues a ≡ settlingValues b → (settlingNumber a ≡ 35 → ⊥) → a ≡ b
 settling-apart (settling.Settled k) (settling.Settled l) e v m =
     let op = opNumber-apart (k .op) (l .op) (value 1 v) in
-    λ i. settling.Settled (record { op = op i; key = value 2 v i; edit = value 3 v i })
+    λ i. settling.Settled (record { op = op i; key = value 2 v i; second = value 3 v i; edit = value 4 v i })
   where
     value : (i : ℕ) → settlingValues (settling.Settled k) ≡ settlingValues (settling.Settled l) → getD (settlingValues (settling.Settled k)) i 0 ≡ getD (settlingValues (settling.Settled l)) i 0
     value i v = ap (λ (x : List ℕ). getD x i 0) v

@@ -76,9 +76,9 @@ settlingNumber (settling.Waits o j) = 0
 settlingNumber (settling.Refused r) = numberOf r
 
 abbrev pub settlingValues : Settling → List ℕ
-settlingValues (settling.Settled k) = 1 ∷ opNumber (k .op) ∷ k .key ∷ k .edit ∷ []
-settlingValues (settling.Waits o j) = 0 ∷ o ∷ j ∷ 0 ∷ []
-settlingValues (settling.Refused r) = 0 ∷ 0 ∷ 0 ∷ 0 ∷ []
+settlingValues (settling.Settled k) = 1 ∷ opNumber (k .op) ∷ k .key ∷ k .second ∷ k .edit ∷ []
+settlingValues (settling.Waits o j) = 0 ∷ o ∷ j ∷ 0 ∷ 0 ∷ []
+settlingValues (settling.Refused r) = 0 ∷ 0 ∷ 0 ∷ 0 ∷ 0 ∷ []
 
 -- and how many codes
 abbrev pub handingNumber : Handing → ℕ

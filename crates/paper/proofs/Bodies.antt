@@ -8,7 +8,7 @@ use native.Mathlib.Omega.{arith}
 use lib.ListN.{getD}
 use Rattle.paper.specs.Logic.{implies}
 use Rattle.paper.specs.Command.{noop, isRewire}
-use Rattle.paper.specs.Message.{unknown, rows, rowOf, rowIn, partsOf, partsIn, kindBy, kindOf, isCommit, commandCarried, carriedIn, commandIn, joinedIn, bodyOf, isFresh, kept}
+use Rattle.paper.specs.Message.{unknown, rows, rowOf, rowIn, partsOf, partsIn, kindBy, kindOf, shortKind, saidIn, isCommit, commandCarried, carriedIn, commandIn, joinedIn, bodyOf, isFresh, kept}
 use Rattle.paper.specs.declared.Command.{Command}
 use Rattle.paper.specs.declared.Body.{Body}
 use Rattle.paper.specs.declared.Body.the-variants.{PreAccept, PreAcceptOk, Accept, AcceptOk, Commit, Prepare, PrepareOk, Nack}
@@ -88,6 +88,57 @@ second-is (Commit k) = long-where 5 11 k refl refl
 second-is Prepare = refl
 second-is (PrepareOk v t k) = long-where 7 12 k refl refl
 second-is (Nack x) = refl
+
+-- the same row with a second key or without
+withSecond : Bool → Row → Row
+withSecond t r =
+    record {
+      known = r .known;
+      role = r .role;
+      ballots = r .ballots;
+      parts = record { told = r .parts .told; command = r .parts .command; second = t; deps = r .parts .deps; joined = r .parts .joined };
+    }
+
+two-rows : (short long : ℕ) (k : Command) → rowOf short ≡ withSecond false (rowOf short) → rowOf long ≡ withSecond true (rowOf short)
+    → rowOf (kindBy short long k) ≡ withSecond (isRewire k) (rowOf short)
+two-rows short long k p q = go (isRewire k)
+  where
+    go : (t : Bool) → rowOf (cond t long short) ≡ withSecond t (rowOf short)
+    go true = q
+    go false = p
+
+-- the rows of a body's two kinds differ in the second key alone
+row-said : (b : Body) → rowIn b ≡ withSecond (isRewire (commandIn b)) (saidIn b)
+unfolding rowOf withSecond
+row-said (PreAccept k) = two-rows 1 9 k refl refl
+row-said PreAcceptOk = refl
+row-said (Accept k) = two-rows 3 10 k refl refl
+row-said AcceptOk = refl
+row-said (Commit k) = two-rows 5 11 k refl refl
+row-said Prepare = refl
+row-said (PrepareOk v t k) = two-rows 7 12 k refl refl
+row-said (Nack x) = refl
+
+module _ (b : Body) where
+  pub said-role : rowIn b .role ≡ saidIn b .role
+  unfolding withSecond
+  said-role = ap (λ (r : Row). r .role) (row-said b)
+
+  pub said-ballots : rowIn b .ballots ≡ saidIn b .ballots
+  unfolding withSecond
+  said-ballots = ap (λ (r : Row). r .ballots) (row-said b)
+
+  pub said-told : partsIn b .told ≡ saidIn b .parts .told
+  unfolding withSecond
+  said-told = ap (λ (r : Row). r .parts .told) (row-said b)
+
+  pub said-deps : partsIn b .deps ≡ saidIn b .parts .deps
+  unfolding withSecond
+  said-deps = ap (λ (r : Row). r .parts .deps) (row-said b)
+
+  pub said-joined : partsIn b .joined ≡ saidIn b .parts .joined
+  unfolding withSecond
+  said-joined = ap (λ (r : Row). r .parts .joined) (row-said b)
 
 -- what is tested of every row of the table, and of none, holds of each kind's row
 unfoldable pub allOf : (Row → Bool) → List Row → Bool

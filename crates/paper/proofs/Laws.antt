@@ -9,7 +9,7 @@ use native.Mathlib.Nat.{eq-or-lt-of-le}
 use lib.Dec.{eqb}
 use lib.ListN.{length, getD}
 use lib.Seq.{ext-getD}
-use borrow.Author.Tests.{eqb-true}
+use borrow.Author.Tests.{eqb-true, eq-eqb}
 use Rattle.paper.specs.Logic.{allBelow}
 use Rattle.paper.specs.Deps.{sameDeps}
 use Rattle.paper.specs.Command.{opNumber, sameCommand}
@@ -51,6 +51,12 @@ op-back Rewire = refl
 
 pub opNumber-apart : (a b : Op) → opNumber a ≡ opNumber b → a ≡ b
 opNumber-apart a b e = sym (op-back a) ∙ ap opFrom e ∙ op-back b
+
+-- a command is the same as itself
+pub sameCommand-refl : (a : Command) → sameCommand a a ≡ true
+unfolding sameCommand
+sameCommand-refl a =
+    rw (eq-eqb (opNumber (a .op)) (opNumber (a .op)) refl, eq-eqb (a .key) (a .key) refl, eq-eqb (a .second) (a .second) refl, eq-eqb (a .edit) (a .edit) refl)
 
 -- equal commands are equal
 pub sameCommand-eq : (a b : Command) → sameCommand a b ≡ true → a ≡ b

@@ -1,8 +1,8 @@
 -- A valid message is one of which every clause holds; those of the vote that it carries taken together, as records have them.
 -- Assumes nothing.
 use Prim.Native.Nat.{ℕ, zero, suc, _+_, _≤_, _<_}
-use mathlib.Core.Path.{_≡_, refl, sym, _∙_}
-use mathlib.Core.Bool.{Bool, true, false, _&&_, cond}
+use mathlib.Core.Path.{_≡_, refl, sym, ap, _∙_}
+use mathlib.Core.Bool.{Bool, true, false, _&&_, _||_, cond}
 use mathlib.Core.List.{List, [], _∷_, _++_}
 use native.Mathlib.Omega.{arith}
 use Rattle.paper.specs.Logic.{implies, allBelow}
@@ -11,10 +11,11 @@ use Rattle.paper.specs.Deps.{entryOk, depsOk}
 use Rattle.paper.specs.Vote.{votedOk, statusOk, voteOk, noneVoted, noneOp, noneEntry, noneIsBlank, toldOk}
 use Rattle.paper.specs.Message.{rowIn, partsIn, commandIn, voteIn, joinedIn}
 use Rattle.paper.specs.Valid.{fromRange, toRange, ownerRange, numberRange, ballotRange, recoveryBallot, toHere, fromAnother, fromLead, toLead, toldBelow, freshOp, joinedRange, joinedAbove, depsCarried, secondCarried, opRange, Clause, EntryRange, ToldEntry, carriedClauses, headClauses, wayClauses, toldClauses, commandClauses, entryClauses, depsClauses, joinedClauses, Failing, none, first, holdsOf, holds, clauses, firstOf, firstFailing, isNone, opIn, valid, verdictOf, verdictOn}
-use lib.Dec.{eqb}
+use lib.Dec.{ltb, eqb}
 use Rattle.paper.specs.declared.Op.{Op}
 use Rattle.paper.specs.declared.Op.the-variants.{Noop, Read, Write, Rewire}
 use Rattle.paper.specs.declared.Command.{Command}
+use Rattle.paper.specs.declared.Body.{Body}
 use Rattle.paper.specs.declared.Vote.{Vote}
 use Rattle.paper.specs.declared.Verdict.{Verdict}
 use Rattle.paper.specs.declared.Verdict.the-variants as verdict
@@ -156,6 +157,18 @@ module _ (n s c : ℕ) (w : Row) (m : Message) (v : Vote) (o j : ℕ) where
       front : (t a b d : Bool) → implies t (a && b && d) ≡ true → (implies t a ≡ true) × (implies t b ≡ true)
       front true a b d h = and-true a b (and-true (a && b) d h .0)
       front false a b d h = (refl, refl)
+
+-- a kind without a second key carries a command that has none
+pub carried-whole : (b : Body) (v : Vote) → v .command ≡ commandIn b → commandOk (v .command) ≡ true → secondCarried (rowIn b) v ≡ true
+unfolding commandOk
+carried-whole b v e h =
+    let (keys, edit) = and-true (keyOk (v .command) && secondOk (v .command)) _ h in
+    let second = and-true (keyOk (v .command)) _ keys .1 in
+    rw (second-is b, sym (ap isRewire e)) (go (isRewire (v .command)) (ltb (v .command .key) (v .command .second)) (eqb (v .command .second) 0) second)
+  where
+    go : (t l z : Bool) → cond t l z ≡ true → (t || z) ≡ true
+    go true l z h = refl
+    go false l z h = h
 
 -- what a PrepareOK may tell
 pub told-of : (n s c : ℕ) (w : Row) (m : Message) (v : Vote) (j : ℕ) → Clauses n s c w m v j → w .parts .told ≡ true → toldOk n s (m .ballot) v ≡ true

@@ -80,6 +80,21 @@ kindOf Prepare = 6
 kindOf (PrepareOk v t c) = kindBy 7 12 c
 kindOf (Nack j) = 8
 
+-- whatever a body carries, it is said by the same copy, at the same ballots, with the same parts but for a second key: as its short
+-- kind has them
+abbrev pub shortKind : Body → ℕ
+shortKind (PreAccept c) = 1
+shortKind PreAcceptOk = 2
+shortKind (Accept c) = 3
+shortKind AcceptOk = 4
+shortKind (Commit c) = 5
+shortKind Prepare = 6
+shortKind (PrepareOk v t c) = 7
+shortKind (Nack j) = 8
+
+abbrev pub saidIn : Body → Row
+saidIn b = rowOf (shortKind b)
+
 abbrev pub isCommit : Body → Bool
 isCommit (PreAccept c) = false
 isCommit PreAcceptOk = false

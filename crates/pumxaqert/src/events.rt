@@ -36,16 +36,17 @@ pub extern "C" fn pumxaqert_request(
     out: &mut [u8],
     op: usize,
     key: u32,
+    second: u32,
     edit: u64,
     values: &mut [usize; 4],
 ) -> u32
-    ensures number { λ r. ⌜ r ≡ answerNumber (requested n s c (now (table .entry)) (now (out .entry)) op key edit .answer) ⌝ }
-    ensures values { λ _. ⌜ now (values .exit) ≡ answerValues (requested n s c (now (table .entry)) (now (out .entry)) op key edit .answer) ⌝ }
-    ensures table { λ _. ⌜ now (table .exit) ≡ requested n s c (now (table .entry)) (now (out .entry)) op key edit .table ⌝ }
-    ensures room { λ _. ⌜ now (out .exit) ≡ requested n s c (now (table .entry)) (now (out .entry)) op key edit .out ⌝ }
+    ensures number { λ r. ⌜ r ≡ answerNumber (requested n s c (now (table .entry)) (now (out .entry)) op key second edit .answer) ⌝ }
+    ensures values { λ _. ⌜ now (values .exit) ≡ answerValues (requested n s c (now (table .entry)) (now (out .entry)) op key second edit .answer) ⌝ }
+    ensures table { λ _. ⌜ now (table .exit) ≡ requested n s c (now (table .entry)) (now (out .entry)) op key second edit .table ⌝ }
+    ensures room { λ _. ⌜ now (out .exit) ≡ requested n s c (now (table .entry)) (now (out .entry)) op key second edit .out ⌝ }
 {
     give(
-        request::ask::request(table, n, s, c, out, op, key, edit),
+        request::ask::request(table, n, s, c, out, op, key, second, edit),
         values,
     )
 }

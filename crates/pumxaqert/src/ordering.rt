@@ -10,11 +10,17 @@ ghost use mathlib.Core.Path.{_≡_};
 ghost use Rattle.order.specs.Calls.{settled, handed, settlingNumber, handingNumber};
 ghost use Rattle.order.specs.Calls.{settlingValues, handingCount};
 
-fn command_values(k: Command) -> [u64; 4]
+fn command_values(k: Command) -> [u64; 5]
     ensures { λ r. ⌜ r ≡ settlingValues (Settling.Settled k) ⌝ }
 {
     let op = k.op;
-    [1, from_size(op_number(op)), from32(k.key), k.edit]
+    [
+        1,
+        from_size(op_number(op)),
+        from32(k.key),
+        from32(k.second),
+        k.edit,
+    ]
 }
 
 #[no_mangle]
@@ -25,7 +31,7 @@ pub extern "C" fn pumxaqert_settled(
     c: usize,
     owner: usize,
     number: usize,
-    values: &mut [u64; 4],
+    values: &mut [u64; 5],
 ) -> u32
     ensures number { λ r. ⌜ r ≡ settlingNumber (settled n s c (now (table .entry)) owner number) ⌝ }
     ensures values { λ _. ⌜ now (values .exit) ≡ settlingValues (settled n s c (now (table .entry)) owner number) ⌝ }
@@ -40,11 +46,11 @@ pub extern "C" fn pumxaqert_settled(
             owner: o,
             number: j,
         } => {
-            *values = [0, from_size(o), from_size(j), 0];
+            *values = [0, from_size(o), from_size(j), 0, 0];
             0
         }
         Settling::Refused(why) => {
-            *values = [0, 0, 0, 0];
+            *values = [0, 0, 0, 0, 0];
             number_of(why)
         }
     }

@@ -106,7 +106,7 @@ module _ (n s c : ℕ) (t : List ℕ) (room : ℕ) (m : Message) (h : specs.Hear
       let p = two-pow n most in
       rw er (omega arith)
 
-  pub message-room : Bytes t → length (outBytes (onMessage interfere n s c (recordsIn s t) m)) ≤ 222
+  pub message-room : Bytes t → length (outBytes (onMessage interfere n s c (recordsIn s t) m)) ≤ 246
   message-room b =
       let setup = setup-of n s c t (h .passed .setup) in
       out-short n s c setup _ (message-event n s c setup (recordsIn s t) (sound-records n s c t b (h .passed .setup) (h .passed .sound)) interfere m (h .valid) (h .fits) .sent)

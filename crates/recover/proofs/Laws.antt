@@ -22,7 +22,7 @@ use Rattle.log.proofs.Calls.{setup-of}
 
 module _ (n s c : ℕ) (t out : List ℕ) (o j : ℕ) where
   pub recover-room : Bytes t → Passed n s c t (length out) → instanceOk n s o j ≡ true → isCommitted (recordIn s t o j) ≡ false
-      → outOfBallots (recordIn s t o j) ≡ false → length (outBytes (onRecover n c (recordsIn s t) o j)) ≤ 222
+      → outOfBallots (recordIn s t o j) ≡ false → length (outBytes (onRecover n c (recordsIn s t) o j)) ≤ 246
   recover-room b p i k l =
       let setup = setup-of n s c t (p .setup) in
       out-short n s c setup _ (recover-event n s c setup (recordsIn s t) (sound-records n s c t b (p .setup) (p .sound)) o j i k l .sent)

@@ -1,14 +1,14 @@
 -- What a request's step rests on, and that it is the rule's. Assumes nothing.
-use mathlib.Core.Path.{_≡_, refl}
-use mathlib.Core.Bool.{Bool, true, false, _||_}
+use mathlib.Core.Path.{_≡_, refl, ap, _∙_}
+use mathlib.Core.Bool.{true, false}
 use mathlib.Core.List.{List}
-use Prim.Native.Nat.{ℕ, _^_, _≤_, _<_}
+use Prim.Native.Nat.{ℕ, zero, suc, _^_, _≤_, _<_}
 use native.Mathlib.Omega.{arith}
-use lib.Dec.{eqb}
+use lib.Dec.{leb, eqb}
 use lib.ListN.{length}
-use borrow.Author.Tests.{eqb-true}
+use borrow.Author.Tests.{leb-true}
 use Rattle.codec.specs.Parts.{opOf}
-use Rattle.paper.specs.Command.{commandOk, interfere}
+use Rattle.paper.specs.Command.{opNumber, secondOk, commandOk, interfere}
 use Rattle.paper.specs.Vote.{blank}
 use Rattle.paper.specs.declared.Command.{Command}
 use Rattle.paper.specs.declared.Op.{Op}
@@ -23,7 +23,8 @@ use Rattle.table.proofs.Laws.{sizes}
 use Rattle.seen.specs.Records.{recordsIn}
 use Rattle.closed.proofs.Closed.{request-event}
 use Rattle.log.specs.Out.{outBytes}
-use Rattle.log.specs.Events.{commandOf, opTaken, Passed}
+use Rattle.log.specs.Events.{opTaken, commandTaken, Passed}
+use Rattle.paper.proofs.Laws.{and-true}
 use Rattle.numbers.specs.Num.{Bytes}
 use Rattle.log.proofs.Held.{sound-records, out-short}
 use Rattle.log.proofs.Calls.{setup-of}
@@ -42,30 +43,41 @@ module _ (n s c : ℕ) (t out : List ℕ) where
       record { copies = z .copies; numbers = z .numbers; owner = z .copy; first = l; last = u }
 
   pub request-room : (k : Command) → Asking n s c t (length out) k → Bytes t → {j : ℕ} → j ≡ requestNumber s c (recordsIn s t) → j ≤ s
-      → length (outBytes (onRequest interfere n s c (recordsIn s t) k)) ≤ 222
+      → length (outBytes (onRequest interfere n s c (recordsIn s t) k)) ≤ 246
   request-room k h b e l =
       let setup = setup-of n s c t (h .passed .setup) in
       let u : requestNumber s c (recordsIn s t) ≤ s = omega (arith, e, l) in
       out-short n s c setup _
       (request-event n s c setup (recordsIn s t) (sound-records n s c t b (h .passed .setup) (h .passed .sound)) interfere k (h .ok) (h .fits) (h .edit) u .sent)
 
-  module _ (op key edit : ℕ) where
+  module _ (op key second edit : ℕ) where
     pub small-op : opTaken op ≡ true → op < 256
-    small-op e = go (eqb op 1) refl (eqb op 2) refl e
-      where
-        go : (a : Bool) → eqb op 1 ≡ a → (b : Bool) → eqb op 2 ≡ b → (a || b) ≡ true → op < 256
-        go true f b g q = omega (arith, eqb-true op 1 f)
-        go false f true g q = omega (arith, eqb-true op 2 g)
-        go false f false g q = let z : _≡_ {A = ℕ} 0 1 = cc in absurd (omega arith)
+    small-op e = omega (arith, leb-true op 3 (and-true (leb 1 op) (leb op 3) e .1))
 
-    -- a read or a write is a command that is taken
-    pub asking : Passed n s c t (length out) → key < 256 ^ 4 → edit < 256 ^ 8 → {x : Op} → x ≡ opOf op → opTaken op ≡ true
-        → Asking n s c t (length out) (record { op = x; key = key; edit = edit })
+    -- the command as it is made of the arguments
+    abbrev made : Op → Command
+    made x = record { op = x; key = key; second = second; edit = edit }
+
+    -- taken with its op and its keys, and refused by either
+    pub bad-op : opTaken op ≡ false → commandTaken op key second edit ≡ false
+    bad-op e = rw e
+
+    pub bad-keys : {x : Op} → x ≡ opOf op → opTaken op ≡ true → secondOk (made x) ≡ false → commandTaken op key second edit ≡ false
+    bad-keys ex e f = rw (e, ← ex) f
+
+    pub good : {x : Op} → x ≡ opOf op → opTaken op ≡ true → secondOk (made x) ≡ true → commandTaken op key second edit ≡ true
+    good ex e f = rw (e, ← ex) f
+
+    -- a command that is taken is no no-op
+    pub asking : Passed n s c t (length out) → key < 256 ^ 4 → second < 256 ^ 4 → edit < 256 ^ 8 → {x : Op} → x ≡ opOf op → opTaken op ≡ true → secondOk (made x) ≡ true
+        → Asking n s c t (length out) (made x)
     unfolding commandOk
-    asking p hk he ex e = rw ex (go (eqb op 1) refl (eqb op 2) refl e)
+    asking p hk hs he {x} ex e f =
+        let some : eqb (opNumber x) 0 ≡ false = ap (λ (o : Op). eqb (opNumber o) 0) ex ∙ some-op op (leb-true 1 op (and-true (leb 1 op) (leb op 3) e .0)) in
+        record { passed = p; ok = rw (some, f); fits = record { key = hk; second = hs; edit = he }; edit = some }
       where
-        go : (a : Bool) → eqb op 1 ≡ a → (b : Bool) → eqb op 2 ≡ b → (a || b) ≡ true
-            → Asking n s c t (length out) (commandOf op key edit)
-        go true f b g q = rw (eqb-true op 1 f) (record { passed = p; ok = refl; fits = record { key = hk; edit = he }; edit = refl })
-        go false f true g q = rw (eqb-true op 2 g) (record { passed = p; ok = refl; fits = record { key = hk; edit = he }; edit = refl })
-        go false f false g q = let z : _≡_ {A = ℕ} 0 1 = cc in absurd (omega arith)
+        some-op : (o : ℕ) → 1 ≤ o → eqb (opNumber (opOf o)) 0 ≡ false
+        some-op zero h = absurd (omega arith)
+        some-op (suc zero) h = refl
+        some-op (suc (suc zero)) h = refl
+        some-op (suc (suc (suc o))) h = refl

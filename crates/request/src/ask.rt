@@ -7,8 +7,9 @@ use log::act::act;
 use log::act::byte;
 use log::act::short;
 use log::entrance::gate_of;
-use nouns::logic::either;
-use nouns::logic::equal;
+use nouns::command::second_ok;
+use nouns::logic::at_most;
+use nouns::logic::both;
 use nouns::vote::no_vote;
 use paper::Command;
 use paper::Record;
@@ -67,22 +68,27 @@ fn request_open(
     c: usize,
     op: usize,
     key: u32,
+    second: u32,
     edit: u64,
 ) -> Answer
     requires { ⌜ Passed n s c (now t) (length (now out)) ⌝ }
-    ensures answers { λ r. ⌜ r ≡ requestOpen n s c (now (t .entry)) (now (out .entry)) op key edit .answer ⌝ }
-    ensures table { λ _. ⌜ now (t .exit) ≡ requestOpen n s c (now (t .entry)) (now (out .entry)) op key edit .table ⌝ }
-    ensures room { λ _. ⌜ now (out .exit) ≡ requestOpen n s c (now (t .entry)) (now (out .entry)) op key edit .out ⌝ }
+    ensures answers { λ r. ⌜ r ≡ requestOpen n s c (now (t .entry)) (now (out .entry)) op key second edit .answer ⌝ }
+    ensures table { λ _. ⌜ now (t .exit) ≡ requestOpen n s c (now (t .entry)) (now (out .entry)) op key second edit .table ⌝ }
+    ensures room { λ _. ⌜ now (out .exit) ≡ requestOpen n s c (now (t .entry)) (now (out .entry)) op key second edit .out ⌝ }
 {
-    if !either(equal(op, 1), equal(op, 2)) {
+    if !both(at_most(1, op), at_most(op, 3)) {
         return Answer::Refused(Refusal::Op);
     }
     let taken = op_of(byte(op));
     let k = Command {
         op: taken,
         key,
+        second,
         edit,
     };
+    if !second_ok(k) {
+        return Answer::Refused(Refusal::Op);
+    }
     ask(t, out, n, s, c, k)
 }
 
@@ -94,15 +100,16 @@ pub fn request(
     out: &mut [u8],
     op: usize,
     key: u32,
+    second: u32,
     edit: u64,
 ) -> Answer
-    ensures answers { λ r. ⌜ r ≡ requested n s c (now (t .entry)) (now (out .entry)) op key edit .answer ⌝ }
-    ensures table { λ _. ⌜ now (t .exit) ≡ requested n s c (now (t .entry)) (now (out .entry)) op key edit .table ⌝ }
-    ensures room { λ _. ⌜ now (out .exit) ≡ requested n s c (now (t .entry)) (now (out .entry)) op key edit .out ⌝ }
+    ensures answers { λ r. ⌜ r ≡ requested n s c (now (t .entry)) (now (out .entry)) op key second edit .answer ⌝ }
+    ensures table { λ _. ⌜ now (t .exit) ≡ requested n s c (now (t .entry)) (now (out .entry)) op key second edit .table ⌝ }
+    ensures room { λ _. ⌜ now (out .exit) ≡ requested n s c (now (t .entry)) (now (out .entry)) op key second edit .out ⌝ }
 {
     let gate = gate_of(&*t, n, s, c, out.len());
     if let Gate::Shut(why) = gate {
         return Answer::Refused(why);
     }
-    request_open(t, out, n, s, c, op, key, edit)
+    request_open(t, out, n, s, c, op, key, second, edit)
 }

@@ -3,7 +3,7 @@ use mathlib.Core.Path.{refl}
 use lib.Count.{ones}
 use Rattle.paper.specs.Logic.{allBelow}
 use Rattle.paper.specs.Instance.{instanceOk}
-use Rattle.paper.specs.Command.{sameCommand, sameObject, interfere}
+use Rattle.paper.specs.Command.{sameCommand, touches, sameObject, interfere}
 use Rattle.paper.specs.Deps.{sameDeps, covers, joinFrom}
 use Rattle.paper.specs.Vote.{member, sameVote}
 use Rattle.rules.specs.Sets.{bitsBelow, others, absent, lowestFrom, largestBelow, highest}
@@ -124,7 +124,7 @@ nudges =
     }
 
 pub sights : Sights
-unfolding allBelow sameDeps joinFrom sameObject interfere highest met seenEntry seenFrom put afresh isBlank lowestBlank requestNumber request preAccept byKind onRequest onMessage
+unfolding allBelow sameDeps joinFrom touches sameObject interfere highest met seenEntry seenFrom put afresh isBlank lowestBlank requestNumber request preAccept byKind onRequest onMessage
     sameVote sameCommand bitsBelow others
 sights =
     record {

@@ -3,7 +3,7 @@ use mathlib.Core.Path.{refl}
 use lib.Count.{ones}
 use Rattle.paper.specs.Logic.{allBelow}
 use Rattle.paper.specs.Instance.{instanceOk}
-use Rattle.paper.specs.Command.{sameObject, interfere, sameCommand}
+use Rattle.paper.specs.Command.{touches, sameObject, interfere, sameCommand}
 use Rattle.paper.specs.Deps.{sameDeps, covers, joinFrom}
 use Rattle.paper.specs.Vote.{sameVote, member}
 use Rattle.rules.specs.Sets.{bitsBelow, others, absent, lowestFrom, largestBelow, highest}
@@ -21,10 +21,10 @@ use Rattle.rules.specs.Recover.{recover}
 use Rattle.rules.specs.Events.{put, requestNumber, onRequest, onMessage, onRecover, messagesFrom}
 use Rattle.rules.specs.Order.{everywhere, somewhere, firstOwner, firstNumber, coversIn, reachesIn, reaches, waitsFor, firstOpen, isSettled, candidate, nextOut, handOut}
 use Rattle.rules.specs.Prepare.{prepare}
-use Rattle.rules.specs.Examples.{Worked, Reads}
+use Rattle.rules.specs.Examples.{Worked, Reads, Rewires}
 
 pub worked : Worked
-unfolding ones allBelow instanceOk sameObject interfere sameCommand sameDeps covers joinFrom sameVote member bitsBelow others absent lowestFrom largestBelow highest collect awaited commitBack nackBack met seenEntry seenFrom joinAll accepting acceptingJoin afresh committing isBlank lowestBlank request preAccept matching different fastEnough slowEnough someEnough preAcceptedBy onPreAcceptOk topVoted maybeFast afreshCommand acceptedFrom decide byKind recover put requestNumber onRequest onMessage onRecover messagesFrom everywhere somewhere firstOwner firstNumber coversIn reachesIn reaches waitsFor firstOpen isSettled candidate nextOut handOut prepare
+unfolding ones allBelow instanceOk touches sameObject interfere sameCommand sameDeps covers joinFrom sameVote member bitsBelow others absent lowestFrom largestBelow highest collect awaited commitBack nackBack met seenEntry seenFrom joinAll accepting acceptingJoin afresh committing isBlank lowestBlank request preAccept matching different fastEnough slowEnough someEnough preAcceptedBy onPreAcceptOk topVoted maybeFast afreshCommand acceptedFrom decide byKind recover put requestNumber onRequest onMessage onRecover messagesFrom everywhere somewhere firstOwner firstNumber coversIn reachesIn reaches waitsFor firstOpen isSettled candidate nextOut handOut prepare
 worked =
     record {
       W1 = refl;
@@ -49,5 +49,10 @@ worked =
     }
 
 pub reads : Reads
-unfolding ones allBelow instanceOk sameObject interfere sameDeps covers joinFrom sameVote sameCommand member bitsBelow others highest collect awaited met seenEntry seenFrom afresh committing isBlank lowestBlank request preAccept matching fastEnough preAcceptedBy onPreAcceptOk byKind put requestNumber onRequest onMessage everywhere somewhere firstOwner firstNumber coversIn reachesIn reaches waitsFor firstOpen isSettled candidate nextOut handOut
+unfolding ones allBelow instanceOk touches sameObject interfere sameDeps covers joinFrom sameVote sameCommand member bitsBelow others highest collect awaited met seenEntry seenFrom afresh committing isBlank lowestBlank request preAccept matching fastEnough preAcceptedBy onPreAcceptOk byKind put requestNumber onRequest onMessage everywhere somewhere firstOwner firstNumber coversIn reachesIn reaches waitsFor firstOpen isSettled candidate nextOut handOut
 reads = record { first = refl; second = refl; open-there = (refl, refl); settled = (refl, refl); handed = (refl, refl); write-waits = refl }
+
+pub rewires : Rewires
+unfolding ones allBelow instanceOk touches sameObject interfere sameDeps covers joinFrom sameVote sameCommand member bitsBelow others highest collect awaited met seenEntry seenFrom afresh committing isBlank lowestBlank request preAccept matching fastEnough preAcceptedBy onPreAcceptOk byKind put requestNumber onRequest onMessage everywhere somewhere firstOwner firstNumber coversIn reachesIn reaches waitsFor firstOpen isSettled candidate nextOut handOut
+rewires =
+    record { waits = refl; others = refl; either = (refl, refl); after = (refl, refl); first-net = refl; second-net = refl; both-nets = refl }

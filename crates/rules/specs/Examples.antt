@@ -7,7 +7,7 @@ use lib.ListN.{replicate}
 use Rattle.paper.specs.Vote.{blank, noVote}
 use Rattle.paper.specs.Deps.{noDeps}
 use Rattle.paper.specs.declared.Op.the-variants.{Read, Write}
-use Rattle.paper.specs.Command.{interfere}
+use Rattle.paper.specs.Command.{onOne, onTwo, interfere}
 use Rattle.paper.specs.declared.Command.{Command}
 use Rattle.paper.specs.declared.Vote.{Vote}
 use Rattle.paper.specs.declared.Record.{Record}
@@ -23,7 +23,7 @@ use Rattle.rules.specs.Order.{handOut, firstOpen}
 
 -- a write of key 7
 abbrev pub write : ℕ → Command
-write e = record { op = Write; key = 7; edit = e }
+write e = onOne Write 7 e
 
 abbrev pub deps3 : ℕ → ℕ → ℕ → List ℕ
 deps3 a b c = a ∷ b ∷ c ∷ 0 ∷ 0 ∷ 0 ∷ 0 ∷ []
@@ -69,10 +69,12 @@ preparing m vs = record { joined = 26; vote = noVote; mark = 0; phase = 1; set =
 abbrev pub votes : Vote → Vote → Vote → Vote → Vote → List Vote
 votes a b c d e = a ∷ b ∷ c ∷ d ∷ e ∷ noVote ∷ noVote ∷ []
 
--- a committed write with these dependencies
+-- a committed command, and a write, with these dependencies
+abbrev pub done : Command → List ℕ → Record
+done k d = record { joined = 0; vote = record { voted = 0; status = 4; command = k; deps = d }; mark = 0; phase = 0; set = 0; replies = replicate 7 noVote }
+
 abbrev pub committed : List ℕ → Record
-committed d =
-    record { joined = 0; vote = record { voted = 0; status = 4; command = write 1; deps = d }; mark = 0; phase = 0; set = 0; replies = replicate 7 noVote }
+committed d = done (write 1) d
 
 abbrev pub cycle : Records
 cycle = put (put blanks 0 1 (committed (deps3 0 1 0))) 1 1 (committed (deps3 1 0 0))
@@ -138,7 +140,7 @@ pub record Worked : Type 0 where
 
 -- 4/12: copies 0 and 1 are asked for reads of key 7 at once. Copy q after its request:
 abbrev pub read : ℕ → Command
-read e = record { op = Read; key = 7; edit = e }
+read e = onOne Read 7 e
 
 abbrev pub reader : ℕ → Records
 reader q = put blanks q 1 (onRequest interfere 3 4 q blanks (read q) .entry)
@@ -167,3 +169,33 @@ pub record Reads : Type 0 where
   pub handed : (handOut 4 3 4 (answeredRead 0 1) ≡ 1 ∷ []) × (handOut 4 3 4 (answeredRead 1 0) ≡ 257 ∷ [])
   -- a write of that key waits for both
   pub write-waits : onRequest interfere 3 4 0 (answeredRead 0 1) (write 5) .message .deps ≡ deps3 1 1 0
+
+-- 5/12: copy 2 has voted for a write of key 7 at copy 0 and for one of key 9 at copy 1
+abbrev pub nineTo : ℕ → Message
+nineTo q = record { from = 1; to = q; owner = 1; number = 1; ballot = 0; body = PreAccept (onOne Write 9 6); deps = noDeps }
+
+abbrev pub nets : Records
+nets = put (put blanks 0 1 (onMessage interfere 3 4 2 blanks (preAcceptTo 2) .entry)) 1 1 (onMessage interfere 3 4 2 blanks (nineTo 2) .entry)
+
+-- and is asked to rewire both
+abbrev pub rewire : ℕ → ℕ → Step
+rewire k l = onRequest interfere 3 4 2 nets (onTwo k l 7)
+
+abbrev pub rewired : Records
+rewired = put nets 2 1 (rewire 7 9 .entry)
+
+-- with the rewire committed
+abbrev pub settling : Records → Records
+settling t = put t 2 1 (done (onTwo 7 9 7) (deps3 1 1 0))
+
+pub record Rewires : Type 0 where
+  -- it is ordered after the edits of both nets, one of other nets after neither
+  pub waits : rewire 7 9 .message .deps ≡ deps3 1 1 0
+  pub others : rewire 6 8 .message .deps ≡ noDeps
+  pub either : (rewire 6 7 .message .deps ≡ deps3 1 0 0) × (rewire 9 10 .message .deps ≡ deps3 0 1 0)
+  -- and an edit of either net after it, though not after the other net's edit
+  pub after : (onRequest interfere 3 4 0 rewired (onOne Read 7 8) .message .deps ≡ deps3 1 0 1) × (onRequest interfere 3 4 1 rewired (onOne Write 9 8) .message .deps ≡ deps3 0 1 1)
+  -- so it is not settled before both are committed
+  pub first-net : firstOpen 3 4 (settling nets) 2 1 ≡ At 0 1
+  pub second-net : firstOpen 3 4 (settling (put nets 0 1 (done (write 100) noDeps))) 2 1 ≡ At 1 1
+  pub both-nets : handOut 4 3 4 (settling (put (put nets 0 1 (done (write 100) noDeps)) 1 1 (done (onOne Write 9 6) noDeps))) ≡ 1 ∷ 257 ∷ 513 ∷ []

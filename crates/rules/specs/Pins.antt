@@ -5,7 +5,7 @@ use mathlib.Core.Path.{_≡_}
 use mathlib.Core.Bool.{true, false}
 use mathlib.Core.List.{List, [], _∷_}
 use lib.ListN.{replicate}
-use Rattle.paper.specs.Command.{noop, sameObject, interfere}
+use Rattle.paper.specs.Command.{noop, onOne, sameObject, interfere}
 use Rattle.paper.specs.Vote.{noVote}
 use Rattle.paper.specs.Deps.{noDeps}
 use Rattle.paper.specs.Message.{noMessage}
@@ -204,7 +204,7 @@ pub record Nudges : Type 0 where
 
 -- votes for key 7 in every status, one for key 8, and one of a copy that a group of three has not
 abbrev pub otherKey : Command
-otherKey = record { op = Write; key = 8; edit = 5 }
+otherKey = onOne Write 8 5
 
 abbrev pub sights : Records
 sights =

@@ -10,6 +10,7 @@ use lib.Dec.{eqb}
 use lib.ListN.{getD}
 use Rattle.paper.specs.Instance.{instanceOk}
 use Rattle.paper.specs.Command.{noop, isNoop, interfere, sameCommand}
+use Rattle.paper.proofs.Laws.{sameCommand-refl}
 use Rattle.paper.specs.Deps.{covers, sameDeps}
 use Rattle.paper.specs.Message.{isCommit, commandIn}
 use Rattle.paper.specs.Valid.{valid}
@@ -25,7 +26,7 @@ use Rattle.rules.specs.Received.{conflict}
 use Rattle.safety.specs.Run.{State, requested}
 use Rattle.safety.specs.Demand.{Committed}
 use Rattle.reach.proofs.Tests.{clash, tf, bool, and-l, and-r, and-in, not-true, eqb-eq, eqb-same, leb-in}
-use Rattle.safety.proofs.Deps.{same-deps-refl, same-command-refl}
+use Rattle.safety.proofs.Deps.{same-deps-refl}
 use Rattle.safety.proofs.Value.{Value, cmd}
 use Rattle.safety.proofs.Case.{Case, copies, code, code-owner, code-number, own, Req, Cover, range}
 use Rattle.safety.proofs.Hist.{commitVote}
@@ -149,7 +150,7 @@ module _ {C : Case} {z : State} (t : Tie C z) where
           go true e =
               let g = com-in c o j (r .vote .command) (r .vote .deps) (record { status = e; command = refl; deps = refl }) in
               let q : val k (m .deps) ≡ valueOf (r .vote) = one-value (code o j) (val k (m .deps)) (valueOf (r .vote)) (inv t (code o j) .msgs (mCommit (val k (m .deps))) w) (evidence c o j (valueOf (r .vote)) g) in
-              rw (same-command-refl k (r .vote .command) (ap cmd q), same-deps-refl (m .deps) (r .vote .deps) (ap (λ (u : Value). u .deps) q)) refl
+              rw (ap (sameCommand k) (sym (ap cmd q)) ∙ sameCommand-refl k, same-deps-refl (m .deps) (r .vote .deps) (ap (λ (u : Value). u .deps) q)) refl
 
       by : (b : Body) → Means (G (code o j)) m b → conflict r m b ≡ false
       by b w = which (isCommit b) refl

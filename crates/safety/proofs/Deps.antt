@@ -7,7 +7,6 @@ use native.Mathlib.Omega.{arith}
 use lib.Dec.{eqb}
 use lib.ListN.{getD, length}
 use Rattle.paper.specs.Logic.{allBelow}
-use Rattle.paper.specs.Command.{sameCommand, opNumber}
 use Rattle.paper.specs.Deps.{noDeps, sameDeps, join}
 use Rattle.paper.specs.Vote.{noVote}
 use Rattle.paper.specs.Command.{Interference}
@@ -34,10 +33,6 @@ under-trans d e f p q i l = omega (arith, p i l, q i l)
 pub same-deps-refl : (d e : List ℕ) → d ≡ e → sameDeps d e ≡ true
 unfolding sameDeps
 same-deps-refl d e q = rw q (all-in 7 (λ i. eqb (getD e i 0) (getD e i 0)) (λ i l. eqb-same (getD e i 0) (getD e i 0) refl))
-
-pub same-command-refl : (a b : Command) → a ≡ b → sameCommand a b ≡ true
-unfolding sameCommand
-same-command-refl a b q = rw q (and-in _ _ (and-in _ _ (eqb-same (opNumber (b .op)) (opNumber (b .op)) refl) (eqb-same (b .key) (b .key) refl)) (eqb-same (b .edit) (b .edit) refl))
 
 pub join-l : (d e : List ℕ) → Under d (join d e)
 join-l d e i l = join-entry d e i l .left

@@ -6,7 +6,8 @@ use mathlib.Core.List.{List}
 use lib.ListN.{length}
 use Rattle.paper.specs.Instance.{instanceOk}
 use Rattle.paper.specs.Ballot.{lead}
-use Rattle.paper.specs.Message.{rowOf, rowIn, joinedIn}
+use Rattle.paper.specs.Message.{rowOf, saidIn, joinedIn}
+use Rattle.paper.proofs.Bodies.{said-role, said-joined}
 use Rattle.paper.specs.Valid.{valid, fromLead, joinedAbove}
 use Rattle.paper.proofs.Valid.{clauses-of}
 use Rattle.paper.specs.declared.Command.{Command}
@@ -26,8 +27,8 @@ pub record Fit (n s c : ℕ) (m : Message) : Type 0 where
   pub from : m .from < n
   pub inst : instanceOk n s (m .owner) (m .number) ≡ true
   pub other : c ≡ m .from → ⊥
-  pub lead : fromLead (rowIn (m .body)) m ≡ true
-  pub above : joinedAbove (rowIn (m .body)) m (joinedIn (m .body)) ≡ true
+  pub lead : fromLead (saidIn (m .body)) m ≡ true
+  pub above : joinedAbove (saidIn (m .body)) m (joinedIn (m .body)) ≡ true
 
 pub fits : (n s c : ℕ) (m : Message) → valid n s c m ≡ true → Fit n s c m
 unfolding instanceOk
@@ -37,8 +38,8 @@ fits n s c m v =
       from = ltb-lt _ _ (k .from);
       inst = and-in _ _ (k .owner) (k .number);
       other = λ e. eqb-ne (m .from) c (not-not _ (k .another)) (sym e);
-      lead = k .lead;
-      above = k .above;
+      lead = rw (← said-role (m .body)) (k .lead);
+      above = rw (← said-joined (m .body)) (k .above);
     }
 
 module _ (p : Spot) where

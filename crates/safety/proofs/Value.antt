@@ -5,11 +5,9 @@ use mathlib.Core.List.{List}
 use lib.ListN.{getD}
 use native.Mathlib.Omega.{arith}
 use Rattle.paper.specs.declared.Command.{Command}
-use Rattle.paper.specs.Command.{noop, opNumber, interfere}
-use Rattle.paper.specs.declared.Op.{Op}
-use Rattle.paper.specs.declared.Op.the-variants.{Noop, Read, Write}
-use native.Mathlib.Decide.{ℕ-discrete}
-use mathlib.Core.Bool.{true}
+use Rattle.paper.specs.Command.{noop, sameCommand, interfere}
+use mathlib.Core.Bool.{Bool, true, false}
+use Rattle.paper.proofs.Laws.{sameCommand-eq, sameCommand-refl}
 use Rattle.paper.specs.Deps.{noDeps}
 use Rattle.paper.specs.Ballot.{lead}
 use Rattle.paper.proofs.Interference.{symmetric}
@@ -43,26 +41,10 @@ Interf a b = interfere a b ≡ true
 pub interf-sym : (a b : Command) → Interf a b → Interf b a
 interf-sym a b h = sym (symmetric a b) ∙ h
 
--- equality of commands is decided by the fields
-op-eq : (a b : Op) → opNumber a ≡ opNumber b → a ≡ b
-op-eq Noop Noop e = refl
-op-eq Read Read e = refl
-op-eq Write Write e = refl
-op-eq Noop Read e = absurd (omega arith)
-op-eq Noop Write e = absurd (omega arith)
-op-eq Read Noop e = absurd (omega arith)
-op-eq Read Write e = absurd (omega arith)
-op-eq Write Noop e = absurd (omega arith)
-op-eq Write Read e = absurd (omega arith)
-
-pub command-eq : (a b : Command) → opNumber (a .op) ≡ opNumber (b .op) → a .key ≡ b .key → a .edit ≡ b .edit → a ≡ b
-command-eq a b p q r = let o : a .op ≡ b .op = op-eq (a .op) (b .op) p in λ i. record { op = o i; key = q i; edit = r i }
-
+-- equality of commands is decided
 pub command? : (a b : Command) → Dec (a ≡ b)
-command? a b = go (ℕ-discrete (opNumber (a .op)) (opNumber (b .op))) (ℕ-discrete (a .key) (b .key)) (ℕ-discrete (a .edit) (b .edit))
+command? a b = go (sameCommand a b) refl
   where
-    go : Dec (opNumber (a .op) ≡ opNumber (b .op)) → Dec (a .key ≡ b .key) → Dec (a .edit ≡ b .edit) → Dec (a ≡ b)
-    go (yes p) (yes q) (yes r) = yes (command-eq a b p q r)
-    go (no n) d e = no (λ h. n (ap (λ (c : Command). opNumber (c .op)) h))
-    go (yes p) (no n) e = no (λ h. n (ap (λ (c : Command). c .key) h))
-    go (yes p) (yes q) (no n) = no (λ h. n (ap (λ (c : Command). c .edit) h))
+    go : (t : Bool) → sameCommand a b ≡ t → Dec (a ≡ b)
+    go true e = yes (sameCommand-eq a b e)
+    go false e = no (λ h. let z : true ≡ false = sym (sameCommand-refl a) ∙ ap (sameCommand a) h ∙ e in let w : _≡_ {A = ℕ} 0 1 = cc in omega arith)

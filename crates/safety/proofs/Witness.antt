@@ -9,7 +9,7 @@ use lib.Dec.{leb, ltb, eqb}
 use lib.ListN.{getD, length}
 use Rattle.paper.specs.Logic.{allBelow}
 use Rattle.paper.specs.Instance.{instanceOk}
-use Rattle.paper.specs.Command.{noop, isNoop, sameCommand, commandOk, Interference, sameObject, interfere, Wide}
+use Rattle.paper.specs.Command.{noop, onOne, onTwo, isNoop, sameCommand, commandOk, Interference, touches, sameObject, interfere, Wide}
 use Rattle.paper.proofs.Interference.{interfere-wide, sameObject-wide}
 use Rattle.paper.specs.Deps.{depsOk, sameDeps, covers, joinFrom}
 use Rattle.paper.specs.Ballot.{ballotOk, lead}
@@ -129,10 +129,17 @@ module _ (n s : ℕ) where
       play (after interfere x e) l (further r (fair-move interfere interfere-wide x e (and-l _ (fairly (after interfere x e) l) h))) (and-r (fair x e) _ h)
 
 pub write : ℕ → Command
-write e = record { op = Write; key = 7; edit = e }
+write e = onOne Write 7 e
 
 pub read : ℕ → Command
-read e = record { op = Read; key = 7; edit = e }
+read e = onOne Read 7 e
+
+-- a write of another object, and a rewire of both
+pub other : ℕ → Command
+other e = onOne Write 9 e
+
+pub rewire : ℕ → Command
+rewire e = onTwo 7 9 e
 
 pub deps : ℕ → ℕ → ℕ → List ℕ
 deps a b c = a ∷ b ∷ c ∷ 0 ∷ 0 ∷ 0 ∷ 0 ∷ []
@@ -168,6 +175,12 @@ reads = ask 0 (read 1) ∷ ask 1 (read 2) ∷ arrives 0 ∷ arrives 2 ∷ arrive
 -- copy 1 works by document 01 until it has answered, and adds its own read; it goes on by 4/12, and all that follows is as in `slow`
 mixed : List Line
 mixed = ask 0 (read 1) ∷ before (ask 1 (read 2)) ∷ before (arrives 0) ∷ arrives 4 ∷ nudges 0 0 1 ∷ arrives 5 ∷ arrives 7 ∷ []
+
+-- writes of two objects, each fast; copy 2, which took both, is asked for a rewire of them: it commits fast, and is handed out last
+rewires : List Line
+rewires =
+    ask 0 (write 1) ∷ ask 1 (other 2) ∷ arrives 1 ∷ arrives 4 ∷ arrives 3 ∷ arrives 7 ∷ ask 2 (rewire 3) ∷ arrives 10 ∷ arrives 12 ∷ says 2 2 1 ∷ arrives 6 ∷ says 2 2 1 ∷ arrives 9
+    ∷ says 2 2 1 ∷ marks 2 0 1 ∷ marks 2 1 1 ∷ marks 2 2 1 ∷ []
 
 -- five copies: two matching replies wait, the third commits
 five-waits : List Line
@@ -220,10 +233,10 @@ seven-afresh : List Line
 seven-afresh =
     seven-asks ++ arrives 18 ∷ arrives 19 ∷ arrives 20 ∷ arrives 23 ∷ arrives 24 ∷ arrives 25 ∷ arrives 27 ∷ arrives 28 ∷ arrives 29 ∷ arrives 32 ∷ arrives 33 ∷ arrives 34 ∷ []
 
--- what was asked for fits the calls: key and edit are a u32 and a u64
+-- what was asked for fits the calls: its keys are as its op has them, each a u32, and its edit is a u64
 abbrev pub fitting : List (Happening Settling) → Bool
 fitting [] = true
-fitting (requested o j k ∷ l) = ltb (k .key) (256 ^ 4) && ltb (k .edit) (256 ^ 8) && fitting l
+fitting (requested o j k ∷ l) = commandOk k && (ltb (k .key) (256 ^ 4) && ltb (k .second) (256 ^ 4) && ltb (k .edit) (256 ^ 8)) && fitting l
 fitting (answered c o j a ∷ l) = fitting l
 
 -- a script that is fair leads to a state of a run in which P holds
@@ -264,6 +277,11 @@ pub record Shown : Type 0 where
   -- a copy that works by document 01 and then by 4/12, beside copies that work by 4/12: one read covers the other
   pub mixed : Reached 3 1 (λ x. Committed x 0 0 1 (read 1) (deps 0 1 0) × Committed x 1 1 1 (read 2) (deps 0 0 0)
       × (x .marks 0 ≡ (1, 1) ∷ (0, 1) ∷ []) × (x .marks 1 ≡ (1, 1) ∷ (0, 1) ∷ []))
+  -- a rewire of two objects covers the write of each, is not settled before both are, and is handed out after them
+  pub rewires : Reached 3 1 (λ x. Committed x 2 2 1 (rewire 3) (deps 1 1 0) × Committed x 0 0 1 (write 1) (deps 0 0 0) × Committed x 1 1 1 (other 2) (deps 0 0 0)
+      × (x .marks 2 ≡ (0, 1) ∷ (1, 1) ∷ (2, 1) ∷ [])
+      × (x .history ≡ requested 0 1 (write 1) ∷ requested 1 1 (other 2) ∷ requested 2 1 (rewire 3) ∷ answered 2 2 1 (waits 0 1) ∷ answered 2 2 1 (waits 1 1)
+      ∷ answered 2 2 1 (settled (rewire 3)) ∷ []))
 
 -- and of five and of seven copies, each beside the moment before, when it is not yet so
 pub record Larger : Type 0 where
@@ -282,10 +300,10 @@ pub record Larger : Type 0 where
   pub seven-afresh : Reached 7 1 (λ x. Committed x 4 0 1 (write 1) (deps 0 0 0))
 
 pub shown : Shown × Larger
-unfolding fast slow out lost saved-edit told reads mixed five-waits five-fast five-slow five-perhaps five-asks five-afresh seven-waits seven-fast seven-two seven-slow
-    seven-perhaps seven-asks seven-afresh write read deps put requestNumber lowestBlank isBlank sameVote sameCommand sameDeps allBelow onRequest
+unfolding fast slow out lost saved-edit told reads mixed rewires five-waits five-fast five-slow five-perhaps five-asks five-afresh seven-waits seven-fast seven-two seven-slow
+    seven-perhaps seven-asks seven-afresh write read other rewire deps put requestNumber lowestBlank isBlank sameVote sameCommand sameDeps allBelow onRequest
     Rattle.rules.specs.Request.request afresh others absent bitsBelow messagesFrom member valid firstFailing firstOf holdsOf entryClauses rowOf ballotOk lead commandOk
-    depsOk voteOk toldOk noneIsBlank instanceOk conflict differs onMessage byKind preAccept seenFrom seenEntry highest met sameObject interfere joinFrom
+    depsOk voteOk toldOk noneIsBlank instanceOk conflict differs onMessage byKind preAccept seenFrom seenEntry highest met touches sameObject interfere joinFrom
     onPreAcceptOk awaited collect preAcceptedBy fastEnough slowEnough someEnough matching different committing acceptingJoin accepting joinAll
     accept onAcceptOk acceptedBy commit prepare onPrepareOk preparedBy quorum decide acceptedFrom afreshCommand topVoted maybeFast lowestFrom
     largestBelow nack onRecover Rattle.rules.specs.Recover.recover onNudge Rattle.rules.specs.Nudge.nudge again commitBack nackBack ones onesIn
@@ -300,6 +318,7 @@ shown = (
     told = by-script 3 1 told _ refl refl refl;
     reads = by-script 3 1 reads _ refl refl (record { status = refl; command = refl; deps = refl }, record { status = refl; command = refl; deps = refl }, refl, refl, refl, refl, refl);
     mixed = by-script 3 1 (mixed ++ out) _ refl refl (record { status = refl; command = refl; deps = refl }, record { status = refl; command = refl; deps = refl }, refl, refl);
+    rewires = by-script 3 1 rewires _ refl refl (record { status = refl; command = refl; deps = refl }, record { status = refl; command = refl; deps = refl }, record { status = refl; command = refl; deps = refl }, refl, refl);
   },
   record {
     five-waits = by-script 5 1 five-waits _ refl refl refl;
