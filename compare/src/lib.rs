@@ -40,4 +40,5 @@ pub fn not_valid(number: u8) -> bool {
 }
 
 /// The length of each kind of message; kind 0 is none.
-pub const LENGTHS: [usize; 9] = [0, 37, 24, 37, 10, 37, 10, 42, 14];
+pub const LENGTHS: [usize; 13] = [0, 37, 24, 37, 10, 37, 10, 42, 14, 41, 41, 41, 46];
+pub const LONGEST: usize = 46;

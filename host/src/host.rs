@@ -41,7 +41,7 @@ impl Host {
         let start = |copy| Site::start(disk, Setup { n: COPIES, s: NUMBERS, copy });
         let sites = (0..COPIES).map(start).collect::<Result<Vec<Site>>>()?;
         let taken = taken(&sites);
-        let edit = |edit| Command { op: Op::Write, key: CELLS[edit as usize % 2], edit };
+        let edit = |edit| Command::write(CELLS[edit as usize % 2], edit);
         let is_new = |command: &Command| taken.iter().all(|(_, other)| other != command);
         let wanted = (1..=edits).rev().map(edit).filter(is_new).collect();
         let network = Network::new(seed);

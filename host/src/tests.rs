@@ -40,7 +40,7 @@ impl Drop for Folder {
 }
 
 fn request(site: &mut Site, edit: u64) -> Option<Event> {
-    let command = Command { op: Op::Write, key: 7, edit };
+    let command = Command::write(7, edit);
     match site.event(|s, table, out| s.request(table, out, command)).unwrap() {
         Outcome::Answered(event, _) => Some(event),
         Outcome::Refused(refusal) => panic!("{refusal}"),
