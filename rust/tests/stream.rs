@@ -100,7 +100,7 @@ fn stops() {
     all[61] = 0;
     let (messages, rest) = read(&mut [0; 64], &[&all]);
     assert_eq!((messages.len(), rest), (2, Err(Stop { offset: 61 })));
-    let mut buf = [0; 300];
+    let mut buf = [0; 400];
     let mut stream = Stream::begin(&mut buf).unwrap();
     assert_eq!(stream.take(&all), Ok(all.len()));
     assert_eq!(stream.stop(), None, "there are messages before it");

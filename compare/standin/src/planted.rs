@@ -10,8 +10,9 @@ use second::table::{Record, Vote, COMMITTED, HEAD_LEN, MARK_AT, RECORD_LEN};
 use second::{read_message, record_part, refusal, Event, Message, Refusal, Settled};
 use std::sync::OnceLock;
 
-// In a record: the op, the second key and the edit of its own vote.
+// In a record: the op, the keys and the edit of its own vote.
 const OP_AT: usize = 9;
+const KEY_AT: usize = 10;
 const SECOND_AT: usize = 14;
 const EDIT_AT: usize = 18;
 
@@ -126,11 +127,13 @@ pub enum Planted {
     StatusBlamed,
     /// A settled rewire is told without its second key.
     SettledWithoutSecond,
+    /// The judge takes a rewire of an object to itself.
+    EqualKeysJudged,
 }
 
 use Planted::*;
 
-const ALL: [Planted; 55] = [
+const ALL: [Planted; 56] = [
     Nothing,
     JoinedAsVoted,
     WorkedOutAnew,
@@ -186,6 +189,7 @@ const ALL: [Planted; 55] = [
     OldSums,
     StatusBlamed,
     SettledWithoutSecond,
+    EqualKeysJudged,
 ];
 
 impl Planted {
@@ -518,6 +522,14 @@ pub fn before_judge(planted: Planted, t: &[u8]) -> Option<Vec<u8>> {
             let records = seen.get_mut(HEAD_LEN..)?.chunks_exact_mut(RECORD_LEN);
             for record in records.filter(|record| record[OP_AT] < REWIRE) {
                 record[SECOND_AT..EDIT_AT].fill(0);
+            }
+        }
+        EqualKeysJudged => {
+            let records = seen.get_mut(HEAD_LEN..)?.chunks_exact_mut(RECORD_LEN);
+            for record in records.filter(|record| record[OP_AT] == REWIRE) {
+                if record[KEY_AT..SECOND_AT] == record[SECOND_AT..EDIT_AT] {
+                    record[SECOND_AT..EDIT_AT].fill(u8::MAX);
+                }
             }
         }
         _ => return None,
