@@ -11,6 +11,7 @@ pub mod journals;
 pub mod linear;
 pub mod make;
 pub mod measure;
+pub mod old;
 pub mod places;
 pub mod probe;
 pub mod random;

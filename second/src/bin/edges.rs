@@ -313,10 +313,13 @@ fn messages(script: &mut Script, c: usize) {
     let (n, s) = (script.n, script.s);
     for kind in 1..=LAST_KIND {
         let m = valid(n, c, kind, 3);
-        let mut all = names_changed(n, s, m);
-        all.extend(command_changed(m));
-        all.extend(deps_changed(n, s, m));
-        all.extend(rest_changed(n, m));
+        let mut all = command_changed(m);
+        // A long kind has the rest of a short one: at the first copy alone, so that the calls do not get too many.
+        if c == 0 || !is_long(kind) {
+            all.extend(names_changed(n, s, m));
+            all.extend(deps_changed(n, s, m));
+            all.extend(rest_changed(n, m));
+        }
         if !matches!(body_of(kind), PREPARE | PREPARE_OK) {
             let first = valid(n, c, kind, 0);
             all.push(first);
@@ -346,7 +349,7 @@ fn lengths(script: &mut Script, c: usize) {
 
 fn kinds(script: &mut Script, c: usize) {
     for kind in 0..=255 {
-        for length in [1, 9, 10, 37, 41, 46, 64] {
+        for length in [1, 10, 37, 41, 46] {
             let like = match length {
                 10 => 4,
                 41 => 9,
