@@ -66,7 +66,7 @@ size_t pumxaqert_part(const uint8_t *table, size_t table_len, size_t n, size_t s
 /* Events: they change one record of the table. values: its owner, its number, how many bytes were written at the front
  * of out, which are whole messages, by rising destination; and for refusal 35, else 0, where in the message the first
  * byte of the wrong field stands (docs/LAYOUT.md names it). Each refuses 1, 11, 2 and then
- *   request                       4, 5 (below)
+ *   request (op and keys below)   4, 5
  *   message (bytes that came in)  31 to 35, 10
  *   recover                       6, 8, 7
  *   nudge                         6, 9
