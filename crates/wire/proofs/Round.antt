@@ -189,7 +189,6 @@ module _ (m : Message) (f : MessageFits m) (short : secondCarried (rowIn (m .bod
           ap (opRange (partsIn (m .body) .second)) o ∙ op-fits 0 0 0 m
       go false e = rw (no-second (m .body) e, e)
 
-
 -- the bytes from one place to another
 abbrev span : List ℕ → ℕ → ℕ → List ℕ
 span s a e = take (e - a) (drop a s)
