@@ -8,7 +8,7 @@
 #include <stdlib.h>
 #include <unistd.h>
 
-enum { N = 3, S = 4, C = 0, ROOM = 256, RECORD = 20, LIST = 2 };
+enum { N = 3, S = 4, C = 0, ROOM = 256, RECORD = 20, LIST = 2, WRITE = 2, REWIRE = 3 };
 
 static uint8_t *table, *entry;
 static size_t table_len, entry_len;
@@ -21,10 +21,11 @@ static void must(uint32_t refusal) {
         exit((int)refusal);
 }
 
-static void show(const char *what, const uint8_t *bytes, size_t length) {
+/* So many messages of one length, a line for each. */
+static void show(const char *what, const uint8_t *bytes, size_t length, size_t messages) {
     printf("%s, %zu bytes:", what, length);
     for (size_t i = 0; i < length; i++)
-        printf("%s%02x", i % 37 ? " " : "\n  ", bytes[i]);
+        printf("%s%02x", i % (length / messages) ? " " : "\n  ", bytes[i]);
     printf("\n");
 }
 
@@ -57,12 +58,12 @@ static void start(void) {
     free(bytes);
 }
 
-/* An edit of object 7 becomes this copy's next instance; a PreAccept goes to copies 1 and 2. */
-static void take(uint64_t edit) {
+/* An edit becomes this copy's next instance; a PreAccept goes to copies 1 and 2. Only a rewire has a second object. */
+static void take(size_t op, uint32_t key, uint32_t second, uint64_t edit) {
     size_t values[4];
-    must(pumxaqert_request(table, table_len, N, S, C, out, ROOM, 2, 7, edit, values));
+    must(pumxaqert_request(table, table_len, N, S, C, out, ROOM, op, key, second, edit, values));
     save(values);
-    show("send", out, values[2]);
+    show("send", out, values[2], N - 1);
 }
 
 /* Copy 1's link. What the bytes that came in leave of a message waits in the buffer for those that follow. */
@@ -80,17 +81,17 @@ static void arrive(const uint8_t *bytes, size_t length, size_t values[3]) {
 
 /* Copy 1 answers PreAcceptOK (kind 2) without dependencies, and 0.1 is committed. */
 static void answered(void) {
-    const uint64_t fields[18] = {2, 1, 0, 0, 1};
+    const uint64_t fields[19] = {2, 1, 0, 0, 1};
     uint8_t answer[ROOM];
     size_t length, offset, came[3], values[4];
     must(pumxaqert_write_message(N, S, 1, answer, ROOM, fields, &length, &offset));
-    show("copy 1 answers", answer, length);
+    show("copy 1 answers", answer, length, 1);
     must(pumxaqert_stream_begin(link_buf, sizeof link_buf, link_place));
     arrive(answer, 9, came);
     arrive(answer + 9, length - 9, came);
     must(pumxaqert_message(table, table_len, N, S, C, out, ROOM, link_buf + came[1], came[2], values));
     save(values);
-    show("send", out, values[2]);
+    show("send", out, values[2], N - 1);
 
     /* With a last dependency that says more than three copies have: the offset in values[3] names that field. */
     answer[length - 2] = 1;
@@ -119,14 +120,14 @@ static void hand_out(void) {
 /* Another edit: of its entry the disk gets 100 bytes, and then the power is gone. Nothing was sent, nobody was answered. */
 static void cut_off(void) {
     size_t values[4], length;
-    must(pumxaqert_request(table, table_len, N, S, C, out, ROOM, 2, 7, 101, values));
+    must(pumxaqert_request(table, table_len, N, S, C, out, ROOM, WRITE, 7, 0, 101, values));
     must(pumxaqert_record_entry(table, table_len, N, S, C, entry, entry_len, values[0], values[1], &length));
     append(entry, 100);
     printf("cut off after 100 bytes of the entry of %zu.%zu\n", values[0], values[1]);
 }
 
 int main(void) {
-    uint64_t settled[4];
+    uint64_t settled[5];
     size_t values[4];
     table_len = pumxaqert_table_length(N, S);
     entry_len = pumxaqert_entry_length(RECORD);
@@ -137,7 +138,7 @@ int main(void) {
     must(!table || !entry || !journal);
     start();
 
-    take(100);
+    take(WRITE, 7, 0, 100);
     answered();
     hand_out();
     cut_off();
@@ -145,9 +146,11 @@ int main(void) {
 
     /* What was saved is still there, and what was not can be asked for again. */
     must(pumxaqert_settled(table, table_len, N, S, C, 0, 1, settled));
-    printf("settled %u: op %u, key %u, edit %u\n", (unsigned)settled[0], (unsigned)settled[1], (unsigned)settled[2],
-           (unsigned)settled[3]);
-    take(101);
+    printf("settled %u: op %u, key %u, second key %u, edit %u\n", (unsigned)settled[0], (unsigned)settled[1],
+           (unsigned)settled[2], (unsigned)settled[3], (unsigned)settled[4]);
+    take(WRITE, 7, 0, 101);
+    /* A pin moves from object 7 to object 8: ordered against the edits of both. */
+    take(REWIRE, 7, 8, 102);
 
     /* NULL with length 0 is an empty area: no room at all is refusal 2. */
     printf("no room: refusal %u\n", (unsigned)pumxaqert_nudge(table, table_len, N, S, C, NULL, 0, 0, 1, values));

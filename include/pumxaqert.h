@@ -37,7 +37,7 @@ enum {
     PUMXAQERT_WRONG_WAY = 33,        /* a message that is not for this copy, or is from it */
     PUMXAQERT_WRONG_LEAD = 34,       /* a message not from, or not to, the lead of its ballot, as its kind asks */
     PUMXAQERT_WRONG_FIELD = 35,      /* a field out of range; the offset says which. In the first ten bytes: before 33 */
-    PUMXAQERT_OP = 4,                /* a request with another op than 1 or 2 */
+    PUMXAQERT_OP = 4,                /* a request with another op than 1, 2 or 3, or with keys its op does not take */
     PUMXAQERT_INSTANCE = 6,          /* there is no such owner or number */
     PUMXAQERT_RECOVER_COMMITTED = 8, /* recover of a committed instance */
     PUMXAQERT_NUDGE_IDLE = 9,        /* nudge, not committed and phase 0 */
@@ -66,12 +66,14 @@ size_t pumxaqert_part(const uint8_t *table, size_t table_len, size_t n, size_t s
 /* Events: they change one record of the table. values: its owner, its number, how many bytes were written at the front
  * of out, which are whole messages, by rising destination; and for refusal 35, else 0, where in the message the first
  * byte of the wrong field stands (docs/LAYOUT.md names it). Each refuses 1, 11, 2 and then
- *   request (op 1 read, 2 write)  4, 5
+ *   request (op and keys below)   4, 5
  *   message (bytes that came in)  31 to 35, 10
  *   recover                       6, 8, 7
- *   nudge                         6, 9 */
+ *   nudge                         6, 9
+ * A request's op is 1 (a read), 2 (a write) or 3 (a rewire: a write on the objects of two keys). With op 3 key is below
+ * second; with the others second is 0. */
 uint32_t pumxaqert_request(uint8_t *table, size_t table_len, size_t n, size_t s, size_t c, uint8_t *out, size_t out_len,
-                           size_t op, uint32_t key, uint64_t edit, size_t values[4]);
+                           size_t op, uint32_t key, uint32_t second, uint64_t edit, size_t values[4]);
 uint32_t pumxaqert_message(uint8_t *table, size_t table_len, size_t n, size_t s, size_t c, uint8_t *out, size_t out_len,
                            const uint8_t *bytes, size_t bytes_len, size_t values[4]);
 uint32_t pumxaqert_recover(uint8_t *table, size_t table_len, size_t n, size_t s, size_t c, uint8_t *out, size_t out_len,
@@ -79,27 +81,29 @@ uint32_t pumxaqert_recover(uint8_t *table, size_t table_len, size_t n, size_t s,
 uint32_t pumxaqert_nudge(uint8_t *table, size_t table_len, size_t n, size_t s, size_t c, uint8_t *out, size_t out_len,
                          size_t owner, size_t number, size_t values[4]);
 
-/* values: 1, op, key, edit where it is settled (op 0: the edit lost); 0, owner, number, 0 of the uncommitted instance
- * that comes first. Refuses 1, 11, 6. */
+/* values: 1, op, key, second, edit where it is settled (op 0: the edit lost; second is 0 but for op 3); 0, owner, number,
+ * 0, 0 of the uncommitted instance that comes first. Refuses 1, 11, 6. */
 uint32_t pumxaqert_settled(const uint8_t *table, size_t table_len, size_t n, size_t s, size_t c, size_t owner,
-                           size_t number, uint64_t values[4]);
+                           size_t number, uint64_t values[5]);
 
 /* Fills the list from its front with codes, 256 x owner + number, and marks them in the table; *codes is how many.
  * list_len counts codes, not bytes. Refuses 1, 11. */
 uint32_t pumxaqert_hand_out(uint8_t *table, size_t table_len, size_t n, size_t s, size_t c, uint16_t *list,
                             size_t list_len, size_t *codes);
 
-/* A message to copy c as numbers: kind, from, to, owner, number, ballot, voted (kind 7) or joined (kind 8), status, op,
- * key, edit, and the seven dependencies. What a kind does not carry is 0. Refuses 1, 31 to 35; *offset is where the wrong
- * field of a 35 begins, else 0. */
+/* A message to copy c as numbers: kind, from, to, owner, number, ballot, voted (kinds 7, 12) or joined (kind 8), status,
+ * op, key, second, edit, and the seven dependencies. Kinds 9 to 12 are kinds 1, 3, 5 and 7 with op 3, which no other kind
+ * carries. What a kind does not carry is 0. Refuses 1, 31 to 35; *offset is where the wrong field of a 35 begins, else
+ * 0. */
 uint32_t pumxaqert_read_message(size_t n, size_t s, size_t c, const uint8_t *bytes, size_t bytes_len,
-                                uint64_t fields[18], size_t *offset);
+                                uint64_t fields[19], size_t *offset);
 
 /* Writes what fields says at the front of out; *written is the message's length. Refuses 1, 2 (out_len under 256), and
- * then as the copy named in `to` would refuse the message, *offset as above. A number where the kind has none makes the
- * message too long (32); then the first number that its place cannot hold (an op above 2, a byte above 255 ..) is a wrong
- * field before all others. c is the copy that writes; it need not be the message's `from`. */
-uint32_t pumxaqert_write_message(size_t n, size_t s, size_t c, uint8_t *out, size_t out_len, const uint64_t fields[18],
+ * then as the copy named in `to` would refuse the message, *offset as above. A number where the kind has none, such as a
+ * second key in kinds 1 to 8, makes the message too long (32); then the first number that its place cannot hold is a wrong
+ * field before all others (a byte above 255 .., an op above 2, or in kinds 9 to 12 another than 3). c is the copy that
+ * writes; it need not be the message's `from`. */
+uint32_t pumxaqert_write_message(size_t n, size_t s, size_t c, uint8_t *out, size_t out_len, const uint64_t fields[19],
                                  size_t *written, size_t *offset);
 
 /* Messages off a stream. A link hands bytes over cut anywhere; the reader gives whole messages back, and what is left

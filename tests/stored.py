@@ -1,9 +1,15 @@
-"""What the makers of stored texts share: a text is written, or with --check held to what is stored."""
+"""What the makers of stored texts share: a text is written, or with --check held to what is stored; below the repository, or
+with --into FOLDER below that."""
 import os, subprocess, sys
 
 ROOT = os.path.dirname(os.path.dirname(os.path.abspath(__file__)))
 CHECK = "--check" in sys.argv
-RUNS = [word for word in sys.argv[1:] if word != "--check"]
+WORDS = [word for word in sys.argv[1:] if word != "--check"]
+INTO = ROOT
+if "--into" in WORDS:
+    at = WORDS.index("--into")
+    INTO, WORDS = WORDS[at + 1], WORDS[:at] + WORDS[at + 2:]
+RUNS = WORDS
 
 
 def recorded_runs():
@@ -15,10 +21,11 @@ def recorded_runs():
 
 
 def store(name, lines):
-    """The lines, as the file of this name below the repository."""
-    path = os.path.join(ROOT, name)
+    """The lines, as the file of this name."""
+    path = os.path.join(INTO, name)
     text = "".join(line + "\n" for line in lines)
     if not CHECK:
+        os.makedirs(os.path.dirname(path), exist_ok=True)
         with open(path, "w") as out:
             out.write(text)
     elif open(path).read() != text:

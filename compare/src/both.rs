@@ -16,7 +16,8 @@ pub enum Call<'a> {
     Blank,
     Judge,
     Part(usize, usize),
-    Request(usize, u32, u64),
+    /// Op, key, second key and edit.
+    Request(usize, u32, u32, u64),
     Message(&'a [u8]),
     Recover(usize, usize),
     Nudge(usize, usize),
@@ -31,7 +32,8 @@ pub enum Answer {
     Done,
     Part(usize, usize),
     Event(usize, usize, usize),
-    Settled(u64, u64, u64),
+    /// The same of what was agreed on.
+    Settled(u64, u64, u64, u64),
     Waits(usize, usize),
     Codes(usize),
 }
@@ -215,7 +217,7 @@ fn numbered(number: u32, offset: usize) -> Refusal {
 
 fn c_read(setup: Setup, bytes: &[u8]) -> Result<Fields, Refusal> {
     let Setup { n, s, copy } = setup;
-    let (mut f, mut offset) = ([0; 18], usize::MAX);
+    let (mut f, mut offset) = ([0; fields::COUNT], usize::MAX);
     let (at, length) = (bytes.as_ptr(), bytes.len());
     // SAFETY: here and below, each area comes from a slice or array with its length.
     let number =
@@ -285,10 +287,10 @@ fn second_by(
             let codes = second::hand_out(t, n, s, copy, &mut lent.list[..places]);
             return codes.map_or_else(Answer::Refused, Answer::Codes);
         }
-        Call::Request(op, key, edit) => {
+        Call::Request(op, key, second, edit) => {
             // Every number above 255 is as little an op as 255 is.
             let op = op.try_into().unwrap_or(u8::MAX);
-            second::request_by(by, t, n, s, copy, out, op, key, edit)
+            second::request_by(by, t, n, s, copy, out, op, key, second, edit)
         }
         Call::Message(bytes) => second::message_by(by, t, n, s, copy, out, bytes),
         Call::Recover(o, j) => second::recover(t, n, s, copy, out, o, j),
@@ -302,7 +304,9 @@ fn second_by(
 
 fn settled(answer: Result<Settled, Refusal>) -> Answer {
     match answer {
-        Ok(Settled::Command { op, key, edit }) => Answer::Settled(op as u64, key as u64, edit),
+        Ok(Settled::Command { op, key, second, edit }) => {
+            Answer::Settled(op as u64, key as u64, second as u64, edit)
+        }
         Ok(Settled::Waits { owner, number }) => Answer::Waits(owner, number),
         Err(refusal) => Answer::Refused(refusal),
     }
@@ -331,8 +335,8 @@ pub fn library_side(
         }
         Call::Settled(o, j) => {
             return match setup.settled(t, at(o, j)) {
-                Ok(Settling::Settled(Command { op, key, edit })) => {
-                    Answer::Settled(op as u64, key as u64, edit)
+                Ok(Settling::Settled(Command { op, key, second, edit })) => {
+                    Answer::Settled(op as u64, key as u64, second as u64, edit)
                 }
                 Ok(Settling::Waits(Instance { owner, number })) => Answer::Waits(owner, number),
                 Err(refusal) => refused(refusal),
@@ -341,7 +345,7 @@ pub fn library_side(
         Call::HandOut(places) => {
             return setup.hand_out(t, &mut lent.list[..places]).map_or_else(refused, Answer::Codes)
         }
-        Call::Request(op, key, edit) => return request(setup, t, out, op, key, edit),
+        Call::Request(..) => return request(setup, t, out, call),
         Call::Message(bytes) => setup.message(t, out, bytes),
         Call::Recover(o, j) => setup.recover(t, out, at(o, j)),
         Call::Nudge(o, j) => setup.nudge(t, out, at(o, j)),
@@ -353,10 +357,11 @@ fn event_answer(event: Event) -> Answer {
     Answer::Event(event.instance.owner, event.instance.number, event.written)
 }
 
-/// The wrapper's enum has no op above 2; those go to the C call.
-fn request(setup: Setup, t: &mut [u8], out: &mut [u8], op: usize, key: u32, edit: u64) -> Answer {
+/// The wrapper's enum has no op above 3; those go to the C call.
+fn request(setup: Setup, t: &mut [u8], out: &mut [u8], call: Call) -> Answer {
+    let Call::Request(op, key, second, edit) = call else { unreachable!("{call:?}") };
     if let Some(op) = Op::from_number(op as u64) {
-        let answer = setup.request(t, out, Command { op, key, edit });
+        let answer = setup.request(t, out, Command { op, key, second, edit });
         return answer.map_or_else(|refusal| Answer::Refused(told(refusal)), event_answer);
     }
     let mut values = [0; 4];
@@ -372,6 +377,7 @@ fn request(setup: Setup, t: &mut [u8], out: &mut [u8], op: usize, key: u32, edit
             out.len(),
             op,
             key,
+            second,
             edit,
             &mut values,
         )

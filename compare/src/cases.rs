@@ -21,7 +21,7 @@ pub struct Case {
 }
 
 pub enum Event {
-    Request,
+    Request(Command),
     Message(Vec<u8>),
     Recover(usize, usize),
     Nudge(usize, usize),
@@ -30,7 +30,9 @@ pub enum Event {
 impl Event {
     pub fn call(&self) -> Call<'_> {
         match self {
-            Event::Request => Call::Request(2, COMMAND.key, COMMAND.edit),
+            Event::Request(Command { op, key, second, edit }) => {
+                Call::Request(*op as usize, *key, *second, *edit)
+            }
             Event::Message(bytes) => Call::Message(bytes),
             Event::Recover(o, j) => Call::Recover(*o, *j),
             Event::Nudge(o, j) => Call::Nudge(*o, *j),
@@ -39,7 +41,8 @@ impl Event {
 }
 
 /// Interferes with nothing in the tables, so that Seen looks at every record.
-const COMMAND: Command = Command { op: 2, key: 7, edit: 100 };
+const COMMAND: Command = Command { op: 2, key: 7, second: 0, edit: 100 };
+const REWIRE: Command = Command { op: 3, key: 7, second: 8, edit: 100 };
 const DEPS: Deps = [0; 7];
 
 fn voted(status: u8) -> Vote {
@@ -54,9 +57,10 @@ fn first(count: usize) -> u8 {
 pub fn message(kind: u8, from: u8, owner: usize, number: usize, ballot: u32) -> Message {
     let (owner, number) = (owner as u8, number as u16);
     let bare = Message { kind, from, to: 0, owner, number, ballot, ..Message::default() };
-    match kind {
-        PRE_ACCEPT | ACCEPT | COMMIT => bare.with(&COMMAND, &DEPS),
-        PREPARE_OK => Message { status: PRE_ACCEPTED_ADDED, ..bare }.with(&COMMAND, &DEPS),
+    let command = if is_long(kind) { REWIRE } else { COMMAND };
+    match bare.body() {
+        PRE_ACCEPT | ACCEPT | COMMIT => bare.with(&command, &DEPS),
+        PREPARE_OK => Message { status: PRE_ACCEPTED_ADDED, ..bare }.with(&command, &DEPS),
         NACK => Message { joined: 8 * (ballot / 8) + 9, ..bare },
         _ => bare,
     }
@@ -79,7 +83,7 @@ pub fn events(setup: Setup, full: bool) -> Vec<Case> {
     let mine = |name, record: Record, event| case(name, setup, full, 0, &record, event);
     let other = |name, record: Record, event| case(name, setup, full, 1, &record, event);
     vec![
-        mine("request", blank, Event::Request),
+        mine("request", blank, Event::Request(COMMAND)),
         other("PreAccept", blank, sent(message(PRE_ACCEPT, 1, 1, s, 0))),
         mine("PreAcceptOK: fast commit", almost, sent(message(PRE_ACCEPT_OK, last, 0, s, 0))),
         other("Accept", held, sent(message(ACCEPT, 1, 1, s, 0))),
@@ -90,6 +94,8 @@ pub fn events(setup: Setup, full: bool) -> Vec<Case> {
         mine("Nack", leading, sent(message(NACK, last, 0, s, 0))),
         other("recover", held, Event::Recover(1, s)),
         mine("nudge: PreAccept", leading, Event::Nudge(0, s)),
+        mine("request of a rewire", blank, Event::Request(REWIRE)),
+        other("PreAccept of a rewire", blank, sent(message(LONG_PRE_ACCEPT, 1, 1, s, 0))),
     ]
 }
 
@@ -158,6 +164,8 @@ mod tests {
                     0,
                     PREPARE,
                     PRE_ACCEPT,
+                    LONG_PRE_ACCEPT,
+                    PRE_ACCEPT_OK,
                 ];
                 assert_eq!(kinds, wanted, "N = {n}, S = {s}");
             }

@@ -2,6 +2,7 @@
 
 use crate::both::Call;
 use crate::places::{Place, Places};
+use second::broken::body_of;
 use second::message::*;
 use second::rules::{lead, NO_OP};
 use second::table::*;
@@ -18,7 +19,7 @@ impl Places {
         sent: &[u8],
     ) {
         let [before, after] = records;
-        let first = sent.first().copied().unwrap_or(0);
+        let first = body_of(sent.first().copied().unwrap_or(0));
         let place = match call {
             Call::Request(..) if after.own.deps != [0; 7] => Place::RequestedOver,
             Call::Request(..) => Place::Requested,
@@ -59,11 +60,10 @@ fn received(
     after: &Record,
     first: u8,
 ) -> Place {
-    let kind = bytes[0];
     let Ok(m) = read_message(n, MOST, bytes[2] as usize, bytes) else {
         return Place::NothingFits;
     };
-    match (kind, first) {
+    match (m.body(), first) {
         (PRE_ACCEPT | ACCEPT | PREPARE, NACK) => Place::Nacked,
         (PRE_ACCEPT | ACCEPT | PREPARE, COMMIT) => Place::CommitBack,
         (PRE_ACCEPT, 0) => Place::PreAcceptAfterAccept,

@@ -1,5 +1,5 @@
 //! Demand 3, watched over the saved tables of a run in which nothing is damaged or invented. Which commands interfere is
-//! asked of 4/12, whatever the copies themselves go by.
+//! asked of 4/12 and 5/12, whatever the copies themselves go by.
 
 use second::rules::{interfere, Command, Deps, NO_OP};
 use second::table::{Record, COMMITTED};
@@ -143,7 +143,7 @@ mod tests {
     use super::*;
     use second::table::Vote;
 
-    const EDIT: Command = Command { op: 2, key: 7, edit: 100 };
+    const EDIT: Command = Command { op: 2, key: 7, second: 0, edit: 100 };
 
     fn committed(command: Command, deps: [u16; 3]) -> Record {
         let mut all = [0; 7];
@@ -204,6 +204,28 @@ mod tests {
             assert!(marks[..3].iter().all(|&(q, o)| demand.marked(q, o, 1).is_ok()));
             assert!(demand.marked(1, 1, 1).is_err(), "the other way round than at 0");
         }
+    }
+
+    /// A rewire is put in order with what touches either of its keys, and with nothing else.
+    #[test]
+    fn rewires() {
+        let rewire = |key, second| Command { op: 3, key, second, edit: 100 };
+        for (other, meets) in [(rewire(7, 9), true), (rewire(1, 7), true), (rewire(1, 9), false)] {
+            for commands in [[EDIT, other], [other, EDIT]] {
+                assert_eq!(two_of(commands, [0; 3]).is_err(), meets);
+                let mut demand = two_of(commands, [0, 1, 0]).unwrap();
+                let marks = [(0, 1), (0, 0), (1, 0)];
+                assert!(marks.iter().all(|&(q, o)| demand.marked(q, o, 1).is_ok()));
+                assert_eq!(demand.marked(1, 1, 1).is_err(), meets);
+            }
+        }
+        // The keys are part of what is committed.
+        let mut demand = Demand::new(3, 2);
+        demand.requested(0, 1, rewire(7, 8));
+        let blank = Record::default();
+        assert!(demand.saved(0, 1, &blank, &committed(rewire(7, 9), [0; 3])).is_err());
+        assert!(demand.saved(0, 1, &blank, &committed(rewire(7, 8), [0; 3])).is_ok());
+        assert!(demand.saved(0, 1, &blank, &committed(rewire(7, 9), [0; 3])).is_err());
     }
 
     #[test]

@@ -3,9 +3,9 @@
 use crate::both::Call;
 use pumxaqert::raw::*;
 use pumxaqert::{Fields, Setup};
+use second::fields::COUNT as FIELDS;
 
 const GUARD: usize = 64;
-const FIELDS: usize = 18;
 /// The most that a call answers.
 pub const VALUES: usize = FIELDS + 1;
 
@@ -87,6 +87,7 @@ impl Input {
             Input::OnTable(Call::Blank | Call::Judge) => 0,
             Input::OnTable(Call::HandOut(_) | Call::Part(..)) => 1,
             Input::Write(_) => 2,
+            Input::OnTable(Call::Settled(..)) => 5,
             Input::OnTable(_) | Input::Message => 4,
             Input::Read => VALUES,
         }
@@ -152,8 +153,8 @@ fn event(setup: Setup, call: Option<Call>, areas: &mut Areas) -> u32 {
     unsafe {
         match call {
             None => pumxaqert_message(t, t_len, n, s, c, out, out_len, bytes, bytes_len, v),
-            Some(Call::Request(op, key, edit)) => {
-                pumxaqert_request(t, t_len, n, s, c, out, out_len, op, key, edit, v)
+            Some(Call::Request(op, key, second, edit)) => {
+                pumxaqert_request(t, t_len, n, s, c, out, out_len, op, key, second, edit, v)
             }
             Some(Call::Recover(o, j)) => {
                 pumxaqert_recover(t, t_len, n, s, c, out, out_len, o, j, v)

@@ -11,7 +11,7 @@ use second::refusal::NotReplayed;
 use second::table::RECORD_LEN;
 
 /// More than any entry needs, so that writing past one would show.
-pub const ROOM: usize = 300;
+pub const ROOM: usize = 320;
 /// What the value holds before a call.
 const UNSET: usize = 0xa5a5_a5a5_a5a5_a5a5;
 

@@ -11,6 +11,7 @@ pub mod journals;
 pub mod linear;
 pub mod make;
 pub mod measure;
+pub mod old;
 pub mod places;
 pub mod probe;
 pub mod random;
@@ -40,4 +41,5 @@ pub fn not_valid(number: u8) -> bool {
 }
 
 /// The length of each kind of message; kind 0 is none.
-pub const LENGTHS: [usize; 9] = [0, 37, 24, 37, 10, 37, 10, 42, 14];
+pub const LENGTHS: [usize; 13] = [0, 37, 24, 37, 10, 37, 10, 42, 14, 41, 41, 41, 46];
+pub const LONGEST: usize = 46;

@@ -13,8 +13,8 @@ const EDGES: usize = 9 * MOST;
 const NONE: u16 = u16::MAX;
 
 const STATUS_AT: usize = 8;
-const DEPS_AT: usize = 22;
-const MARK_AT: usize = 36;
+const DEPS_AT: usize = 26;
+const MARK_AT: usize = 40;
 
 pub fn hand_out(
     t: &mut [u8],

@@ -1,8 +1,11 @@
 //! Made-up tables and messages: sound ones that no run need reach, and damaged ones.
 
 use crate::random::Random;
+use crate::LONGEST;
 use pumxaqert::Setup;
-use second::rules::{lead, Command};
+use second::broken::{body_of, has_command, has_deps};
+use second::message::{is_long, kind_of, NACK, PREPARE_OK};
+use second::rules::{lead, Command, REWIRE};
 use second::table::{Record, Vote, HEAD_LEN, RECORD_LEN};
 use second::{table_len, Message};
 
@@ -35,12 +38,19 @@ fn vote(random: &mut Random, n: usize, s: usize, voted: u32, status: u8) -> Vote
     if status == 0 {
         return Vote::default();
     }
-    let op = random.below(3) as u8;
-    let command = match op {
-        0 => Command::default(),
-        _ => Command { op, key: random.below(3) as u32, edit: random.below(9) as u64 },
-    };
+    let command = command(random);
     Vote { voted, status, command, deps: deps(random, n, s) }
+}
+
+/// Any command, of few keys.
+fn command(random: &mut Random) -> Command {
+    let op = random.below(4) as u8;
+    if op == 0 {
+        return Command::default();
+    }
+    let (key, edit) = (random.below(3) as u32, random.below(9) as u64);
+    let second = if op == REWIRE { key + random.between(1, 2) as u32 } else { 0 };
+    Command { op, key, second, edit }
 }
 
 /// Any sound record of this owner at this copy.
@@ -130,22 +140,26 @@ pub fn message(random: &mut Random, setup: Setup, t: &[u8]) -> Message {
     let Setup { n, s, copy } = setup;
     let (o, j) = (random.below(n), random.between(1, s));
     let r = get(t, place(setup, o, j));
+    let body = random.between(1, NACK as usize) as u8;
     let mut m = Message {
-        kind: random.between(1, 8) as u8,
+        kind: body,
         to: copy as u8,
         owner: o as u8,
         number: j as u16,
         ballot: if random.chance(70) { r.joined } else { ballot(random, n) },
         ..Message::default()
     };
-    let from_lead = matches!(m.kind, 1 | 3 | 6) && random.chance(80);
+    let from_lead = matches!(body, 1 | 3 | 6) && random.chance(80);
     m.from = if from_lead { lead(m.ballot, o) as u8 } else { random.below(n) as u8 };
     let (voted, status) = (ballot_below(random, n, m.ballot), random.below(4) as u8);
     let v = if random.chance(30) { r.own } else { vote(random, n, s, voted, status) };
-    if matches!(m.kind, 1 | 3 | 5 | 7) {
+    if has_command(body) {
         m = m.with(&v.command, &v.deps);
+        // Now and then in a kind that does not carry it.
+        let op = if random.chance(3) { random.below(4) as u8 } else { m.op };
+        m.kind = kind_of(body, op);
     }
-    match m.kind {
+    match body {
         2 => m.deps = v.deps,
         7 => (m.voted, m.status) = (v.voted, v.status),
         8 => m.joined = ballot(random, n),
@@ -155,24 +169,27 @@ pub fn message(random: &mut Random, setup: Setup, t: &[u8]) -> Message {
 }
 
 /// Its bytes as they stand, valid or not.
-pub fn bytes(m: &Message, out: &mut [u8; 42]) -> usize {
-    let mut all = Vec::with_capacity(42);
+pub fn bytes(m: &Message, out: &mut [u8; LONGEST]) -> usize {
+    let mut all = Vec::with_capacity(LONGEST);
     all.extend([m.kind, m.from, m.to, m.owner]);
     all.extend(m.number.to_le_bytes());
     all.extend(m.ballot.to_le_bytes());
-    if m.kind == 7 {
+    if body_of(m.kind) == PREPARE_OK {
         all.extend(m.voted.to_le_bytes());
         all.push(m.status);
     }
-    if matches!(m.kind, 1 | 3 | 5 | 7) {
+    if has_command(m.kind) {
         all.push(m.op);
         all.extend(m.key.to_le_bytes());
+        if is_long(m.kind) {
+            all.extend(m.second.to_le_bytes());
+        }
         all.extend(m.edit.to_le_bytes());
     }
-    if matches!(m.kind, 1 | 2 | 3 | 5 | 7) {
+    if has_deps(m.kind) {
         m.deps.iter().for_each(|entry| all.extend(entry.to_le_bytes()));
     }
-    if m.kind == 8 {
+    if m.kind == NACK {
         all.extend(m.joined.to_le_bytes());
     }
     out[..all.len()].copy_from_slice(&all);

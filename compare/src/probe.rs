@@ -5,15 +5,16 @@ use crate::both::{Answer, Call, Pair, OUT};
 use crate::places::Place;
 use crate::random::Random;
 use crate::world::World;
-use crate::{make, not_valid};
+use crate::{make, not_valid, LONGEST};
 use pumxaqert::{Setup, ROOM};
-use second::table::{Record, COMMITTED, HEAD_LEN, RECORD_LEN};
+use second::message::{kind_of, COMMIT};
+use second::table::{Record, COMMITTED, HEAD_LEN, MARK_AT, RECORD_LEN};
 
 pub fn probe(world: &mut World, q: usize) -> Result<(), String> {
     let mut setup = world.copies[q].setup;
     let mut table = world.copies[q].saved.clone();
     let mut room = ROOM;
-    let mut bytes = [0; 42];
+    let mut bytes = [0; LONGEST];
     let mut length = 0;
     let random = &mut world.random;
     match random.below(5) {
@@ -68,25 +69,35 @@ fn damage_table(random: &mut Random, setup: Setup, table: &mut [u8]) {
     match random.below(4) {
         0 => make::damage(random, &mut table[..HEAD_LEN]),
         // The vote, mark, phase and set: where most of what is judged stands.
-        1 | 2 => make::damage(random, &mut table[at..at + 39]),
+        1 | 2 => make::damage(random, &mut table[at..at + MARK_AT + 3]),
         _ => make::damage(random, &mut table[at..at + RECORD_LEN]),
     }
 }
 
 /// A message that the copy might get, with some of its bytes changed, or cut short, or as it stands.
-fn damaged_message(random: &mut Random, setup: Setup, table: &[u8], bytes: &mut [u8; 42]) -> usize {
+fn damaged_message(
+    random: &mut Random,
+    setup: Setup,
+    table: &[u8],
+    bytes: &mut [u8; LONGEST],
+) -> usize {
     let mut m = make::message(random, setup, table);
     // A Commit over what is committed, so that it may differ.
     let kept = make::get(table, make::place(setup, m.owner as usize, m.number as usize));
     if kept.own.status == COMMITTED && random.chance(60) {
-        m = second::Message { kind: 5, voted: 0, joined: 0, status: 0, ..m };
+        let kind = kind_of(COMMIT, kept.own.command.op);
+        m = second::Message { kind, voted: 0, joined: 0, status: 0, ..m };
         m = m.with(&kept.own.command, &kept.own.deps);
-        m.edit = m.edit.wrapping_add(random.below(2) as u64);
+        match random.below(3) {
+            0 => m.edit = m.edit.wrapping_add(1),
+            1 => m.second = m.second.wrapping_add(1),
+            _ => {}
+        }
     }
     let length = make::bytes(&m, bytes);
     match random.below(5) {
         0 => random.between(1, length),
-        1 => (length + 1).min(42),
+        1 => (length + 1).min(LONGEST),
         2 | 3 => {
             make::damage(random, &mut bytes[..length]);
             length
@@ -120,7 +131,7 @@ fn some_call<'a>(
     random: &mut Random,
     setup: Setup,
     table: &[u8],
-    bytes: &'a mut [u8; 42],
+    bytes: &'a mut [u8; LONGEST],
 ) -> Call<'a> {
     let out_of_range = random.chance(10);
     let mut named = |most: usize| match out_of_range {
@@ -132,7 +143,10 @@ fn some_call<'a>(
     match random.below(9) {
         0 => Call::Blank,
         1 => Call::Part(o, j),
-        2 => Call::Request(random.pick(&[0, 1, 2, 3, 258, usize::MAX]), 1, random.word()),
+        2 => {
+            let op = random.pick(&[0, 1, 2, 3, 3, 3, 258, usize::MAX]);
+            Call::Request(op, 1, random.pick(&[0, 0, 1, 2]), random.word())
+        }
         3 | 4 => Call::Recover(o, j),
         5 => Call::Nudge(o, j),
         6 => Call::Settled(o, j),

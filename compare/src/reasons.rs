@@ -2,10 +2,10 @@
 //! reason and the field.
 
 use crate::both::{Answer, Both, Call, Pair};
-use crate::{make, not_valid};
+use crate::{make, not_valid, LONGEST};
 use pumxaqert::{Setup, ROOM};
 use second::fields::{self, Fields};
-use second::message::{decode, encode};
+use second::message::{decode, encode, LAST_KIND, PREPARE, PREPARE_OK};
 use second::{broken, Message, Refusal};
 
 #[derive(Default)]
@@ -23,7 +23,7 @@ pub fn all(setup: Setup, counts: &mut Counts) -> Result<(), String> {
     let mut both = Both::default();
     broken_clauses(&mut both, setup, counts)?;
     for m in valid(setup) {
-        let mut bytes = [0; 42];
+        let mut bytes = [0; LONGEST];
         let length = encode(&m, &mut bytes);
         every_byte(&mut both, setup, &bytes[..length], counts)?;
         large_numbers(&mut both, setup, &fields::fields(&m), counts)?;
@@ -35,17 +35,20 @@ pub fn all(setup: Setup, counts: &mut Counts) -> Result<(), String> {
 fn valid(setup: Setup) -> Vec<Message> {
     let Setup { n, s, copy } = setup;
     let mut all = Vec::new();
-    for kind in 1..=8 {
+    for kind in 1..=LAST_KIND {
         let m = broken::valid(n, copy, kind, 3);
         all.extend([m, broken::no_op(&m), broken::nothing(&m)]);
-        if !matches!(kind, 6 | 7) {
+        if !matches!(m.body(), PREPARE | PREPARE_OK) {
             all.push(broken::valid(n, copy, kind, 0));
         }
         let last = u32::MAX - 7 + m.ballot % 8;
         all.push(Message { ballot: last, number: s as u16, ..m });
+        // Keys as near as they may be, at a byte's bound.
+        all.push(Message { key: m.second.wrapping_sub(1), ..m });
+        all.push(Message { key: 0xff, second: 0x100, ..m });
     }
     let read = |m: &Message| {
-        let mut bytes = [0; 42];
+        let mut bytes = [0; LONGEST];
         let length = encode(m, &mut bytes);
         second::read_message(n, s, copy, &bytes[..length]).is_ok()
     };

@@ -9,7 +9,7 @@ use second::table::{Record, Vote};
 /// Committed, with a command that interferes with no other's.
 fn committed(setup: Setup, o: usize, j: usize, deps: [u16; 7]) -> Record {
     let key = (1000 + o * setup.s + j) as u32;
-    let command = Command { op: 2, key, edit: 1 };
+    let command = Command { op: 2, key, second: 0, edit: 1 };
     Record { own: Vote { voted: 0, status: 4, command, deps }, ..Record::default() }
 }
 

@@ -6,8 +6,8 @@ use second::Refusal;
 
 const MOST: usize = 7 * 64;
 const STATUS_AT: usize = 8;
-const DEPS_AT: usize = 22;
-const MARK_AT: usize = 36;
+const DEPS_AT: usize = 26;
+const MARK_AT: usize = 40;
 
 /// How much of each owner's row is reached.
 type Marks = [u16; 7];

@@ -13,10 +13,10 @@ use crate::make;
 use crate::places::{Place, Places};
 use crate::probe;
 use crate::random::Random;
-use crate::{not_valid, LENGTHS};
+use crate::{not_valid, LENGTHS, LONGEST};
 use pumxaqert::{Instance, Setup, ROOM};
-use second::rules::{covers, interfere, same_object, seen, NO_OP, READ, WRITE};
-use second::table::{Record, COMMITTED, PRE_ACCEPTED, PRE_ACCEPTED_ADDED, RECORD_LEN};
+use second::rules::{covers, interfere, same_object, seen, Command, NO_OP, READ, REWIRE, WRITE};
+use second::table::{Record, COMMITTED, MARK_AT, PRE_ACCEPTED, PRE_ACCEPTED_ADDED, RECORD_LEN};
 use second::Refusal;
 
 pub struct Copy {
@@ -30,7 +30,7 @@ pub struct Copy {
 struct Letter {
     to: usize,
     length: usize,
-    bytes: [u8; 42],
+    bytes: [u8; LONGEST],
 }
 
 /// How a run is driven, in percent of steps or of messages.
@@ -38,6 +38,8 @@ struct Pace {
     keys: usize,
     /// Of the requests.
     reads: usize,
+    /// Of the other requests.
+    rewires: usize,
     loss: usize,
     repeat: usize,
     cut: usize,
@@ -77,7 +79,8 @@ struct Disk {
 fn pace(random: &mut Random) -> Pace {
     Pace {
         keys: random.pick(&[1, 1, 2, 3]),
-        reads: random.pick(&[50, 50, 90, 90, 100]),
+        reads: random.pick(&[20, 50, 50, 90, 100]),
+        rewires: random.pick(&[0, 30, 50, 100]),
         loss: random.pick(&[0, 0, 5, 20, 40]),
         repeat: random.pick(&[0, 5, 20, 50]),
         cut: random.pick(&[0, 0, 3, 10]),
@@ -145,17 +148,33 @@ pub fn journalled(
     }
 }
 
-/// The event pre-accepted a read, and a read of its key stands higher in some row than all that it saw there.
-fn passed_over(copy: &Copy, o: usize, j: usize, before: &Record, after: &Record) -> bool {
+type Rule = fn(&Command, &Command) -> bool;
+
+/// What the event pre-accepted, if it did.
+fn pre_accepted(before: &Record, after: &Record) -> Option<Command> {
     let own = &after.own;
     let afresh = matches!(own.status, PRE_ACCEPTED | PRE_ACCEPTED_ADDED) && before.own != *own;
-    if !afresh || own.command.op != READ || copy.sides == Sides::SecondWide {
-        return false;
-    }
+    afresh.then_some(own.command)
+}
+
+/// The copy shows the command other instances by one rule than by the other.
+fn differ(copy: &Copy, o: usize, j: usize, command: &Command, rules: [Rule; 2]) -> bool {
     let Setup { n, s, copy: q } = copy.setup;
     let setup = second::setup::Setup::new(n, s, q).expect("a good setup");
-    let all = seen(&setup, &copy.saved, &own.command, o, j, same_object);
-    all != seen(&setup, &copy.saved, &own.command, o, j, interfere)
+    let [a, b] = rules.map(|rule| seen(&setup, &copy.saved, command, o, j, rule));
+    a != b
+}
+
+/// A read that was pre-accepted, where a read of its key stands higher in some row than all that it saw there.
+fn passed_over(copy: &Copy, o: usize, j: usize, command: &Command) -> bool {
+    let reads = command.op == READ && copy.sides != Sides::SecondWide;
+    reads && differ(copy, o, j, command, [same_object, interfere])
+}
+
+/// As if no command had a second key.
+fn by_first_keys(a: &Command, b: &Command) -> bool {
+    let of_one = |c: &Command| Command { op: c.op.min(WRITE), second: 0, ..*c };
+    interfere(&of_one(a), &of_one(b))
 }
 
 impl World {
@@ -242,10 +261,8 @@ impl World {
         let Pace { request, recover, nudge, .. } = self.pace;
         let chosen = self.random.below(100);
         if chosen < request {
-            let op = if self.random.chance(self.pace.reads) { READ } else { WRITE };
-            let key = self.random.below(self.pace.keys) as u32;
-            let edit = self.random.word();
-            self.event(q, Call::Request(op as usize, key, edit))
+            let request = self.request();
+            self.event(q, request)
         } else if chosen < request + recover {
             self.event(q, Call::Recover(o, j))
         } else if chosen < request + recover + nudge {
@@ -258,6 +275,21 @@ impl World {
             self.hand_out(q, places)
         } else {
             self.deliver()
+        }
+    }
+
+    /// A read, a write or a rewire; its two keys are of those of the others, and one more.
+    fn request(&mut self) -> Call<'static> {
+        let Pace { keys, reads, rewires, .. } = self.pace;
+        let random = &mut self.random;
+        let (key, edit) = (random.below(keys) as u32, random.word());
+        if random.chance(reads) {
+            Call::Request(READ as usize, key, 0, edit)
+        } else if random.chance(rewires) {
+            let second = random.between(key as usize + 1, keys) as u32;
+            Call::Request(REWIRE as usize, key, second, edit)
+        } else {
+            Call::Request(WRITE as usize, key, 0, edit)
         }
     }
 
@@ -305,8 +337,8 @@ impl World {
         }
         let (before, after) = (make::get(saved, at), make::get(&tables.ours, at));
         self.places.event(self.n, call, o, [&before, &after], sent);
-        if passed_over(&self.copies[q], o, j, &before, &after) {
-            self.places.passed_over(call);
+        if let Some(command) = pre_accepted(&before, &after) {
+            self.met(q, call, o, j, &command);
         }
         if self.random.chance(self.pace.cut) {
             self.places.reach(Place::CutBeforeSave);
@@ -320,6 +352,20 @@ impl World {
             self.demand.saved(o, j, &before, &after)?;
         }
         self.send(q, sent)
+    }
+
+    /// Counts what an event that pre-accepts a command found in the table.
+    fn met(&mut self, q: usize, call: Call, o: usize, j: usize, command: &Command) {
+        let copy = &self.copies[q];
+        if passed_over(copy, o, j, command) {
+            self.places.passed_over(call);
+        }
+        if differ(copy, o, j, command, [interfere, by_first_keys]) {
+            self.places.reach(Place::MetBySecond);
+        }
+        if command.op == REWIRE && matches!(call, Call::Request(..)) {
+            self.places.reach(Place::RequestedRewire);
+        }
     }
 
     /// The record that a failed event met.
@@ -411,7 +457,7 @@ impl World {
             if apart || self.random.chance(if cut { 60 } else { self.pace.loss }) {
                 self.places.reach(Place::Lost);
             } else {
-                let mut bytes = [0; 42];
+                let mut bytes = [0; LONGEST];
                 bytes[..length].copy_from_slice(&sent[..length]);
                 self.flying.push(Letter { to, length, bytes });
             }
@@ -425,6 +471,7 @@ impl World {
         let copy = &mut self.copies[q];
         let place = match self.both.call(copy.setup, ROOM, Call::Settled(o, j), &mut copy.tables)? {
             Answer::Settled(0, ..) => Place::SettledNoOp,
+            Answer::Settled(3, ..) => Place::SettledRewire,
             Answer::Settled(..) => Place::Settled,
             Answer::Waits(p, i) if (p, i) == (o, j) => Place::WaitsForItself,
             Answer::Waits(..) => Place::WaitsForOther,
@@ -475,10 +522,12 @@ impl World {
             if (0..self.n).any(|p| (1..=vote.deps[p] as usize).any(|i| unmarked(p, i))) {
                 self.places.reach(Place::ListCycle);
             }
-            if vote.command.op == NO_OP {
-                self.places.reach(Place::ListNoOp);
+            match vote.command.op {
+                NO_OP => self.places.reach(Place::ListNoOp),
+                REWIRE => self.places.reach(Place::ListRewire),
+                _ => {}
             }
-            marked[at + 36] = 1;
+            marked[at + MARK_AT] = 1;
         }
         if marked != tables.ours {
             return Err(format!("the hand-out of {codes:?} changed more than its marks"));

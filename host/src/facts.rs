@@ -1,6 +1,7 @@
 //! What a copy has saved, told line by line, each once in a life and at once: to the program that kills this one and
 //! holds the next life to it.
 
+use crate::host::cells;
 use crate::site::Site;
 use pumxaqert::{Command, Instance, Op, Settling};
 use std::collections::BTreeSet;
@@ -42,17 +43,14 @@ impl Facts {
             |verb, what: String| self.tell(format!("copy {copy} {verb} {owner}.{number} {what}"));
         match site.command(at) {
             Some(Command { op: Op::NoOp, .. }) if copy == owner => tell(LOST, "to a no-op".into()),
-            Some(Command { key, edit, .. }) if copy == owner => {
-                tell(TOOK, format!("cell {key} edit {edit}"))
-            }
+            Some(command) if copy == owner => tell(TOOK, content(&command)),
             _ => {}
         }
         if let Some((command, deps)) = site.committed(at) {
-            let what = format!("cell {} edit {} after {deps:?}", command.key, command.edit);
-            tell(COMMITTED, what);
+            tell(COMMITTED, format!("{} after {deps:?}", content(&command)));
         }
         if let Some(Settling::Settled(command)) = site.settled(at) {
-            tell(SETTLED, format!("cell {} edit {}", command.key, command.edit));
+            tell(SETTLED, content(&command));
         }
     }
 
@@ -63,4 +61,8 @@ impl Facts {
             self.told.insert(line);
         }
     }
+}
+
+fn content(command: &Command) -> String {
+    format!("cell {} edit {}", cells(command), command.edit)
 }

@@ -12,6 +12,22 @@ pub const COPIES: usize = 3;
 pub const NUMBERS: usize = 8;
 pub const CELLS: [u32; 2] = [7, 9];
 
+/// What the client asks for: writes of the two cells in turn, and every fourth edit moves a pin from one to the other.
+pub fn wish(edit: u64) -> Command {
+    match edit % 4 {
+        0 => Command::rewire(CELLS[0], CELLS[1], edit),
+        _ => Command::write(CELLS[edit as usize % 2], edit),
+    }
+}
+
+/// The cells that it changes, as one word; a no-op's is 0.
+pub fn cells(command: &Command) -> String {
+    match command.op {
+        Op::Rewire => format!("{},{}", command.key, command.second),
+        _ => command.key.to_string(),
+    }
+}
+
 /// What is told while the copies work.
 pub enum Voice {
     /// What happens, to people.
@@ -41,9 +57,8 @@ impl Host {
         let start = |copy| Site::start(disk, Setup { n: COPIES, s: NUMBERS, copy });
         let sites = (0..COPIES).map(start).collect::<Result<Vec<Site>>>()?;
         let taken = taken(&sites);
-        let edit = |edit| Command { op: Op::Write, key: CELLS[edit as usize % 2], edit };
         let is_new = |command: &Command| taken.iter().all(|(_, other)| other != command);
-        let wanted = (1..=edits).rev().map(edit).filter(is_new).collect();
+        let wanted = (1..=edits).rev().map(wish).filter(is_new).collect();
         let network = Network::new(seed);
         Ok(Host { sites, network, wanted, taken, heard: 0, cuts: 0, voice })
     }
@@ -79,10 +94,10 @@ impl Host {
         let moment = self.sites[copy].cut;
         match self.sites[copy].event(|s, table, out| s.request(table, out, command))? {
             Outcome::Answered(event, bytes) => {
-                let (Instance { owner, number }, Command { key, edit, .. }) =
-                    (event.instance, command);
+                let (Instance { owner, number }, edit) = (event.instance, command.edit);
+                let cells = cells(&command);
                 self.say(format!(
-                    "copy {copy} takes edit {edit} of cell {key} as {owner}.{number}"
+                    "copy {copy} takes edit {edit} of cell {cells} as {owner}.{number}"
                 ));
                 self.taken.push((event.instance, command));
                 self.tell_saved(copy);

@@ -95,13 +95,13 @@ impl Kept {
     /// A copy's order as one of edits for each cell.
     fn cells(&self, order: &[String]) -> BTreeMap<&str, Vec<&str>> {
         let mut cells: BTreeMap<&str, Vec<&str>> = BTreeMap::new();
-        for (cell, edit) in order.iter().filter_map(|at| self.edit(at)) {
-            cells.entry(cell).or_default().push(edit);
+        for (of, edit) in order.iter().filter_map(|at| self.edit(at)) {
+            of.split(',').for_each(|cell| cells.entry(cell).or_default().push(edit));
         }
         cells
     }
 
-    /// The cell and the edit that an instance was committed as; none for a no-op.
+    /// The cell, or both with a comma between, and the edit that an instance was committed as; none for a no-op.
     fn edit(&self, at: &str) -> Option<(&str, &str)> {
         edit_in(self.agreed.get(at)?)
     }
@@ -147,7 +147,7 @@ impl Told {
     }
 }
 
-/// The cell and the edit of what was taken or committed. A no-op is of no cell.
+/// The cell or cells and the edit of what was taken or committed. A no-op is of no cell.
 fn edit_in(what: &str) -> Option<(&str, &str)> {
     let mut words = what.split(' ');
     let (cell, edit) = (words.nth(1)?, words.nth(1)?);

@@ -250,7 +250,7 @@ impl Site {
     /// No place for another edit is left here.
     pub fn is_full(&self) -> bool {
         let (mut table, mut out) = (self.table.clone(), [0; ROOM]);
-        let command = Command { op: Op::Write, key: 0, edit: 0 };
+        let command = Command::write(0, 0);
         self.setup.request(&mut table, &mut out, command) == Err(Refusal::NoBlank)
     }
 }

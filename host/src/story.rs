@@ -1,9 +1,9 @@
 //! A run that ends, told to people: the copies are cut off at every bad moment, and go on.
 
-use crate::host::{Host, Voice, CELLS, COPIES};
+use crate::host::{wish, Host, Voice, CELLS, COPIES};
 use crate::site::{Moment, Site};
 use crate::store::Disk;
-use pumxaqert::{Instance, Settling};
+use pumxaqert::{Command, Instance, Op, Settling};
 use std::io::Result;
 use std::path::Path;
 
@@ -91,7 +91,7 @@ fn judge(host: &mut Host, disk: &Disk) -> Result<bool> {
         }
         let mut all = orders[0].clone();
         all.sort();
-        let asked: Vec<u64> = (1..=EDITS).filter(|&e| CELLS[e as usize % 2] == cell).collect();
+        let asked: Vec<u64> = (1..=EDITS).filter(|&edit| changes(&wish(edit), cell)).collect();
         good &= all == asked && orders.iter().all(|order| *order == orders[0]);
     }
     let words = if good { "all copies agree" } else { "THE COPIES DIFFER, or an edit is missing" };
@@ -101,5 +101,9 @@ fn judge(host: &mut Host, disk: &Disk) -> Result<bool> {
 
 fn edits(site: &Site, cell: u32) -> Vec<u64> {
     let commands = site.order().iter().filter_map(|&at| site.edit(at));
-    commands.filter(|command| command.key == cell).map(|command| command.edit).collect()
+    commands.filter(|command| changes(command, cell)).map(|command| command.edit).collect()
+}
+
+fn changes(command: &Command, cell: u32) -> bool {
+    command.key == cell || (command.op == Op::Rewire && command.second == cell)
 }

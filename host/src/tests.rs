@@ -3,7 +3,7 @@
 use crate::kept::Kept;
 use crate::site::{Moment, Outcome, Site};
 use crate::store::Disk;
-use pumxaqert::{Body, Command, EntryKind, Event, Instance, Message, Op, Setup, ROOM};
+use pumxaqert::{Body, Command, EntryKind, Event, Instance, Message, Setup, ROOM};
 use std::path::PathBuf;
 
 const SETUP: Setup = Setup { n: 3, s: 4, copy: 0 };
@@ -40,7 +40,7 @@ impl Drop for Folder {
 }
 
 fn request(site: &mut Site, edit: u64) -> Option<Event> {
-    let command = Command { op: Op::Write, key: 7, edit };
+    let command = Command::write(7, edit);
     match site.event(|s, table, out| s.request(table, out, command)).unwrap() {
         Outcome::Answered(event, _) => Some(event),
         Outcome::Refused(refusal) => panic!("{refusal}"),
@@ -194,4 +194,9 @@ fn what_is_taken_back_is_noticed() {
     assert!(!good(&[&["ready", done, more, out]]), "committed, and not handed out");
     assert!(!good(&[&["ready", done, "copy 0 committed 2.1 cell 7 edit 5 after [1]"]]));
     assert!(!good(&[&["something"]]));
+    // An edit of both cells stands in the order of each.
+    let both = "copy 0 committed 0.1 cell 7,9 edit 5 after [0]";
+    let nine = "copy 0 committed 1.1 cell 9 edit 6 after [1]";
+    assert!(good(&[&["ready", both, nine, out, next, last, other]]));
+    assert!(!good(&[&["ready", both, nine, out, next, other, last]]));
 }

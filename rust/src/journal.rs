@@ -31,15 +31,14 @@ impl Setup {
     /// leaves of the journal gives the table back:
     ///
     /// ```
-    /// use pumxaqert::{Command, EntryKind, Op, Setup, ROOM};
+    /// use pumxaqert::{Command, EntryKind, Setup, ROOM};
     ///
     /// let setup = Setup { n: 3, s: 4, copy: 0 };
     /// let mut base = vec![0; setup.table_len().unwrap()];
     /// setup.blank(&mut base).unwrap();
     /// let (mut table, mut journal) = (base.clone(), Vec::new());
     ///
-    /// let command = Command { op: Op::Write, key: 7, edit: 100 };
-    /// let event = setup.request(&mut table, &mut [0; ROOM], command).unwrap();
+    /// let event = setup.request(&mut table, &mut [0; ROOM], Command::write(7, 100)).unwrap();
     /// let mut entry = vec![0; EntryKind::Record.entry_len()];
     /// let length = setup.record_entry(&table, &mut entry, event.instance).unwrap();
     /// journal.extend(&entry[..length]);

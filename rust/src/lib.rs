@@ -123,7 +123,7 @@ impl Setup {
         (start, length)
     }
 
-    /// A read or write asked for at this copy.
+    /// A read, write or rewire asked for at this copy.
     pub fn request(
         &self,
         table: &mut [u8],
@@ -142,6 +142,7 @@ impl Setup {
                 out.len(),
                 command.op as usize,
                 command.key,
+                command.second,
                 command.edit,
                 &mut values,
             )
@@ -215,7 +216,7 @@ impl Setup {
     }
 
     pub fn settled(&self, table: &[u8], at: Instance) -> Result<Settling, Refusal> {
-        let mut values = [0; 4];
+        let mut values = [0; 5];
         refused(unsafe {
             raw::pumxaqert_settled(
                 table.as_ptr(),
@@ -228,10 +229,10 @@ impl Setup {
                 &mut values,
             )
         })?;
-        let [settled, a, b, edit] = values;
+        let [settled, a, b, second, edit] = values;
         Ok(if settled == 1 {
             let op = Op::from_number(a).expect("an op of the paper");
-            Settling::Settled(Command { op, key: b as u32, edit })
+            Settling::Settled(Command { op, key: b as u32, second: second as u32, edit })
         } else {
             Settling::Waits(Instance { owner: a as usize, number: b as usize })
         })
@@ -257,7 +258,7 @@ impl Setup {
 
     /// A message as received by this copy.
     pub fn read_message(&self, bytes: &[u8]) -> Result<Message, Refusal> {
-        let (mut fields, mut offset) = ([0; 18], 0);
+        let (mut fields, mut offset) = ([0; 19], 0);
         let number = unsafe {
             raw::pumxaqert_read_message(
                 self.n,

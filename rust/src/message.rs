@@ -1,4 +1,4 @@
-//! A message as an enum, and as the eighteen numbers that cross to C.
+//! A message as an enum, and as the nineteen numbers that cross to C.
 
 /// Entry q is copy q's; zero from copy N on.
 pub type Deps = [u16; 7];
@@ -8,11 +8,13 @@ pub enum Op {
     NoOp = 0,
     Read = 1,
     Write = 2,
+    /// A write on two objects.
+    Rewire = 3,
 }
 
 impl Op {
     pub fn from_number(number: u64) -> Option<Op> {
-        [Op::NoOp, Op::Read, Op::Write].into_iter().find(|&op| op as u64 == number)
+        [Op::NoOp, Op::Read, Op::Write, Op::Rewire].into_iter().find(|&op| op as u64 == number)
     }
 }
 
@@ -20,7 +22,26 @@ impl Op {
 pub struct Command {
     pub op: Op,
     pub key: u32,
+    /// A rewire's second key, above the first; zero with every other op. Any numbers may stand here; the calls judge them.
+    pub second: u32,
     pub edit: u64,
+}
+
+impl Command {
+    pub const NO_OP: Command = Command { op: Op::NoOp, key: 0, second: 0, edit: 0 };
+
+    pub const fn read(key: u32, edit: u64) -> Command {
+        Command { op: Op::Read, key, second: 0, edit }
+    }
+
+    pub const fn write(key: u32, edit: u64) -> Command {
+        Command { op: Op::Write, key, second: 0, edit }
+    }
+
+    /// Of the two keys the first must be the smaller.
+    pub const fn rewire(key: u32, second: u32, edit: u64) -> Command {
+        Command { op: Op::Rewire, key, second, edit }
+    }
 }
 
 #[derive(Clone, Copy, Debug, PartialEq, Eq)]
@@ -45,19 +66,27 @@ pub struct Message {
     pub body: Body,
 }
 
-/// Kind, from, to, owner, number, ballot, voted or joined, status, op, key, edit, seven dependencies.
-pub type Fields = [u64; 18];
+/// Kind, from, to, owner, number, ballot, voted or joined, status, op, key, second key, edit, seven dependencies.
+pub type Fields = [u64; 19];
+
+/// Where the dependencies begin among them.
+const ENTRIES: usize = 12;
 
 impl Body {
-    /// The paper's number of the kind.
+    /// The paper's number of the kind: a body with a rewire in it has one of its own.
     pub fn kind(&self) -> u8 {
+        let rewire = |command: &Command| command.op == Op::Rewire;
         match self {
+            Body::PreAccept { command, .. } if rewire(command) => 9,
             Body::PreAccept { .. } => 1,
             Body::PreAcceptOk { .. } => 2,
+            Body::Accept { command, .. } if rewire(command) => 10,
             Body::Accept { .. } => 3,
             Body::AcceptOk => 4,
+            Body::Commit { command, .. } if rewire(command) => 11,
             Body::Commit { .. } => 5,
             Body::Prepare => 6,
+            Body::PrepareOk { command, .. } if rewire(command) => 12,
             Body::PrepareOk { .. } => 7,
             Body::Nack { .. } => 8,
         }
@@ -67,13 +96,13 @@ impl Body {
         let deps = read_deps(f)?;
         let command = || read_command(f);
         Some(match f[0] {
-            1 => Body::PreAccept { command: command()?, deps },
+            1 | 9 => Body::PreAccept { command: command()?, deps },
             2 => Body::PreAcceptOk { deps },
-            3 => Body::Accept { command: command()?, deps },
+            3 | 10 => Body::Accept { command: command()?, deps },
             4 => Body::AcceptOk,
-            5 => Body::Commit { command: command()?, deps },
+            5 | 11 => Body::Commit { command: command()?, deps },
             6 => Body::Prepare,
-            7 => Body::PrepareOk {
+            7 | 12 => Body::PrepareOk {
                 voted: f[6].try_into().ok()?,
                 status: f[7].try_into().ok()?,
                 command: command()?,
@@ -98,7 +127,7 @@ impl Message {
     }
 
     pub fn fields(&self) -> Fields {
-        let mut f = [0; 18];
+        let mut f = [0; 19];
         f[0] = self.body.kind() as u64;
         f[1] = self.from as u64;
         f[2] = self.to as u64;
@@ -142,22 +171,26 @@ impl Message {
 fn put_command(f: &mut Fields, command: &Command) {
     f[8] = command.op as u64;
     f[9] = command.key as u64;
-    f[10] = command.edit;
+    f[10] = command.second as u64;
+    f[11] = command.edit;
 }
 
 fn put_deps(f: &mut Fields, deps: &Deps) {
-    for (place, &entry) in f[11..].iter_mut().zip(deps) {
+    for (place, &entry) in f[ENTRIES..].iter_mut().zip(deps) {
         *place = entry as u64;
     }
 }
 
+/// Kinds above 8 carry a rewire and nothing else, and no other kind carries one or a second key.
 fn read_command(f: &Fields) -> Option<Command> {
-    Some(Command { op: Op::from_number(f[8])?, key: f[9].try_into().ok()?, edit: f[10] })
+    let op = Op::from_number(f[8]).filter(|&op| (op == Op::Rewire) == (f[0] > 8))?;
+    let second = if op == Op::Rewire { f[10].try_into().ok()? } else { 0 };
+    Some(Command { op, key: f[9].try_into().ok()?, second, edit: f[11] })
 }
 
 fn read_deps(f: &Fields) -> Option<Deps> {
     let mut deps = [0; 7];
-    for (entry, &number) in deps.iter_mut().zip(&f[11..]) {
+    for (entry, &number) in deps.iter_mut().zip(&f[ENTRIES..]) {
         *entry = number.try_into().ok()?;
     }
     Some(deps)

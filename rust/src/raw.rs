@@ -58,6 +58,7 @@ extern "C" {
         out_len: usize,
         op: usize,
         key: u32,
+        second: u32,
         edit: u64,
         values: *mut [usize; 4],
     ) -> u32;
@@ -109,7 +110,7 @@ extern "C" {
         c: usize,
         owner: usize,
         number: usize,
-        values: *mut [u64; 4],
+        values: *mut [u64; 5],
     ) -> u32;
 
     pub fn pumxaqert_hand_out(
@@ -129,7 +130,7 @@ extern "C" {
         c: usize,
         bytes: *const u8,
         bytes_len: usize,
-        fields: *mut [u64; 18],
+        fields: *mut [u64; 19],
         offset: *mut usize,
     ) -> u32;
 
@@ -139,7 +140,7 @@ extern "C" {
         c: usize,
         out: *mut u8,
         out_len: usize,
-        fields: *const [u64; 18],
+        fields: *const [u64; 19],
         written: *mut usize,
         offset: *mut usize,
     ) -> u32;

@@ -9,7 +9,7 @@ pub enum Refusal {
     Setup,
     /// Room for outgoing bytes is under 256, a stream's buffer under 64, or an entry's room shorter than the entry.
     Room,
-    /// A request's op is not a read or a write.
+    /// A request is no read, write or rewire, or has keys that its op does not take: a rewire's rise, others have one.
     Op,
     /// A request finds no blank own record.
     NoBlank,
@@ -113,7 +113,7 @@ impl Refusal {
         match self {
             Refusal::Setup => "a wrong setup, copy or table length",
             Refusal::Room => "room for outgoing bytes, a stream or an entry is too small",
-            Refusal::Op => "the op of a request is not a read or a write",
+            Refusal::Op => "a request of another op, or with keys that its op does not take",
             Refusal::NoBlank => "no blank own record is left",
             Refusal::Instance => "no such instance",
             Refusal::BallotsUsedUp => "no ballot is left for a recovery",
@@ -160,6 +160,8 @@ pub enum Field {
     Status,
     Op,
     Key,
+    /// The second key, of a rewire; it is above the first.
+    Second,
     Edit,
     Dependency(u8),
     Joined,
@@ -169,20 +171,23 @@ impl Field {
     /// The field that begins at this byte of a message of this kind.
     pub fn at(kind: u8, offset: usize) -> Option<Field> {
         Some(match (kind, offset) {
-            (1..=8, 1) => Field::From,
-            (1..=8, 2) => Field::To,
-            (1..=8, 3) => Field::Owner,
-            (1..=8, 4) => Field::Number,
-            (1..=8, 6) => Field::Ballot,
-            (1 | 3 | 5, 10) | (7, 15) => Field::Op,
-            (1 | 3 | 5, 11) | (7, 16) => Field::Key,
-            (1 | 3 | 5, 15) | (7, 20) => Field::Edit,
-            (7, 10) => Field::Voted,
-            (7, 14) => Field::Status,
+            (1..=12, 1) => Field::From,
+            (1..=12, 2) => Field::To,
+            (1..=12, 3) => Field::Owner,
+            (1..=12, 4) => Field::Number,
+            (1..=12, 6) => Field::Ballot,
+            (1 | 3 | 5 | 9..=11, 10) | (7 | 12, 15) => Field::Op,
+            (1 | 3 | 5 | 9..=11, 11) | (7 | 12, 16) => Field::Key,
+            (9..=11, 15) | (12, 20) => Field::Second,
+            (1 | 3 | 5, 15) | (7, 20) | (9..=11, 19) | (12, 24) => Field::Edit,
+            (7 | 12, 10) => Field::Voted,
+            (7 | 12, 14) => Field::Status,
             (8, 10) => Field::Joined,
             (1 | 3 | 5, 23..37) => return dependency(offset - 23),
+            (9..=11, 27..41) => return dependency(offset - 27),
             (2, 10..24) => return dependency(offset - 10),
             (7, 28..42) => return dependency(offset - 28),
+            (12, 32..46) => return dependency(offset - 32),
             _ => return None,
         })
     }
@@ -205,6 +210,7 @@ impl fmt::Display for Field {
             Field::Status => "status",
             Field::Op => "op",
             Field::Key => "key",
+            Field::Second => "second key",
             Field::Edit => "edit",
             Field::Joined => "joined",
             Field::Dependency(q) => return write!(f, "dependency {q}"),

@@ -2,7 +2,8 @@
 
 use pumxaqert::*;
 
-const EDIT: Command = Command { op: Op::Write, key: 7, edit: 100 };
+const EDIT: Command = Command::write(7, 100);
+const REWIRE: Command = Command::rewire(7, 8, 100);
 const FIRST: Instance = Instance { owner: 0, number: 1 };
 
 fn blank(setup: Setup) -> Vec<u8> {
@@ -63,6 +64,32 @@ fn request_and_commit() {
     assert_eq!(s.judge(&table), Ok(()));
 }
 
+/// A rewire in its own kinds: PreAccept 9, Commit 11, and the second key in what is settled. Then a write of either key
+/// depends on it.
+#[test]
+fn rewire() {
+    let s = setup(0);
+    let mut table = blank(s);
+    let mut out = [0xa5; 300];
+    let event = s.request(&mut table, &mut out, REWIRE).unwrap();
+    assert_eq!(event, Event { instance: FIRST, written: 82 });
+    let mut first = [0; 41];
+    first[..20].copy_from_slice(&[9, 0, 1, 0, 1, 0, 0, 0, 0, 0, 3, 7, 0, 0, 0, 8, 0, 0, 0, 100]);
+    assert_eq!(out[..41], first);
+    let body = Body::PreAccept { command: REWIRE, deps: [0; 7] };
+    let message = Message { from: 0, to: 1, owner: 0, number: 1, ballot: 0, body };
+    assert_eq!(setup(1).read_message(&out[..41]), Ok(message));
+    let (_, sent) = hear(s, &mut table, &ok(1, [0; 3])).unwrap();
+    assert_eq!((sent.len(), sent[0]), (82, 11));
+    assert_eq!(s.settled(&table, FIRST), Ok(Settling::Settled(REWIRE)));
+    for (key, entry) in [(7, 1), (8, 1), (0, 0)] {
+        let mut table = table.clone();
+        let event = s.request(&mut table, &mut out, Command::write(key, 5)).unwrap();
+        let sent = setup(1).read_message(&out[..event.written / 2]).unwrap();
+        assert!(matches!(sent.body, Body::PreAccept { deps, .. } if deps[0] == entry));
+    }
+}
+
 /// W4: answers that differ go to accepting with their join.
 #[test]
 fn slow_path() {
@@ -99,8 +126,11 @@ fn all_refusals() {
     assert_eq!(Setup { n: 4, ..s }.blank(&mut table), Err(Refusal::Setup));
     assert_eq!(s.request(&mut table, &mut out[..255], EDIT), Err(Refusal::Room));
     assert_eq!(s.message(&mut table, &mut out, &[]), Err(Refusal::UnknownKind));
-    let no_op = Command { op: Op::NoOp, key: 0, edit: 0 };
-    assert_eq!(s.request(&mut table, &mut out, no_op), Err(Refusal::Op));
+    let second = Command { second: 8, ..EDIT };
+    let keys = [(7, 7), (8, 7), (0, 0)].map(|(key, second)| Command { key, second, ..REWIRE });
+    for command in [Command::NO_OP, second].into_iter().chain(keys) {
+        assert_eq!(s.request(&mut table, &mut out, command), Err(Refusal::Op));
+    }
     assert_eq!(
         s.recover(&mut table, &mut out, Instance { owner: 3, number: 1 }),
         Err(Refusal::Instance)
@@ -156,6 +186,7 @@ fn refusal_numbers() {
 #[test]
 fn fields_by_their_offsets() {
     let command = "op key . . . edit . . . . . . .";
+    let rewire = "op key . . . secondkey . . . edit . . . . . . .";
     let deps: String = (0..7).map(|q| format!(" dependency{q} .")).collect();
     for kind in 0..=255 {
         let body = match kind {
@@ -164,6 +195,8 @@ fn fields_by_their_offsets() {
             4 | 6 => String::new(),
             7 => format!("voted . . . status {command}{deps}"),
             8 => "joined . . .".into(),
+            9..=11 => format!("{rewire}{deps}"),
+            12 => format!("voted . . . status {rewire}{deps}"),
             _ => {
                 assert!((0..64).all(|offset| Field::at(kind, offset).is_none()));
                 continue;
@@ -197,7 +230,8 @@ fn changed(at: usize, byte: u8) -> Refusal {
 
 #[test]
 fn reasons_of_the_reader() {
-    assert_eq!(changed(0, 9), Refusal::UnknownKind);
+    assert_eq!(changed(0, 13), Refusal::UnknownKind);
+    assert_eq!(changed(0, 9), Refusal::WrongLength);
     assert_eq!(changed(0, 1), Refusal::WrongLength);
     assert_eq!(changed(2, 1), Refusal::WrongWay);
     assert_eq!(changed(1, 0), Refusal::WrongWay);
@@ -239,6 +273,16 @@ fn reasons_of_the_writer() {
     assert_eq!(refused(vote(8, 1, EDIT)), wrong(10, Field::Voted));
     assert_eq!(refused(vote(0, 4, EDIT)), wrong(14, Field::Status));
     assert_eq!(refused(vote(0, 0, EDIT)), wrong(15, Field::Op));
+    assert_eq!(refused(vote(0, 0, REWIRE)), wrong(15, Field::Op));
+    let keys = [(9, 9), (9, 8), (0, 0)].map(|(key, second)| Command { key, second, ..REWIRE });
+    for command in keys {
+        assert_eq!(refused(vote(0, 1, command)), wrong(20, Field::Second));
+        assert_eq!(refused(Message { body: no_op(command), ..good }), wrong(15, Field::Second));
+    }
+    for op in [Op::NoOp, Op::Read, Op::Write] {
+        let command = Command { op, ..REWIRE };
+        assert_eq!(refused(Message { body: no_op(command), to: 3, ..good }), Refusal::WrongLength);
+    }
     let nack = Message { ballot: 8, body: Body::Nack { joined: 8 }, ..good };
     assert_eq!(refused(nack), wrong(10, Field::Joined));
 }
@@ -256,6 +300,10 @@ fn fields() {
         Body::Prepare,
         Body::PrepareOk { voted: 10, status: 3, command: EDIT, deps },
         Body::Nack { joined: 18 },
+        Body::PreAccept { command: REWIRE, deps },
+        Body::Accept { command: REWIRE, deps },
+        Body::Commit { command: REWIRE, deps },
+        Body::PrepareOk { voted: 10, status: 3, command: REWIRE, deps },
     ];
     for (kind, body) in (1u64..).zip(bodies) {
         let m = Message { from: 1, to: 2, owner: 3, number: 4, ballot: 5, body };
@@ -272,5 +320,13 @@ fn fields() {
         );
     }
     let m = Message { from: 1, to: 2, owner: 3, number: 4, ballot: 5, body: bodies[6] };
-    assert_eq!(m.fields()[6..], [10, 3, 2, 7, 100, 1, 2, 3, 4, 5, 6, 7]);
+    assert_eq!(m.fields()[6..], [10, 3, 2, 7, 0, 100, 1, 2, 3, 4, 5, 6, 7]);
+    let m = Message { body: bodies[11], ..m };
+    assert_eq!(m.fields()[6..], [10, 3, 3, 7, 8, 100, 1, 2, 3, 4, 5, 6, 7]);
+    // A rewire in a short kind, and another op in a long one.
+    for (kind, op) in [(1, 3), (7, 3), (9, 2), (12, 0), (9, 4)] {
+        let mut f = m.fields();
+        (f[0], f[8]) = (kind, op);
+        assert_eq!(Message::from_fields(&f), None);
+    }
 }

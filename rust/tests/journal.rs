@@ -32,7 +32,7 @@ fn run() -> (Vec<Vec<u8>>, Vec<Vec<u8>>) {
     for (at, deps) in [(FIRST, [0, 1, 0]), (SECOND, [1, 0, 0])] {
         let mut all = [0; 7];
         all[..3].copy_from_slice(&deps);
-        let command = Command { op: Op::Write, key: 7, edit: 100 + at.owner as u64 };
+        let command = Command::write(7, 100 + at.owner as u64);
         let body = Body::Commit { command, deps: all };
         let owner = at.owner as u8;
         let message = Message { from: owner, to: 2, owner, number: 1, ballot: 0, body };

@@ -8,7 +8,7 @@ fn setup(copy: usize) -> Setup {
 
 /// A message of each kind to copy 1, and all of them one after another.
 fn written() -> (Vec<Message>, Vec<u8>) {
-    let command = Command { op: Op::Write, key: 7, edit: 100 };
+    let (command, rewire) = (Command::write(7, 100), Command::rewire(7, 8, 100));
     let deps = [1, 0, 2, 0, 0, 0, 0];
     let bodies = [
         Body::PreAccept { command, deps },
@@ -19,10 +19,14 @@ fn written() -> (Vec<Message>, Vec<u8>) {
         Body::Prepare,
         Body::PrepareOk { voted: 0, status: 1, command, deps },
         Body::Nack { joined: 10 },
+        Body::PreAccept { command: rewire, deps },
+        Body::Accept { command: rewire, deps },
+        Body::Commit { command: rewire, deps },
+        Body::PrepareOk { voted: 0, status: 1, command: rewire, deps },
     ];
     let (mut messages, mut all) = (Vec::new(), Vec::new());
     for body in bodies {
-        let led_by_sender = matches!(body.kind(), 1 | 3 | 5 | 6);
+        let led_by_sender = matches!(body.kind(), 1 | 3 | 5 | 6 | 9..=11);
         let ballot = if led_by_sender { 8 } else { 9 };
         let message = Message { from: 0, to: 1, owner: 2, number: 1, ballot, body };
         let mut out = [0; ROOM];
@@ -96,7 +100,7 @@ fn stops() {
     all[61] = 0;
     let (messages, rest) = read(&mut [0; 64], &[&all]);
     assert_eq!((messages.len(), rest), (2, Err(Stop { offset: 61 })));
-    let mut buf = [0; 300];
+    let mut buf = [0; 400];
     let mut stream = Stream::begin(&mut buf).unwrap();
     assert_eq!(stream.take(&all), Ok(all.len()));
     assert_eq!(stream.stop(), None, "there are messages before it");
@@ -137,6 +141,8 @@ fn kept_places() {
     assert_eq!(refused(37, 36, 37), Some(Refusal::Unsound));
     assert_eq!(refused(36, 64, 36), Some(Refusal::Unsound));
     assert_eq!(refused(37, 64, 38), Some(Refusal::Unsound));
+    assert_eq!(refused(41, 64, 41), None, "a PreAccept of a rewire");
+    assert_eq!(refused(46, 64, 46), None, "a PrepareOK of one");
     assert_eq!(refused(0, 1, usize::MAX), Some(Refusal::Unsound));
     assert_eq!(refused(0, 0, usize::MAX), None);
 }

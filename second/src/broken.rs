@@ -3,10 +3,11 @@
 
 use crate::fields::{self, Fields, OFFSETS};
 use crate::message::{
-    encode, Message, ACCEPT, COMMIT, LONGEST, NACK, PREPARE, PREPARE_OK, PRE_ACCEPT, PRE_ACCEPT_OK,
+    encode, is_long, Message, ACCEPT, COMMIT, LAST_KIND, LONGEST, NACK, PREPARE, PREPARE_OK,
+    PRE_ACCEPT, PRE_ACCEPT_OK,
 };
 use crate::refusal::{Refusal, UNKNOWN_KIND, WRONG_LEAD, WRONG_LENGTH, WRONG_WAY};
-use crate::rules::Deps;
+use crate::rules::{Deps, REWIRE, WRITE};
 
 /// A broken message to one copy.
 pub struct Case<'a> {
@@ -18,7 +19,7 @@ pub struct Case<'a> {
     pub reason: Refusal,
 }
 
-// Places among the eighteen numbers.
+// Places among the nineteen numbers.
 const KIND: usize = 0;
 const FROM: usize = 1;
 const TO: usize = 2;
@@ -29,10 +30,11 @@ const VOTED_OR_JOINED: usize = 6;
 const STATUS: usize = 7;
 const OP: usize = 8;
 const KEY: usize = 9;
-const EDIT: usize = 10;
-const ENTRIES: usize = 11;
+const SECOND: usize = 10;
+const EDIT: usize = 11;
+const ENTRIES: usize = 12;
 /// After them all, the length: 0 is a byte too few, 1 is right, 2 a byte too many.
-const LENGTH: usize = 18;
+const LENGTH: usize = fields::COUNT;
 
 /// A number that breaks one clause, and what it is answered.
 #[derive(Clone, Copy)]
@@ -50,12 +52,25 @@ struct Base<'a> {
     valid: &'a Message,
 }
 
+/// Of a known kind.
+pub fn body_of(kind: u8) -> u8 {
+    Message { kind, ..Message::default() }.body()
+}
+
 pub fn has_command(kind: u8) -> bool {
-    matches!(kind, PRE_ACCEPT | ACCEPT | COMMIT | PREPARE_OK)
+    matches!(body_of(kind), PRE_ACCEPT | ACCEPT | COMMIT | PREPARE_OK)
 }
 
 pub fn has_deps(kind: u8) -> bool {
     has_command(kind) || kind == PRE_ACCEPT_OK
+}
+
+/// Whether a message of this kind can have this op: a short one any but a rewire, a long one nothing else.
+pub fn takes(kind: u8, op: u64) -> bool {
+    match is_long(kind) {
+        true => op == REWIRE as u64,
+        false => op <= WRITE as u64,
+    }
 }
 
 /// One in each entry that a copy has.
@@ -67,7 +82,8 @@ pub fn ones(n: usize) -> Deps {
 /// kind allows it.
 pub fn valid(n: usize, copy: usize, kind: u8, round: u32) -> Message {
     let from = (copy + 1) % n;
-    let led_by_sender = matches!(kind, PRE_ACCEPT | ACCEPT | COMMIT | PREPARE);
+    let body = body_of(kind);
+    let led_by_sender = matches!(body, PRE_ACCEPT | ACCEPT | COMMIT | PREPARE);
     let lead = if led_by_sender { from } else { copy };
     let ballot = if round == 0 { 0 } else { 8 * round + lead as u32 };
     let owner = if round == 0 { lead } else { (copy + 2) % n };
@@ -81,12 +97,15 @@ pub fn valid(n: usize, copy: usize, kind: u8, round: u32) -> Message {
         ..Message::default()
     };
     if has_command(kind) {
-        (m.op, m.key, m.edit) = (2, 0x0403_0201, 0x0c0b_0a09_0807_0605);
+        (m.op, m.key, m.edit) = (WRITE, 0x0403_0201, 0x0c0b_0a09_0807_0605);
+    }
+    if is_long(kind) {
+        (m.op, m.second) = (REWIRE, 0x100f_0e0d);
     }
     if has_deps(kind) {
         m.deps = ones(n);
     }
-    match kind {
+    match body {
         PREPARE_OK => (m.voted, m.status) = (ballot - 8, 3),
         NACK => m.joined = ballot + 8 - ballot % 8,
         _ => {}
@@ -94,9 +113,9 @@ pub fn valid(n: usize, copy: usize, kind: u8, round: u32) -> Message {
     m
 }
 
-/// The same message with a no-op in it.
+/// The same message with a no-op in it, which makes no valid one of a long kind.
 pub fn no_op(m: &Message) -> Message {
-    Message { op: 0, key: 0, edit: 0, ..*m }
+    Message { op: 0, key: 0, second: 0, edit: 0, ..*m }
 }
 
 /// A PrepareOK that tells of nothing.
@@ -107,16 +126,19 @@ pub fn nothing(m: &Message) -> Message {
 /// All broken messages to this copy.
 pub fn each(n: usize, s: usize, copy: usize, told: &mut impl FnMut(&Case)) {
     told(&Case { bytes: &[], fields: None, reason: UNKNOWN_KIND });
-    for kind in PRE_ACCEPT..=NACK {
+    for kind in PRE_ACCEPT..=LAST_KIND {
         let m = valid(n, copy, kind, 3);
-        of_base(&Base { n, s, copy, valid: &m }, told);
-        if has_command(kind) {
-            of_base(&Base { n, s, copy, valid: &no_op(&m) }, told);
+        let mut of = |valid: &Message| of_base(&Base { n, s, copy, valid }, told);
+        of(&m);
+        if has_command(kind) && !is_long(kind) {
+            of(&no_op(&m));
         }
-        match kind {
+        match body_of(kind) {
             PREPARE => {}
-            PREPARE_OK => of_base(&Base { n, s, copy, valid: &nothing(&m) }, told),
-            _ => of_base(&Base { n, s, copy, valid: &valid(n, copy, kind, 0) }, told),
+            // A vote at ballot 0, where status 0 leaves only the command to blame.
+            PREPARE_OK if is_long(kind) => of(&Message { voted: 0, ..m }),
+            PREPARE_OK => of(&nothing(&m)),
+            _ => of(&valid(n, copy, kind, 0)),
         }
     }
 }
@@ -151,7 +173,7 @@ impl Base<'_> {
         self.break_frame(say);
         self.break_head(say);
         self.break_way(say);
-        match self.valid.kind {
+        match self.valid.body() {
             PREPARE_OK => self.break_vote(say),
             NACK => {
                 let ballots = [7, u32::MAX as u64, self.valid.ballot as u64];
@@ -165,13 +187,16 @@ impl Base<'_> {
 
     /// The field in its place is to blame for each of these.
     fn out_of_range(&self, at: usize, values: &[u64], say: &mut dyn FnMut(Break)) {
-        let offset = OFFSETS[self.valid.kind as usize][at];
-        let reason = Refusal::wrong_field(offset as usize);
+        let reason = self.blamed(at);
         values.iter().for_each(|&value| say(Break { at, value, reason }));
     }
 
+    fn blamed(&self, at: usize) -> Refusal {
+        Refusal::wrong_field(OFFSETS[self.valid.kind as usize][at] as usize)
+    }
+
     fn break_frame(&self, say: &mut dyn FnMut(Break)) {
-        say(Break { at: KIND, value: NACK as u64 + 1, reason: UNKNOWN_KIND });
+        say(Break { at: KIND, value: LAST_KIND as u64 + 1, reason: UNKNOWN_KIND });
         for value in [0, 2] {
             say(Break { at: LENGTH, value, reason: WRONG_LENGTH });
         }
@@ -184,7 +209,7 @@ impl Base<'_> {
         }
         self.out_of_range(NUMBER, &[0, s + 1], say);
         self.out_of_range(BALLOT, &[7, 8 + n], say);
-        if matches!(self.valid.kind, PREPARE | PREPARE_OK) {
+        if matches!(self.valid.body(), PREPARE | PREPARE_OK) {
             self.out_of_range(BALLOT, &[0], say);
         }
     }
@@ -195,7 +220,7 @@ impl Base<'_> {
         let third = ((self.copy + 2) % self.n) as u64;
         say(Break { at: FROM, value: self.copy as u64, reason: WRONG_WAY });
         say(Break { at: TO, value: third, reason: WRONG_WAY });
-        if m.kind == COMMIT {
+        if m.body() == COMMIT {
             return;
         }
         say(Break { at: BALLOT, value: 24 + third, reason: WRONG_LEAD });
@@ -208,11 +233,11 @@ impl Base<'_> {
         let m = self.valid;
         self.out_of_range(VOTED_OR_JOINED, &[7, u32::MAX as u64, m.ballot as u64], say);
         self.out_of_range(STATUS, &[4], say);
-        // Between the voted ballot and status 0 it is the status that comes later.
-        let reason = Refusal::wrong_field(OFFSETS[PREPARE_OK as usize][STATUS] as usize);
+        // Between the voted ballot and status 0 it is the status that comes later, between status 0 and an op the op.
         say(match m.status {
-            0 => Break { at: VOTED_OR_JOINED, value: 8, reason },
-            _ => Break { at: STATUS, value: 0, reason },
+            0 => Break { at: VOTED_OR_JOINED, value: 8, reason: self.blamed(STATUS) },
+            _ if m.voted == 0 => Break { at: STATUS, value: 0, reason: self.blamed(OP) },
+            _ => Break { at: STATUS, value: 0, reason: self.blamed(STATUS) },
         });
     }
 
@@ -220,6 +245,9 @@ impl Base<'_> {
         let m = self.valid;
         if !has_command(m.kind) {
             return;
+        }
+        if is_long(m.kind) {
+            return self.break_rewire(say);
         }
         self.out_of_range(OP, &[3], say);
         if m.kind == PRE_ACCEPT && m.ballot == 0 {
@@ -234,12 +262,20 @@ impl Base<'_> {
         }
     }
 
+    /// Keys that do not rise, by the change of either: both together do not rise either.
+    fn break_rewire(&self, say: &mut dyn FnMut(Break)) {
+        let (key, second) = (self.valid.key as u64, self.valid.second as u64);
+        self.out_of_range(OP, &[0, 2, 4], say);
+        self.out_of_range(SECOND, &[key, 0], say);
+        say(Break { at: KEY, value: second, reason: self.blamed(SECOND) });
+    }
+
     fn break_deps(&self, say: &mut dyn FnMut(Break)) {
         let m = self.valid;
         if !has_deps(m.kind) {
             return;
         }
-        let nothing = m.kind == PREPARE_OK && m.status == 0;
+        let nothing = m.body() == PREPARE_OK && m.status == 0;
         for q in 0..m.deps.len() {
             let highest = if q < self.n && !nothing { self.s } else { 0 };
             self.out_of_range(ENTRIES + q, &[highest as u64 + 1], say);

@@ -3,11 +3,11 @@
 
 use crate::bytes::part_mut;
 use crate::message::{
-    encode, read, Message, ACCEPT, ACCEPT_OK, COMMIT, NACK, PREPARE, PREPARE_OK, PRE_ACCEPT,
-    PRE_ACCEPT_OK, ROOM,
+    encode, kind_of, read, Message, ACCEPT, ACCEPT_OK, COMMIT, NACK, PREPARE, PREPARE_OK,
+    PRE_ACCEPT, PRE_ACCEPT_OK, ROOM,
 };
 use crate::refusal::{self, Refusal};
-use crate::rules::{interfere, join, seen, Command, Deps, Interference, READ, WRITE};
+use crate::rules::{interfere, join, seen, Command, Deps, Interference, NO_OP};
 use crate::setup::{Setup, MAX_COPIES};
 use crate::table::{
     is_blank, judged, record_at, record_bytes, Record, Vote, ACCEPTED, ACCEPTING, COMMITTED, IDLE,
@@ -24,7 +24,7 @@ pub struct Event {
     pub written: usize,
 }
 
-/// A write or read requested at this copy.
+/// A read, a write or a rewire requested at this copy.
 #[allow(clippy::too_many_arguments)]
 pub fn request(
     t: &mut [u8],
@@ -34,9 +34,10 @@ pub fn request(
     out: &mut [u8],
     op: u8,
     key: u32,
+    second: u32,
     edit: u64,
 ) -> Result<Event, Refusal> {
-    request_by(interfere, t, n, s, copy, out, op, key, edit)
+    request_by(interfere, t, n, s, copy, out, op, key, second, edit)
 }
 
 /// The same at a copy that goes by this interference.
@@ -50,16 +51,18 @@ pub fn request_by(
     out: &mut [u8],
     op: u8,
     key: u32,
+    second: u32,
     edit: u64,
 ) -> Result<Event, Refusal> {
     let setup = entry(t, n, s, copy, out)?;
-    if !matches!(op, READ | WRITE) {
+    let command = Command { op, key, second, edit };
+    if op == NO_OP || !command.in_range() {
         return Err(refusal::OP);
     }
     let number =
         (1..=s).find(|&j| is_blank(record_bytes(t, &setup, copy, j))).ok_or(refusal::NO_BLANK)?;
     let mut step = Step::open(setup, t, out, copy, number);
-    step.pre_accept_afresh(&Command { op, key, edit }, by);
+    step.pre_accept_afresh(&command, by);
     Ok(step.close())
 }
 
@@ -88,7 +91,7 @@ pub fn message_by(
     let setup = entry(t, n, s, copy, out)?;
     let m = read(&setup, bytes)?;
     let mut step = Step::open(setup, t, out, m.owner as usize, m.number as usize);
-    match m.kind {
+    match m.body() {
         PRE_ACCEPT => step.pre_accept(&m, by),
         PRE_ACCEPT_OK => step.pre_accept_ok(&m),
         ACCEPT => step.accept(&m),
@@ -276,7 +279,7 @@ impl<'a> Step<'a> {
         self.join_ballot(m.ballot);
         let own = self.record.own;
         let reply = Message {
-            kind: PREPARE_OK,
+            kind: kind_of(PREPARE_OK, own.command.op),
             voted: own.voted,
             status: own.status,
             ..Message::default()
@@ -474,10 +477,10 @@ impl<'a> Step<'a> {
     // What goes out.
 
     /// From this copy about this instance, at the joined ballot, with what is
-    /// stored if the kind carries it.
-    fn own_message(&self, kind: u8) -> Message {
+    /// stored if the body carries it.
+    fn own_message(&self, body: u8) -> Message {
         let bare = Message {
-            kind,
+            kind: kind_of(body, self.record.own.command.op),
             from: self.setup.copy as u8,
             owner: self.owner as u8,
             number: self.number as u16,
@@ -500,8 +503,8 @@ impl<'a> Step<'a> {
     }
 
     /// To all others outside the set, by rising destination.
-    fn tell_others(&mut self, kind: u8, set: u8) {
-        let mut m = self.own_message(kind);
+    fn tell_others(&mut self, body: u8, set: u8) {
+        let mut m = self.own_message(body);
         for q in 0..self.setup.n {
             if q != self.setup.copy && set >> q & 1 == 0 {
                 m.to = q as u8;

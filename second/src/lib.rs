@@ -13,6 +13,7 @@ pub mod events;
 pub mod fields;
 pub mod journal;
 pub mod message;
+pub mod old;
 pub mod order;
 pub mod refusal;
 pub mod rules;
@@ -24,4 +25,4 @@ pub use events::{message, message_by, nudge, recover, request, request_by, Event
 pub use message::{read_message, write_message, Message};
 pub use order::{hand_out, settled, Settled};
 pub use refusal::Refusal;
-pub use table::{blank_table, judge_table, record_part, table_len};
+pub use table::{blank_table, bring_over, judge_table, record_part, table_len};

@@ -8,12 +8,13 @@ use crate::refusal::{self, Refusal};
 use crate::rules::{read_deps, Command};
 use crate::setup::{Setup, MAX_COPIES, MAX_INSTANCES};
 use crate::table::{
-    judged, record_at, record_bytes, status_of, vote_bytes, COMMITTED, MARK_AT, RECORD_LEN,
+    judged, record_at, record_bytes, status_of, vote_bytes, COMMAND_AT, COMMITTED, DEPS_AT,
+    MARK_AT, RECORD_LEN,
 };
 
 #[derive(Clone, Copy, Debug, PartialEq, Eq)]
 pub enum Settled {
-    Command { op: u8, key: u32, edit: u64 },
+    Command { op: u8, key: u32, second: u32, edit: u64 },
     Waits { owner: usize, number: usize },
 }
 
@@ -30,7 +31,7 @@ fn raise(marks: &mut Marks, by: &Marks) {
 /// A record's dependencies. In a sound table each entry is at most 64.
 #[inline]
 fn entries(record: &[u8; RECORD_LEN]) -> Marks {
-    let deps = read_deps(part(vote_bytes(record), 18));
+    let deps = read_deps(part(vote_bytes(record), DEPS_AT));
     let mut marks = [0; 8];
     for q in 0..MAX_COPIES {
         marks[q] = deps[q] as u8;
@@ -104,9 +105,9 @@ pub fn settled(
             }
         }
     }
-    let Command { op, key, edit } =
-        Command::read(part(vote_bytes(record_bytes(t, &setup, o, j)), 5));
-    Ok(Settled::Command { op, key, edit })
+    let Command { op, key, second, edit } =
+        Command::read(part(vote_bytes(record_bytes(t, &setup, o, j)), COMMAND_AT));
+    Ok(Settled::Command { op, key, second, edit })
 }
 
 pub fn hand_out(

@@ -2,15 +2,19 @@
 
 use crate::bytes::{part_mut, u16_at, u32_at, u64_at};
 use crate::setup::{Setup, MAX_COPIES};
-use crate::table::{record_bytes, vote_bytes};
+use crate::table::{record_bytes, vote_bytes, COMMAND_AT};
 
 pub type Deps = [u16; MAX_COPIES];
 
 pub const NO_OP: u8 = 0;
 pub const READ: u8 = 1;
 pub const WRITE: u8 = 2;
+pub const REWIRE: u8 = 3;
 
-pub const COMMAND_LEN: usize = 13;
+/// A command as records have it, and as messages with a rewire do.
+pub const COMMAND_LEN: usize = 17;
+/// One whose second key is left out.
+pub const SHORT_LEN: usize = 13;
 pub const DEPS_LEN: usize = 14;
 
 /// The default is the no-op.
@@ -18,24 +22,55 @@ pub const DEPS_LEN: usize = 14;
 pub struct Command {
     pub op: u8,
     pub key: u32,
+    /// A rewire's; zero with every other op, and no key of theirs.
+    pub second: u32,
     pub edit: u64,
 }
 
 impl Command {
     #[inline]
     pub fn in_range(&self) -> bool {
-        self.op <= WRITE && (self.op != NO_OP || (self.key == 0 && self.edit == 0))
+        match self.op {
+            NO_OP => (self.key, self.second, self.edit) == (0, 0, 0),
+            READ | WRITE => self.second == 0,
+            REWIRE => self.key < self.second,
+            _ => false,
+        }
     }
 
     #[inline]
     pub fn read(bytes: &[u8; COMMAND_LEN]) -> Command {
-        Command { op: bytes[0], key: u32_at(bytes, 1), edit: u64_at(bytes, 5) }
+        let (key, second) = (u32_at(bytes, 1), u32_at(bytes, 5));
+        Command { op: bytes[0], key, second, edit: u64_at(bytes, 9) }
     }
 
     pub fn write(&self, bytes: &mut [u8; COMMAND_LEN]) {
         bytes[0] = self.op;
         *part_mut(bytes, 1) = self.key.to_le_bytes();
+        *part_mut(bytes, 5) = self.second.to_le_bytes();
+        *part_mut(bytes, 9) = self.edit.to_le_bytes();
+    }
+
+    #[inline]
+    pub fn read_short(bytes: &[u8; SHORT_LEN]) -> Command {
+        Command { op: bytes[0], key: u32_at(bytes, 1), second: 0, edit: u64_at(bytes, 5) }
+    }
+
+    pub fn write_short(&self, bytes: &mut [u8; SHORT_LEN]) {
+        bytes[0] = self.op;
+        *part_mut(bytes, 1) = self.key.to_le_bytes();
         *part_mut(bytes, 5) = self.edit.to_le_bytes();
+    }
+
+    #[inline]
+    fn writes(&self) -> bool {
+        matches!(self.op, WRITE | REWIRE)
+    }
+
+    /// Whether the object of this key is one of those that it reads or changes.
+    #[inline]
+    fn touches(&self, key: u32) -> bool {
+        (self.op != NO_OP && self.key == key) || (self.op == REWIRE && self.second == key)
     }
 }
 
@@ -74,14 +109,17 @@ impl<Rule: Fn(&Command, &Command) -> bool + Copy> Interference for Rule {}
 /// alone answer the same in any order.
 #[inline]
 pub fn interfere(a: &Command, b: &Command) -> bool {
-    same_object(a, b) && (a.op == WRITE || b.op == WRITE)
+    same_object(a, b) && (a.writes() || b.writes())
 }
 
 /// Document 01: both touch one object, which a no-op never does. Copies that go
 /// by it may work beside those that go by `interfere`.
+///
+/// A rewire shares one object with a command and another with a second one, so
+/// that two which share nothing may both share something with it.
 #[inline]
 pub fn same_object(a: &Command, b: &Command) -> bool {
-    a.op != NO_OP && b.op != NO_OP && a.key == b.key
+    (a.op != NO_OP && b.touches(a.key)) || (a.op == REWIRE && b.touches(a.second))
 }
 
 /// Instance o.j with these dependencies covers p.i.
@@ -125,7 +163,7 @@ pub fn seen(
     for p in 0..setup.n {
         for i in (1..=setup.s).rev() {
             let vote = vote_bytes(record_bytes(table, setup, p, i));
-            let other = Command::read(crate::bytes::part(vote, 5));
+            let other = Command::read(crate::bytes::part(vote, COMMAND_AT));
             if vote[4] >= 1 && by(command, &other) && (p, i) != (o, j) {
                 highest[p] = i as u16;
                 break;

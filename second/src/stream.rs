@@ -52,7 +52,7 @@ fn front(bytes: &[u8]) -> Front {
 }
 
 /// From here on every number is a sum of lengths: ten in a row are, and 10 is a length.
-const ALL_FROM: usize = 84;
+const ALL_FROM: usize = 74;
 
 /// Which numbers are sums of the lengths of messages, or of none.
 const SUMS: [bool; ALL_FROM + 10] = {

@@ -1,19 +1,24 @@
 //! The table of records in lent bytes: blank, sound, and one record's part.
 
 use crate::bytes::{part, part_mut, u32_at, zero};
+use crate::old;
 use crate::refusal::{self, Refusal};
 use crate::rules::{lead, read_deps, write_deps, Command, Deps, NO_OP};
 use crate::setup::{good_sizes, Setup, MAX_COPIES};
 
 pub const HEAD_LEN: usize = 3;
-pub const RECORD_LEN: usize = 263;
-pub const VOTE_LEN: usize = 32;
+pub const RECORD_LEN: usize = 295;
+pub const VOTE_LEN: usize = 36;
 
 const VOTE_AT: usize = 4;
-pub(crate) const MARK_AT: usize = 36;
-const PHASE_AT: usize = 37;
-const SET_AT: usize = 38;
-const REPLIES_AT: usize = 39;
+pub const MARK_AT: usize = 40;
+const PHASE_AT: usize = 41;
+const SET_AT: usize = 42;
+const REPLIES_AT: usize = 43;
+
+// Within a vote.
+pub(crate) const COMMAND_AT: usize = 5;
+pub(crate) const DEPS_AT: usize = 22;
 
 pub const NONE: u8 = 0;
 pub const PRE_ACCEPTED_ADDED: u8 = 1;
@@ -41,16 +46,16 @@ impl Vote {
         Vote {
             voted: u32_at(bytes, 0),
             status: bytes[4],
-            command: Command::read(part(bytes, 5)),
-            deps: read_deps(part(bytes, 18)),
+            command: Command::read(part(bytes, COMMAND_AT)),
+            deps: read_deps(part(bytes, DEPS_AT)),
         }
     }
 
     pub fn write(&self, bytes: &mut [u8; VOTE_LEN]) {
         *part_mut(bytes, 0) = self.voted.to_le_bytes();
         bytes[4] = self.status;
-        self.command.write(part_mut(bytes, 5));
-        write_deps(&self.deps, part_mut(bytes, 18));
+        self.command.write(part_mut(bytes, COMMAND_AT));
+        write_deps(&self.deps, part_mut(bytes, DEPS_AT));
     }
 }
 
@@ -165,6 +170,31 @@ pub fn blank_table(t: &mut [u8], n: usize, s: usize, copy: usize) -> Result<(), 
     Ok(())
 }
 
+/// Writes a table of the layout without second keys over as one of this layout: the same records, each second key zero.
+/// Refuses 1 and 11, the second for what was no sound table of the old layout; `t` then keeps its contents.
+pub fn bring_over(
+    t: &mut [u8],
+    n: usize,
+    s: usize,
+    copy: usize,
+    old: &[u8],
+) -> Result<(), Refusal> {
+    let setup = fitting(t, n, s, copy)?;
+    if old.len() != old::table_len(n, s) {
+        return Err(refusal::SETUP);
+    }
+    let records = || old::records(old).enumerate();
+    let sound = |(place, record)| sound_records(&setup, place / s, &old::brought_over(record));
+    if old[..HEAD_LEN] != [n as u8, s as u8, copy as u8] || !records().all(sound) {
+        return Err(refusal::UNSOUND);
+    }
+    t[..HEAD_LEN].copy_from_slice(&old[..HEAD_LEN]);
+    for (place, record) in records() {
+        *part_mut(t, HEAD_LEN + RECORD_LEN * place) = old::brought_over(record);
+    }
+    Ok(())
+}
+
 pub fn judge_table(t: &[u8], n: usize, s: usize, copy: usize) -> Result<(), Refusal> {
     judged(t, n, s, copy).map(|_| ())
 }
@@ -267,7 +297,7 @@ fn sound_reply(setup: &Setup, phase: u8, joined: u32, reply: &[u8; VOTE_LEN]) ->
                 && setup.are_deps(&vote.deps)
                 && (vote.status != NONE || zero(reply))
         }
-        PRE_ACCEPTING => zero::<18>(part(reply, 0)) && setup.are_deps(&vote.deps),
+        PRE_ACCEPTING => zero::<DEPS_AT>(part(reply, 0)) && setup.are_deps(&vote.deps),
         _ => zero(reply),
     }
 }

@@ -22,7 +22,7 @@ fn w1() -> Copy {
 fn w1_request() {
     let mut c = Copy::blank(3, 4, 0);
     let mut out = [0; 256];
-    let e = request(&mut c.t, 3, 4, 0, &mut out, 2, 7, 100).unwrap();
+    let e = request(&mut c.t, 3, 4, 0, &mut out, 2, 7, 0, 100).unwrap();
     assert_eq!(e, Event { owner: 0, number: 1, written: 74 });
     let mut first = hex("01 00 01 00 01 00 00 00 00 00 02 07 00 00 00 64");
     first.extend([0; 21]);
@@ -120,6 +120,7 @@ fn recovered(own: Vote, replies: [(u8, Vote); 2]) -> (Rec, Vec<Message>) {
                 status: v.status,
                 op: v.op,
                 key: v.key,
+                second: v.second,
                 edit: v.edit,
                 deps: v.deps,
                 ..Message::default()
@@ -202,6 +203,7 @@ fn w7_the_highest_voted_ballot() {
                 status: v.status,
                 op: v.op,
                 key: v.key,
+                second: v.second,
                 edit: v.edit,
                 deps: v.deps,
                 ..Message::default()
@@ -241,7 +243,7 @@ fn w10_an_uncommitted_one_is_named() {
     let mut c = w8();
     c.put(2, 1, &Rec::committed(7, &[2, 1, 0]));
     assert_eq!(c.settled(2, 1), Ok(Settled::Waits { owner: 0, number: 2 }));
-    assert_eq!(c.settled(0, 1), Ok(Settled::Command { op: 2, key: 7, edit: 1 }));
+    assert_eq!(c.settled(0, 1), Ok(Settled::Command { op: 2, key: 7, second: 0, edit: 1 }));
     assert_eq!(c.hand_out(9), [1, 257]);
 }
 
@@ -254,8 +256,8 @@ fn below_the_examples() {
     let mut c = Copy::blank(3, 4, 0);
     let before = c.clone();
     let mut out = [0xa5; 255];
-    assert_eq!(request(&mut c.t, 3, 4, 0, &mut out, 2, 7, 100), Err(refused(2)));
+    assert_eq!(request(&mut c.t, 3, 4, 0, &mut out, 2, 7, 0, 100), Err(refused(2)));
     assert_eq!((c, out), (before.clone(), [0xa5; 255]));
     let mut c = before;
-    assert!(request(&mut c.t, 3, 4, 0, &mut [0; 256], 2, 7, 100).is_ok());
+    assert!(request(&mut c.t, 3, 4, 0, &mut [0; 256], 2, 7, 0, 100).is_ok());
 }

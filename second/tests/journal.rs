@@ -6,7 +6,7 @@ use second::journal::{length_of, mark_entry, record_entry, replay};
 use second::refusal::NotReplayed;
 use second::{Message, Refusal};
 
-const RECORD_ENTRY: usize = 267;
+const RECORD_ENTRY: usize = 299;
 const MARK_ENTRY: usize = 4;
 
 type Writer = fn(&[u8], usize, usize, usize, &mut [u8], usize, usize) -> Result<usize, Refusal>;
@@ -264,11 +264,14 @@ fn marks_see_what_is_replayed() {
     expected.put(0, 1, &marked(5, &[]));
     assert_eq!(tried(&[mark(0, 1)]), (Ok(4), expected.clone()));
     assert_eq!(tried(&[mark(0, 1), mark(0, 1), mark(0, 2)]), (Ok(12), expected));
-    assert_eq!(tried(&[record(0, 1, &accepted), mark(0, 1)]), (bad(43, 267), begun.clone()));
+    assert_eq!(
+        tried(&[record(0, 1, &accepted), mark(0, 1)]),
+        (bad(43, RECORD_ENTRY), begun.clone())
+    );
     assert_eq!(tried(&[mark(2, 1), record(2, 1, &marked(5, &[]))]), (bad(43, 0), begun.clone()));
     let mut unmarked = begun.clone();
     unmarked.put(0, 2, &Rec::committed(5, &[]));
-    assert_eq!(tried(&[record(0, 2, &Rec::committed(5, &[]))]), (Ok(267), unmarked));
+    assert_eq!(tried(&[record(0, 2, &Rec::committed(5, &[]))]), (Ok(RECORD_ENTRY), unmarked));
 }
 
 /// Every byte set to every value: refused at an entry and unchanged, or as the entries say one by one.

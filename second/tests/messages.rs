@@ -5,7 +5,6 @@ use common::*;
 use second::fields::{self, Fields};
 use second::*;
 
-const LENGTHS: [usize; 9] = [0, 37, 24, 37, 10, 37, 10, 42, 14];
 const SIZES: [(usize, usize); 6] = [(3, 1), (3, 64), (5, 1), (5, 64), (7, 1), (7, 64)];
 
 /// The field that begins at this byte is to blame.
@@ -13,24 +12,42 @@ fn wrong(offset: usize) -> Refusal {
     Refusal::wrong_field(offset)
 }
 
+/// The kind with the same body and no rewire in it.
+fn body(kind: u8) -> u8 {
+    match kind {
+        9 => 1,
+        10 => 3,
+        11 => 5,
+        12 => 7,
+        _ => kind,
+    }
+}
+
+fn has_command(kind: u8) -> bool {
+    matches!(body(kind), 1 | 3 | 5 | 7)
+}
+
 /// The bytes as docs/LAYOUT.md says, written without the library.
 fn bytes_of(m: &Message) -> Vec<u8> {
     let mut b = vec![m.kind, m.from, m.to, m.owner];
     b.extend(m.number.to_le_bytes());
     b.extend(m.ballot.to_le_bytes());
-    if m.kind == 7 {
+    if body(m.kind) == 7 {
         b.extend(m.voted.to_le_bytes());
         b.push(m.status);
     }
     if m.kind == 8 {
         b.extend(m.joined.to_le_bytes());
     }
-    if matches!(m.kind, 1 | 3 | 5 | 7) {
+    if has_command(m.kind) {
         b.push(m.op);
         b.extend(m.key.to_le_bytes());
+        if m.kind > 8 {
+            b.extend(m.second.to_le_bytes());
+        }
         b.extend(m.edit.to_le_bytes());
     }
-    if matches!(m.kind, 1 | 2 | 3 | 5 | 7) {
+    if has_command(m.kind) || m.kind == 2 {
         for d in m.deps {
             b.extend(d.to_le_bytes());
         }
@@ -41,14 +58,17 @@ fn bytes_of(m: &Message) -> Vec<u8> {
 /// A valid message to copy 1 about 2.1 at a ballot of round 3.
 fn valid(kind: u8) -> Message {
     let mut m = Message { kind, from: 0, to: 1, owner: 2, number: 1, ..Message::default() };
-    m.ballot = if matches!(kind, 1 | 3 | 6) { 24 } else { 25 };
-    if matches!(kind, 1 | 3 | 5 | 7) {
+    m.ballot = if matches!(body(kind), 1 | 3 | 6) { 24 } else { 25 };
+    if has_command(kind) {
         (m.op, m.key, m.edit) = (2, 0x0403_0201, 0x0c0b_0a09_0807_0605);
     }
-    if matches!(kind, 1 | 2 | 3 | 5 | 7) {
+    if kind > 8 {
+        (m.op, m.second) = (3, 0x100f_0e0d);
+    }
+    if has_command(kind) || kind == 2 {
         m.deps = deps(&[1, 0, 1]);
     }
-    match kind {
+    match body(kind) {
         7 => (m.voted, m.status) = (18, 3),
         8 => m.joined = 26,
         _ => {}
@@ -79,7 +99,7 @@ fn check(n: usize, s: usize, m: &Message, wanted: bool) {
 
 fn each(mut f: impl FnMut(usize, usize, Message)) {
     for (n, s) in SIZES {
-        for kind in 1..=8 {
+        for kind in 1..=12 {
             f(n, s, valid(kind));
         }
     }
@@ -89,23 +109,22 @@ fn each(mut f: impl FnMut(usize, usize, Message)) {
 fn lengths_and_kinds() {
     for (n, s) in SIZES {
         for kind in 0..=255u8 {
-            let base =
-                if (1..=8).contains(&kind) { bytes_of(&valid(kind)) } else { bytes_of(&valid(7)) };
+            let known = (1..=12).contains(&kind);
+            let base = bytes_of(&valid(if known { kind } else { 12 }));
             for length in 0..=64 {
                 let mut b = base.clone();
                 b.resize(length, 0);
                 if length > 0 {
                     b[0] = kind;
                 }
-                let wanted =
-                    length > 0 && (1..=8).contains(&kind) && length == LENGTHS[kind as usize];
+                let wanted = length > 0 && known && length == LENGTHS[kind as usize];
                 assert_eq!(
                     read_message(n, s, 1, &b).is_ok(),
                     wanted,
                     "kind {kind} length {length}"
                 );
                 if !wanted {
-                    let unknown = length == 0 || !(1..=8).contains(&kind);
+                    let unknown = length == 0 || !known;
                     let reason = refused(if unknown { 31 } else { 32 });
                     assert_eq!(read_message(n, s, 1, &b), Err(reason));
                 }
@@ -116,7 +135,7 @@ fn lengths_and_kinds() {
 
 #[test]
 fn the_kind_in_the_writer() {
-    for kind in [0, 9, 10, 128, 255] {
+    for kind in [0, 13, 14, 128, 255] {
         let m = Message { kind, ..valid(4) };
         let mut out = [0xa5; 256];
         assert_eq!(write_message(3, 4, 0, &mut out, &m), Err(refused(31)));
@@ -128,7 +147,7 @@ fn the_kind_in_the_writer() {
 fn from_and_to() {
     each(|n, s, m| {
         check(n, s, &m, true);
-        let from_lead = matches!(m.kind, 1 | 3 | 6);
+        let from_lead = matches!(body(m.kind), 1 | 3 | 6);
         for from in [0, 1, 2, n as u8 - 1, n as u8, 7, 8, 255] {
             let wanted = if from_lead { from == 0 } else { from != 1 && (from as usize) < n };
             check(n, s, &Message { from, ..m }, wanted);
@@ -191,12 +210,12 @@ fn ballots() {
             for owner in 0..3u8 {
                 let leads = if ballot == 0 { owner } else { (ballot % 8) as u8 };
                 let wanted = is_ballot
-                    && (m.kind == 5 || leads == lead)
-                    && (!matches!(m.kind, 6 | 7) || ballot >= 8)
-                    && (m.kind != 7 || 8 < ballot)
+                    && (body(m.kind) == 5 || leads == lead)
+                    && (!matches!(body(m.kind), 6 | 7) || ballot >= 8)
+                    && (body(m.kind) != 7 || 8 < ballot)
                     && (m.kind != 8 || ballot < 0xffff_fffa);
                 let joined = if m.kind == 8 { 0xffff_fffa } else { 0 };
-                let voted = if m.kind == 7 { 8 } else { 0 };
+                let voted = if body(m.kind) == 7 { 8 } else { 0 };
                 check(n, s, &Message { ballot, owner, joined, voted, ..m }, wanted);
             }
         }
@@ -243,9 +262,29 @@ fn commands() {
 }
 
 #[test]
+fn rewires() {
+    let keys = [0, 1, 2, 255, 256, 257, 1 << 24, 1 << 31, u32::MAX - 1, u32::MAX];
+    each(|n, s, m| {
+        if m.kind <= 8 {
+            return;
+        }
+        for (key, second) in keys.into_iter().flat_map(|key| keys.map(|second| (key, second))) {
+            check(n, s, &Message { key, second, ..m }, key < second);
+        }
+        for edit in [0, 1, 1 << 63, u64::MAX] {
+            check(n, s, &Message { edit, ..m }, true);
+        }
+        for op in [0, 1, 2, 3, 4, 128, 255] {
+            check(n, s, &Message { op, ..m }, op == 3);
+            check(n, s, &Message { op, key: 0, second: 0, edit: 0, ..m }, false);
+        }
+    });
+}
+
+#[test]
 fn dependencies() {
     each(|n, s, m| {
-        if !matches!(m.kind, 1 | 2 | 3 | 5 | 7) {
+        if !has_command(m.kind) && m.kind != 2 {
             return;
         }
         for q in 0..7 {
@@ -304,18 +343,23 @@ fn nack_joined() {
 #[test]
 fn fields_not_carried_are_refused_by_the_writer() {
     for (n, s) in SIZES {
-        for kind in 1..=8u8 {
+        for kind in 1..=12u8 {
             let m = valid(kind);
-            let command = matches!(kind, 1 | 3 | 5 | 7);
+            let (command, vote) = (has_command(kind), body(kind) == 7);
+            let op = if kind > 8 { 3 } else { 1 };
             let all = [
-                (Message { voted: 8, ..m }, kind == 7),
-                (Message { status: 1, ..m }, kind == 7),
+                (Message { voted: 8, ..m }, vote),
+                (Message { status: 1, ..m }, vote),
                 (Message { joined: 32, ..m }, kind == 8),
-                (Message { op: 1, ..m }, command),
-                (Message { op: 1, key: 5, ..m }, command),
-                (Message { op: 1, edit: 5, ..m }, command),
+                (Message { op, ..m }, command),
+                (Message { op, key: 5, ..m }, command),
+                (Message { second: u32::MAX, ..m }, kind > 8),
+                (Message { second: 1, op: 9, deps: [9; 7], ..m }, false),
+                (Message { op, edit: 5, ..m }, command),
                 (Message { deps: deps(&[0, 0, 1]), ..m }, command || kind == 2),
             ];
+            // A rewire has a place for each of these.
+            let all = all.into_iter().filter(|(m, _)| kind <= 8 || m.op == 3);
             for (m, carried) in all {
                 let mut out = [0xa5; 256];
                 let got = write_message(n, s, 0, &mut out, &m);
@@ -379,7 +423,7 @@ fn round_trips() {
     let (mut read, mut refused) = (0, 0);
     for _ in 0..200_000 {
         let (n, s) = SIZES[random.below(6) as usize];
-        let mut b = bytes_of(&valid(1 + random.below(8) as u8));
+        let mut b = bytes_of(&valid(1 + random.below(12) as u8));
         for _ in 0..random.below(4) {
             let at = random.below(b.len() as u64) as usize;
             b[at] = if random.chance(70) { random.below(9) as u8 } else { random.next() as u8 };
@@ -416,7 +460,7 @@ fn with_entry(m: Message, q: usize, entry: u16) -> Message {
 /// Each clause about the head by itself, for every kind.
 #[test]
 fn reasons_of_the_head() {
-    for kind in 1..=8 {
+    for kind in 1..=12 {
         let m = valid(kind);
         answered(Message { from: 3, ..m }, wrong(1));
         answered(Message { to: 3, ..m }, wrong(2));
@@ -428,11 +472,11 @@ fn reasons_of_the_head() {
         answered(Message { to: 2, ..m }, refused(33));
         answered(Message { from: 1, ..m }, refused(33));
         let other_lead = Message { ballot: 26, joined: 2 * m.joined, ..m };
-        match kind {
+        match body(kind) {
             5 => assert!(read_message(3, 4, 1, &bytes_of(&other_lead)).is_ok()),
             _ => answered(other_lead, refused(34)),
         }
-        match kind {
+        match body(kind) {
             5 => {}
             6 | 7 => answered(Message { ballot: 0, owner: 1, ..m }, wrong(6)),
             _ => answered(Message { ballot: 0, owner: 2, ..m }, refused(34)),
@@ -455,7 +499,8 @@ fn reasons_of_commands_and_dependencies() {
     let no_op = Message { op: 0, key: 0, edit: 0, ..valid(1) };
     answered(Message { ballot: 0, owner: 0, ..no_op }, wrong(10));
     answered(Message { ballot: 0, owner: 0, key: 1, ..no_op }, wrong(10));
-    for (kind, at) in [(1, 23), (2, 10), (3, 23), (5, 23), (7, 28)] {
+    let first_entries = [(1, 23), (2, 10), (3, 23), (5, 23), (7, 28)];
+    for (kind, at) in first_entries.into_iter().chain([(9, 27), (10, 27), (11, 27), (12, 32)]) {
         for q in 0..7 {
             let above = if q < 3 { 5 } else { 1 };
             answered(with_entry(valid(kind), q, above), wrong(at + 2 * q));
@@ -463,6 +508,37 @@ fn reasons_of_commands_and_dependencies() {
             answered(two, wrong(at + 2 * q));
         }
     }
+}
+
+/// A rewire's op is no other; its keys rise, and the second is to blame if they do not; its edit is never wrong.
+#[test]
+fn reasons_of_rewires() {
+    for (kind, at) in [(9, 10), (10, 10), (11, 10), (12, 15)] {
+        let m = valid(kind);
+        for op in [0, 1, 2, 4, 255] {
+            answered(Message { op, ..m }, wrong(at));
+            answered(Message { op, key: 9, second: 9, ..m }, wrong(at));
+            answered(Message { op, key: 0, second: 0, edit: 0, ..m }, wrong(at));
+        }
+        answered(Message { second: m.key, ..m }, wrong(at + 5));
+        answered(Message { second: m.key - 1, ..m }, wrong(at + 5));
+        answered(Message { key: m.second, ..m }, wrong(at + 5));
+        answered(Message { second: 0, deps: [9; 7], ..m }, wrong(at + 5));
+        answered(Message { second: 0, to: 2, ..m }, refused(33));
+        // At ballot 0 too, where only a no-op may not stand.
+        let first = Message { ballot: 0, owner: 0, ..m };
+        match kind {
+            12 => answered(first, wrong(6)),
+            _ => assert!(read_message(3, 4, 1, &bytes_of(&first)).is_ok()),
+        }
+    }
+    // A vote for nothing has no command, and a rewire is one: the op is to blame, whatever stands there.
+    let m = Message { voted: 0, status: 0, ..valid(12) };
+    for op in [0, 1, 2, 3, 4] {
+        answered(Message { op, ..m }, wrong(15));
+        answered(Message { op, key: 0, second: 0, edit: 0, deps: [0; 7], ..m }, wrong(15));
+    }
+    answered(Message { voted: 8, ..m }, wrong(14));
 }
 
 /// The clauses that only kinds 7 and 8 have.
@@ -516,7 +592,7 @@ fn order_of_reasons() {
     assert_eq!(read_message(3, 4, 1, &b), Err(wrong(1)));
     b.push(0);
     assert_eq!(read_message(3, 4, 1, &b), Err(refused(32)));
-    b[0] = 9;
+    b[0] = 13;
     assert_eq!(read_message(3, 4, 1, &b), Err(refused(31)));
     let m = Message { from: 1, ballot: 26, ..valid(7) };
     answered(m, refused(33));
@@ -525,7 +601,7 @@ fn order_of_reasons() {
 }
 
 /// Every clause alone and every two together, beside the reasons that the generator gives; the writer answers the same
-/// of what goes to that copy, but for an op that is none.
+/// of what goes to that copy, but for an op that its kind does not take.
 #[test]
 fn pairs_of_clauses() {
     let mut count = 0;
@@ -535,7 +611,7 @@ fn pairs_of_clauses() {
                 count += 1;
                 let got = read_message(n, s, copy, case.bytes);
                 assert_eq!(got, Err(case.reason), "N={n} S={s} copy {copy} {:?}", case.bytes);
-                let Some(f) = case.fields.filter(|f| f[2] == copy as u64 && f[8] <= 2) else {
+                let Some(f) = case.fields.filter(|f| f[2] == copy as u64 && takes(f)) else {
                     return;
                 };
                 let mut out = [0xa5; 256];
@@ -547,6 +623,11 @@ fn pairs_of_clauses() {
     assert!(count > 100_000, "{count}");
 }
 
+/// The op is one of those that travel in the kind; an unknown kind has none.
+fn takes(f: &Fields) -> bool {
+    f[0] > 12 || broken::takes(f[0] as u8, f[8])
+}
+
 fn written(f: &Fields) -> Result<usize, Refusal> {
     fields::write(3, 4, 0, &mut [0; 256], f)
 }
@@ -554,11 +635,12 @@ fn written(f: &Fields) -> Result<usize, Refusal> {
 /// A number that its place cannot hold: after kind and length, before all else, the first in the order of the numbers.
 #[test]
 fn numbers_too_large() {
-    let offsets = [1, 2, 3, 4, 6, 10, 14, 15, 16, 20, 28, 30, 32, 34, 36, 38, 40];
-    let most = [255, 255, 255, 65_535, u32::MAX as u64, u32::MAX as u64, 255, 2, u32::MAX as u64];
-    let most = most.into_iter().chain([u64::MAX]).chain([65_535; 7]);
-    let whole = fields::fields(&valid(7));
-    for (at, (offset, most)) in (1..18).zip(offsets.into_iter().zip(most)) {
+    let (byte, two, four) = (255, 65_535, u32::MAX as u64);
+    let most = [byte, byte, byte, two, four, four, byte, 3, four, four, u64::MAX];
+    let most = most.into_iter().chain([two; 7]);
+    let offsets = [1, 2, 3, 4, 6, 10, 14, 15, 16, 20, 24, 32, 34, 36, 38, 40, 42, 44];
+    let whole = fields::fields(&valid(12));
+    for (at, (offset, most)) in (1..19).zip(offsets.into_iter().zip(most)) {
         let Some(above) = most.checked_add(1) else { continue };
         for value in [above, u64::MAX] {
             let mut f = whole;
@@ -566,12 +648,35 @@ fn numbers_too_large() {
             assert_eq!(written(&f), Err(wrong(offset)));
             f[1] = f[1].max(200);
             assert_eq!(written(&f), Err(wrong(offset)), "before a sender out of range");
-            f[17] = u64::MAX;
+            f[18] = u64::MAX;
             assert_eq!(written(&f), Err(wrong(offset)), "the first of two");
-            f[0] = 1;
-            assert_eq!(written(&f), Err(refused(32)), "after a number beside");
-            f[0] = 256 + 7;
+            for kind in [1, 7, 9] {
+                f[0] = kind;
+                assert_eq!(written(&f), Err(refused(32)), "after a number beside");
+            }
+            f[0] = 256 + 12;
             assert_eq!(written(&f), Err(refused(31)));
+        }
+    }
+}
+
+/// Which ops the op's place holds is up to the kind; which number of two is to blame is not.
+#[test]
+fn ops_of_kinds() {
+    for kind in [1, 3, 5, 7, 9, 10, 11, 12] {
+        let at = if body(kind) == 7 { 15 } else { 10 };
+        for op in [0, 1, 2, 3, 4, 255, 256, 256 + 3, u64::MAX] {
+            let mut f = fields::fields(&valid(kind));
+            f[8] = op;
+            let held = if kind > 8 { op == 3 } else { op <= 2 };
+            assert_eq!(written(&f) != Err(wrong(at)), held, "kind {kind} op {op}");
+            f[1] = 200;
+            assert_eq!(written(&f), Err(wrong(if held { 1 } else { at })));
+            f[10] = 1;
+            let beside = Err(if kind > 8 { wrong(if held { 1 } else { at }) } else { refused(32) });
+            assert_eq!(written(&f), beside);
+            f[5] = u64::MAX;
+            assert_eq!(written(&f), if kind > 8 { Err(wrong(6)) } else { Err(refused(32)) });
         }
     }
 }

@@ -39,8 +39,8 @@ fn settled_by_words(c: &Copy, x: Instance) -> Settled {
             return Settled::Waits { owner, number };
         }
     }
-    let Vote { op, key, edit, .. } = c.get(x.0, x.1).own;
-    Settled::Command { op, key, edit }
+    let Vote { op, key, second, edit, .. } = c.get(x.0, x.1).own;
+    Settled::Command { op, key, second, edit }
 }
 
 fn hand_out_by_words(c: &mut Copy, room: usize) -> Vec<u16> {
@@ -84,9 +84,11 @@ fn random_table(random: &mut Random, n: usize, s: usize) -> Copy {
                     _ => near as u16,
                 };
             }
-            let op = random.below(3) as u8;
-            let (key, edit) = if op == 0 { (0, 0) } else { (random.next() as u32, random.next()) };
-            let own = Vote { voted: 0, status, op, key, edit, deps: d };
+            let op = random.below(4) as u8;
+            let (key, edit) =
+                if op == 0 { (0, 0) } else { (random.next() as u32 / 2, random.next()) };
+            let second = if op == 3 { key + 1 + random.below(9) as u32 } else { 0 };
+            let own = Vote { voted: 0, status, op, key, second, edit, deps: d };
             let mark = (status == 4 && random.chance(marks)) as u8;
             c.put(o, j, &Rec { own, mark, ..Rec::default() });
             if random.chance(uncommitted / 4) {

@@ -19,13 +19,14 @@ fn some_vote(random: &mut Random, n: usize, s: usize, voted: u32, status: u8) ->
     if status == 0 {
         return Vote::default();
     }
-    let op = random.below(3) as u8;
+    let op = random.below(4) as u8;
     let (key, edit) = if op == 0 { (0, 0) } else { (random.below(3) as u32, random.below(9)) };
+    let second = if op == 3 { key + 1 + random.below(2) as u32 } else { 0 };
     let mut d = [0; 7];
     for entry in d.iter_mut().take(n) {
         *entry = if random.chance(50) { 0 } else { random.below(s as u64 + 1) as u16 };
     }
-    Vote { voted, status, op, key, edit, deps: d }
+    Vote { voted, status, op, key, second, edit, deps: d }
 }
 
 /// Any sound record, also such as no run reaches.
@@ -81,7 +82,7 @@ fn some_message(random: &mut Random, c: &Copy) -> Option<Message> {
     let j = 1 + random.below(s as u64) as usize;
     let r = c.get(o, j);
     let mut m = Message {
-        kind: 1 + random.below(8) as u8,
+        kind: 1 + random.below(12) as u8,
         from: random.below(n as u64) as u8,
         to: c.copy as u8,
         owner: o as u8,
@@ -92,13 +93,14 @@ fn some_message(random: &mut Random, c: &Copy) -> Option<Message> {
     let status = random.below(4) as u8;
     let voted = ballot(random, n, m.ballot);
     let v = if random.chance(30) { r.own } else { some_vote(random, n, s, voted, status) };
-    if matches!(m.kind, 1 | 3 | 5 | 7) {
-        (m.op, m.key, m.edit) = (v.op, v.key, v.edit);
+    let with_command = matches!(m.kind, 1 | 3 | 5 | 7 | 9..);
+    if with_command {
+        (m.op, m.key, m.second, m.edit) = (v.op, v.key, v.second, v.edit);
     }
-    if matches!(m.kind, 1 | 2 | 3 | 5 | 7) {
+    if with_command || m.kind == 2 {
         m.deps = v.deps;
     }
-    if m.kind == 7 {
+    if matches!(m.kind, 7 | 12) {
         (m.voted, m.status) = (v.voted, v.status);
     }
     if m.kind == 8 {
@@ -152,7 +154,7 @@ fn some_call(random: &mut Random, c: &mut Copy) {
 #[test]
 fn random_tables() {
     let mut random = Random(4);
-    let mut taken = [0; 9];
+    let mut taken = [0; 13];
     for _ in 0..20_000 {
         let mut c = some_copy(&mut random);
         for _ in 0..10 {
@@ -160,7 +162,7 @@ fn random_tables() {
                 let before = c.clone();
                 match c.message(&m) {
                     Ok(_) => taken[m.kind as usize] += (c != before) as u32,
-                    Err(r) => assert_eq!((r, m.kind), (refused(10), 5)),
+                    Err(r) => assert!(r == refused(10) && matches!(m.kind, 5 | 11)),
                 }
             }
             some_call(&mut random, &mut c);
@@ -175,7 +177,11 @@ fn some_event(random: &mut Random, copies: &mut [Copy], flying: &mut Vec<Message
     let q = random.below(n as u64) as usize;
     let (o, j) = (random.below(n as u64) as usize, 1 + random.below(s as u64) as usize);
     let sent = match random.below(20) {
-        0 | 1 => copies[q].request(1 + random.below(2) as u8, random.below(2) as u32, 1),
+        0 => copies[q].request(1 + random.below(2) as u8, random.below(3) as u32, 1),
+        1 => {
+            let key = random.below(2) as u32;
+            copies[q].rewire(key, key + 1 + random.below(2) as u32, 1)
+        }
         2 if random.chance(30) => copies[q].recover(o, j),
         3 => copies[q].nudge(o, j),
         _ if flying.is_empty() => return Vec::new(),
@@ -200,7 +206,7 @@ fn agreed(copies: &[Copy]) -> usize {
         for j in 1..=copies[0].s {
             let held = |c: &Copy| c.get(o, j).own;
             let all: Vec<_> = copies.iter().map(held).filter(|v| v.status == 4).collect();
-            let chosen = |v: &Vote| (v.op, v.key, v.edit, v.deps);
+            let chosen = |v: &Vote| (v.op, v.key, v.second, v.edit, v.deps);
             assert!(all.iter().all(|v| chosen(v) == chosen(&all[0])), "{o}.{j}");
             committed += !all.is_empty() as usize;
         }

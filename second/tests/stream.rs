@@ -5,9 +5,6 @@ mod common;
 use common::*;
 use second::stream::{begin, next, take, Next, Place, Stream, Took, Uncut, LEAST};
 
-/// From docs/LAYOUT.md; kind 0 is none.
-const LENGTHS: [usize; 9] = [0, 37, 24, 37, 10, 37, 10, 42, 14];
-
 fn message(kind: u8, fill: u8) -> Vec<u8> {
     let mut bytes = vec![fill; LENGTHS[kind as usize]];
     bytes[0] = kind;
@@ -15,7 +12,7 @@ fn message(kind: u8, fill: u8) -> Vec<u8> {
 }
 
 fn all_kinds() -> Vec<u8> {
-    (1..=8).flat_map(|kind| message(kind, 0x90 + kind)).collect()
+    (1..=12).flat_map(|kind| message(kind, 0x90 + kind)).collect()
 }
 
 /// Messages, stop and rest of a stream, by the lengths alone.
@@ -68,8 +65,8 @@ fn read(room: usize, pieces: &[&[u8]]) -> (Vec<Vec<u8>>, Option<usize>, usize) {
 #[test]
 fn uncut() {
     let all = all_kinds();
-    assert_eq!(all.len(), 211);
-    for stream in [all.clone(), all[..100].to_vec(), vec![], vec![0], [&all[..], &[9, 1]].concat()]
+    assert_eq!(all.len(), 380);
+    for stream in [all.clone(), all[..100].to_vec(), vec![], vec![0], [&all[..], &[13, 1]].concat()]
     {
         let mut uncut = Uncut::of(&stream);
         let messages: Vec<Vec<u8>> = uncut.by_ref().map(<[u8]>::to_vec).collect();
@@ -81,10 +78,10 @@ fn uncut() {
 fn every_cutting() {
     let all = all_kinds();
     let expected = framed(&all);
-    assert_eq!(expected.0.len(), 8);
-    for room in [64, 65, 100, 211, 300] {
+    assert_eq!(expected.0.len(), 12);
+    for room in [64, 65, 100, 380, 400] {
         for i in 0..=all.len() {
-            for j in (i..=all.len()).step_by(3) {
+            for j in (i..=all.len()).step_by(7) {
                 assert_eq!(read(room, &[&all[..i], &all[i..j], &all[j..]]), expected, "{i} {j}");
             }
         }
@@ -101,7 +98,7 @@ fn random_cuttings() {
     for _ in 0..20_000 {
         let mut stream = Vec::new();
         for _ in 0..random.below(12) {
-            stream.extend(message(1 + random.below(8) as u8, random.next() as u8));
+            stream.extend(message(1 + random.below(12) as u8, random.next() as u8));
         }
         if random.below(2) == 0 && !stream.is_empty() {
             let at = random.below(stream.len() as u64) as usize;

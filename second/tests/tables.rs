@@ -29,7 +29,7 @@ const BAD_SETUPS: [(usize, usize, usize); 16] = [
 fn lengths() {
     for n in [3, 5, 7] {
         for s in 1..=64 {
-            assert_eq!(table_len(n, s), 3 + 263 * n * s);
+            assert_eq!(table_len(n, s), 3 + RECORD * n * s);
             for copy in 0..n {
                 let mut t = vec![0xa5; table_len(n, s)];
                 assert_eq!(blank_table(&mut t, n, s, copy), Ok(()));
@@ -59,7 +59,7 @@ fn wrong_setups() {
         assert_eq!(judge_table(&t, n, s, c), Err(refused(1)));
         assert_eq!(blank_table(&mut t, n, s, c), Err(refused(1)));
         assert_eq!(record_part(&t, n, s, c, 0, 1), (0, 0));
-        assert_eq!(request(&mut t, n, s, c, &mut out, 0, 0, 0), Err(refused(1)));
+        assert_eq!(request(&mut t, n, s, c, &mut out, 0, 0, 0, 0), Err(refused(1)));
         assert_eq!(message(&mut t, n, s, c, &mut out, &[]), Err(refused(1)));
         assert_eq!(recover(&mut t, n, s, c, &mut out, 9, 9), Err(refused(1)));
         assert_eq!(nudge(&mut t, n, s, c, &mut out, 9, 9), Err(refused(1)));
@@ -73,22 +73,22 @@ fn wrong_setups() {
 #[test]
 fn order_of_refusals() {
     let mut t = Copy::blank(3, 4, 1).t;
-    t[3 + 36] = 1;
+    t[3 + 40] = 1;
     let before = t.clone();
     let mut out = [0xa5; 255];
     let mut list = [7; 3];
-    assert_eq!(request(&mut t, 3, 4, 1, &mut out, 0, 0, 0), Err(refused(11)));
+    assert_eq!(request(&mut t, 3, 4, 1, &mut out, 0, 0, 0, 0), Err(refused(11)));
     assert_eq!(message(&mut t, 3, 4, 1, &mut out, &[]), Err(refused(11)));
     assert_eq!(recover(&mut t, 3, 4, 1, &mut out, 9, 9), Err(refused(11)));
     assert_eq!(nudge(&mut t, 3, 4, 1, &mut out, 9, 9), Err(refused(11)));
     assert_eq!(settled(&t, 3, 4, 1, 9, 9), Err(refused(11)));
     assert_eq!(hand_out(&mut t, 3, 4, 1, &mut list), Err(refused(11)));
-    assert_eq!(record_part(&t, 3, 4, 1, 2, 4), (3 + 263 * 11, 263));
+    assert_eq!(record_part(&t, 3, 4, 1, 2, 4), (3 + RECORD * 11, RECORD));
     assert_eq!((&t, list), (&before, [7; 3]));
 
     let mut t = Copy::blank(3, 4, 1).t;
     let before = t.clone();
-    assert_eq!(request(&mut t, 3, 4, 1, &mut out, 0, 0, 0), Err(refused(2)));
+    assert_eq!(request(&mut t, 3, 4, 1, &mut out, 0, 0, 0, 0), Err(refused(2)));
     assert_eq!(message(&mut t, 3, 4, 1, &mut out, &[]), Err(refused(2)));
     assert_eq!(recover(&mut t, 3, 4, 1, &mut out, 9, 9), Err(refused(2)));
     assert_eq!(nudge(&mut t, 3, 4, 1, &mut out, 9, 9), Err(refused(2)));
@@ -97,7 +97,7 @@ fn order_of_refusals() {
     let mut out = [0xa5; 256];
     assert_eq!(message(&mut t, 3, 4, 1, &mut out, &[]), Err(refused(31)));
     for op in [0, 3, 255] {
-        assert_eq!(request(&mut t, 3, 4, 1, &mut out, op, 0, 0), Err(refused(4)));
+        assert_eq!(request(&mut t, 3, 4, 1, &mut out, op, 0, 0, 0), Err(refused(4)));
     }
     for (o, j) in [(3, 1), (0, 0), (0, 5), (usize::MAX, 1), (0, usize::MAX), (256, 1), (0, 257)] {
         assert_eq!(recover(&mut t, 3, 4, 1, &mut out, o, j), Err(refused(6)));
@@ -123,8 +123,8 @@ fn parts() {
         let mut next = 3;
         for o in 0..n {
             for j in 1..=s {
-                assert_eq!(record_part(&c.t, n, s, n - 1, o, j), (next, 263));
-                next += 263;
+                assert_eq!(record_part(&c.t, n, s, n - 1, o, j), (next, RECORD));
+                next += RECORD;
             }
         }
         assert_eq!(next, c.t.len());
@@ -222,6 +222,33 @@ fn sound_ones_are_taken() {
     }
 }
 
+type Command = (u8, u32, u32, u64);
+
+/// Op, key, second key and edit, and whether a vote may be for them.
+fn commands() -> Vec<(Command, bool)> {
+    let mut all = Vec::new();
+    for op in [0, 1, 2, 3, 4, 255] {
+        for key in [0, 1, 7, 256, u32::MAX] {
+            for second in [0, 1, 8, 255, u32::MAX] {
+                for edit in [0, 1, 1 << 63] {
+                    let wanted = match op {
+                        0 => (key, second, edit) == (0, 0, 0),
+                        1 | 2 => second == 0,
+                        3 => key < second,
+                        _ => false,
+                    };
+                    all.push(((op, key, second, edit), wanted));
+                }
+            }
+        }
+    }
+    all
+}
+
+fn with(v: Vote, (op, key, second, edit): Command) -> Vote {
+    Vote { op, key, second, edit, ..v }
+}
+
 #[test]
 fn ranges() {
     for (n, s) in SIZES {
@@ -233,15 +260,9 @@ fn ranges() {
             r.own.voted = b;
             assert_eq!(is_sound(n, s, 1, 1, &r), is_ballot);
         }
-        for op in [0, 1, 2, 3, 255] {
-            for (key, edit) in [(0, 0), (1, 0), (0, 1)] {
-                let mut r = base;
-                (r.own.op, r.own.key, r.own.edit) = (op, key, edit);
-                assert_eq!(
-                    is_sound(n, s, 1, 1, &r),
-                    op <= 2 && (op != 0 || key as u64 + edit == 0)
-                );
-            }
+        for (command, wanted) in commands() {
+            let r = Rec { own: with(base.own, command), ..base };
+            assert_eq!(is_sound(n, s, 1, 1, &r), wanted, "{command:?}");
         }
         for status in 0..=255 {
             let mut r = base;
@@ -280,6 +301,8 @@ fn status_0_is_empty() {
         vote(8, 0, 0, 0, 0, &[]),
         vote(0, 0, 1, 0, 0, &[]),
         vote(0, 0, 0, 1, 0, &[]),
+        rewire(0, 0, 7, 8, 9, &[]),
+        Vote { second: 1, ..Vote::default() },
         vote(0, 0, 0, 0, 1, &[]),
         vote(0, 0, 0, 0, 0, &[1]),
         vote(0, 0, 0, 0, 0, &[0, 0, 1]),
@@ -303,7 +326,7 @@ fn phase_0_has_nothing_collected() {
                 assert!(!is_sound(n, s, 1, 1, &Rec { set: 1 << bit, ..*r }));
             }
             let bytes = r.bytes();
-            for at in 39..263 {
+            for at in REPLIES..RECORD {
                 let mut c = Copy::blank(n, s, 1);
                 let mut bytes = bytes.clone();
                 bytes[at] = 1;
@@ -366,16 +389,16 @@ fn preparing() {
             assert_eq!(is_sound(n, 4, 1, 1, &r), wanted, "N={n} set {set}");
         }
         // The own reply is the record's.
-        for at in 0..32 {
+        for at in 0..VOTE {
             let mut bytes = base.bytes();
-            bytes[39 + 32 + at] ^= 1;
+            bytes[REPLIES + VOTE + at] ^= 1;
             assert!(!is_sound(n, 4, 1, 1, &Rec::from(&bytes)));
         }
         // Places outside the set are zero.
         for q in (0..7).filter(|&q| q != 1) {
-            for at in 0..32 {
+            for at in 0..VOTE {
                 let mut bytes = base.bytes();
-                bytes[39 + 32 * q + at] = 1;
+                bytes[REPLIES + VOTE * q + at] = 1;
                 assert!(!is_sound(n, 4, 1, 1, &Rec::from(&bytes)));
             }
         }
@@ -403,12 +426,9 @@ fn collected_prepare_ok() {
         for status in 0..=255 {
             judge(Vote { status, ..v }, (1..=3).contains(&status));
         }
-        for op in [0, 1, 2, 3, 255] {
-            judge(Vote { op, ..v }, op == 1 || op == 2);
+        for (command, wanted) in commands() {
+            judge(with(v, command), wanted);
         }
-        judge(Vote { op: 0, key: 0, edit: 0, ..v }, true);
-        judge(Vote { op: 0, key: 1, edit: 0, ..v }, false);
-        judge(Vote { op: 0, key: 0, edit: 1, ..v }, false);
         for q in 0..7 {
             for d in [0, s as u16, s as u16 + 1, 256] {
                 let mut v = v;
@@ -425,6 +445,8 @@ fn collected_without_a_vote() {
         vote(8, 0, 0, 0, 0, &[]),
         vote(0, 0, 1, 0, 0, &[]),
         vote(0, 0, 0, 1, 0, &[]),
+        rewire(0, 0, 7, 8, 9, &[]),
+        Vote { second: 1, ..Vote::default() },
         vote(0, 0, 0, 0, 1, &[]),
         vote(0, 0, 0, 0, 0, &[1]),
     ] {
@@ -475,9 +497,9 @@ fn pre_accepting() {
 #[test]
 fn pre_accepting_replies() {
     for (n, s, base) in pre_accepting_records() {
-        for at in 0..18 {
+        for at in 0..22 {
             let mut bytes = base.bytes();
-            bytes[39 + 64 + at] = 1;
+            bytes[REPLIES + 2 * VOTE + at] = 1;
             assert!(!is_sound(n, s, 1, 1, &Rec::from(&bytes)));
         }
         for q in 0..7 {
@@ -513,7 +535,7 @@ fn accepting() {
                 let wanted = set & 2 == 0 && set >> n == 0;
                 assert_eq!(is_sound(n, 4, 1, 1, &Rec { set, ..base }), wanted);
             }
-            for at in 39..263 {
+            for at in REPLIES..RECORD {
                 let mut bytes = base.bytes();
                 bytes[at] = 1;
                 assert!(!is_sound(n, 4, 1, 1, &Rec::from(&bytes)));
@@ -535,4 +557,76 @@ fn every_place_is_judged() {
             }
         }
     }
+}
+
+/// A record as it stood before commands had a second key.
+fn old_bytes(r: &Rec) -> Vec<u8> {
+    let whole = r.bytes();
+    let vote = |at: usize| [&whole[at..at + 10], &whole[at + 14..at + VOTE]].concat();
+    let mut b = [&whole[..4], &vote(4), &whole[40..REPLIES]].concat();
+    (0..7).for_each(|q| b.extend(vote(REPLIES + VOTE * q)));
+    assert_eq!(b.len(), 263);
+    b
+}
+
+/// Copy 1's table in the old layout, blank but for this record in the first place of a row.
+fn old_table(n: usize, s: usize, o: usize, r: &Rec) -> Vec<u8> {
+    let mut t = vec![0; 3 + 263 * n * s];
+    t[..3].copy_from_slice(&[n as u8, s as u8, 1]);
+    let at = 3 + 263 * o * s;
+    t[at..at + 263].copy_from_slice(&old_bytes(r));
+    t
+}
+
+/// What was sound comes over with every field where it was; what was not is refused, and nothing is touched.
+#[test]
+fn brought_over() {
+    for (n, s) in SIZES {
+        for r in sound_records(n) {
+            let old = old_table(n, s, 1, &r);
+            let mut t = vec![0xa5; table_len(n, s)];
+            assert_eq!(bring_over(&mut t, n, s, 1, &old), Ok(()));
+            let mut wanted = Copy::blank(n, s, 1);
+            wanted.put(1, 1, &r);
+            assert_eq!(t, wanted.t);
+            for at in (0..3).chain(3 + 263 * s..3 + 263 * s + 263) {
+                let mut damaged = old.clone();
+                damaged[at] ^= 3;
+                let mut t = vec![0xa5; table_len(n, s)];
+                let got = bring_over(&mut t, n, s, 1, &damaged);
+                match got {
+                    Ok(()) => assert_eq!(judge_table(&t, n, s, 1), Ok(())),
+                    Err(r) => assert!(r == refused(11) && t.iter().all(|&byte| byte == 0xa5)),
+                }
+            }
+        }
+    }
+}
+
+#[test]
+fn not_brought_over() {
+    let r = Rec { own: vote(0, 4, 2, 7, 9, &[]), ..Rec::default() };
+    let old = old_table(3, 2, 0, &r);
+    let mut t = vec![0xa5; table_len(3, 2)];
+    let whole = t.len();
+    for (n, s, c) in [(4, 2, 1), (3, 0, 1), (3, 2, 3), (3, 3, 1), (5, 2, 1)] {
+        assert_eq!(bring_over(&mut t, n, s, c, &old), Err(refused(1)));
+    }
+    assert_eq!(bring_over(&mut t[..whole - 1], 3, 2, 1, &old), Err(refused(1)));
+    assert_eq!(bring_over(&mut t, 3, 2, 1, &old[1..]), Err(refused(1)));
+    assert_eq!(bring_over(&mut t, 3, 2, 2, &old), Err(refused(11)));
+    for op in 3..=255 {
+        for key in [0, 7] {
+            let own = vote(0, 4, op, key, 9, &[]);
+            let old = old_table(3, 2, 0, &Rec { own, ..Rec::default() });
+            assert_eq!(bring_over(&mut t, 3, 2, 1, &old), Err(refused(11)));
+        }
+    }
+    let mut reply = Rec { joined: 17, phase: 1, set: 6, ..Rec::default() };
+    for (op, wanted) in [(2, Ok(())), (3, Err(refused(11)))] {
+        reply.replies[2] = vote(8, 2, op, 7, 9, &[]);
+        let mut t = vec![0xa5; table_len(5, 1)];
+        assert_eq!(bring_over(&mut t, 5, 1, 1, &old_table(5, 1, 1, &reply)), wanted);
+    }
+    assert!(t.iter().all(|&byte| byte == 0xa5));
 }

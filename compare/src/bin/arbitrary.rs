@@ -5,9 +5,9 @@
 use compare::both::{second_side, Answer, Call, Lent, LIST, OUT};
 use compare::guarded::{c_call, Area, Areas, Input, VALUES};
 use compare::random::Random;
-use compare::{make, refusal_place, threads, REFUSALS, UNTOUCHED, UNTOUCHED_CODE};
-use pumxaqert::{Instance, Setup};
-use second::table::{HEAD_LEN, RECORD_LEN};
+use compare::{make, refusal_place, threads, LONGEST, REFUSALS, UNTOUCHED, UNTOUCHED_CODE};
+use pumxaqert::{Fields, Instance, Setup};
+use second::table::{HEAD_LEN, MARK_AT, RECORD_LEN};
 use second::{fields, Refusal};
 use std::process::ExitCode;
 use std::time::Instant;
@@ -16,7 +16,6 @@ use std::time::Instant;
 const BATCH: u64 = 1000;
 /// What the values hold before a call.
 const UNSET: u64 = 0xa5a5_a5a5_a5a5_a5a5;
-const MARK_AT: usize = 36;
 
 struct Tester {
     areas: Areas,
@@ -187,8 +186,8 @@ impl Tester {
             Answer::Done => (0, vec![]),
             Answer::Part(at, length) => (at as u64, vec![length as u64]),
             Answer::Event(o, j, written) => (0, wide([o, j, written, 0])),
-            Answer::Settled(op, key, edit) => (0, vec![1, op, key, edit]),
-            Answer::Waits(o, j) => (0, vec![0, o as u64, j as u64, 0]),
+            Answer::Settled(op, key, second, edit) => (0, vec![1, op, key, second, edit]),
+            Answer::Waits(o, j) => (0, vec![0, o as u64, j as u64, 0, 0]),
             Answer::Codes(codes) => (0, vec![codes as u64]),
         }
     }
@@ -324,7 +323,7 @@ fn some_table(random: &mut Random, setup: Setup, base: &[u8]) -> Vec<u8> {
         4..7 => make::damage(random, &mut table),
         7..10 => {
             let at = make::place(setup, random.below(setup.n), random.between(1, setup.s));
-            make::damage(random, &mut table[at..at + 39]);
+            make::damage(random, &mut table[at..at + MARK_AT + 3]);
         }
         _ => {}
     }
@@ -332,7 +331,7 @@ fn some_table(random: &mut Random, setup: Setup, base: &[u8]) -> Vec<u8> {
 }
 
 fn some_bytes(random: &mut Random, setup: Setup, base: &[u8]) -> Vec<u8> {
-    let mut bytes = [0; 42];
+    let mut bytes = [0; LONGEST];
     let length = make::bytes(&make::message(random, setup, base), &mut bytes);
     let mut bytes = bytes[..length].to_vec();
     match random.below(10) {
@@ -358,8 +357,9 @@ fn some_input(random: &mut Random, setup: Setup) -> Input {
         1 => Input::OnTable(Call::Judge),
         2 => Input::OnTable(Call::Part(o, j)),
         3 => {
-            let op = random.pick(&[0, 1, 2, 2, 3, 258, usize::MAX]);
-            Input::OnTable(Call::Request(op, random.below(4) as u32, random.word()))
+            let op = random.pick(&[0, 1, 2, 2, 3, 3, 3, 258, usize::MAX]);
+            let second = random.pick(&[0, 0, 0, 1, 2, 3, 4, u32::MAX]);
+            Input::OnTable(Call::Request(op, random.below(4) as u32, second, random.word()))
         }
         4 | 5 => Input::OnTable(Call::Recover(o, j)),
         6 => Input::OnTable(Call::Nudge(o, j)),
@@ -372,13 +372,13 @@ fn some_input(random: &mut Random, setup: Setup) -> Input {
 }
 
 /// Fields near a message's, some of them out of every place.
-fn some_fields(random: &mut Random, setup: Setup) -> [u64; 18] {
+fn some_fields(random: &mut Random, setup: Setup) -> Fields {
     let n = setup.n.clamp(1, 7);
     let good = Setup { n: 7, s: 3, copy: random.below(n) };
     let m = make::message(random, good, &make::blank(good));
     let mut f = fields::fields(&m);
     if random.chance(50) {
-        let at = random.below(18);
+        let at = random.below(f.len());
         f[at] = random.pick(&[0, 1, 2, 3, 7, 8, 64, 65, 255, 256, 1 << 16, 1 << 32, u64::MAX]);
     }
     f

@@ -7,10 +7,10 @@ use compare::guarded::StreamCall;
 use compare::measure::Rounds;
 use compare::random::Random;
 use compare::stack::Stack;
-use compare::{linear, make, shapes, streams, sweeps, UNTOUCHED, UNTOUCHED_CODE};
+use compare::{linear, make, shapes, streams, sweeps, LONGEST, UNTOUCHED, UNTOUCHED_CODE};
 use pumxaqert::{raw, Setup, Stream};
 use second::stream::{self, Next, Place, Took};
-use second::table::RECORD_LEN;
+use second::table::{MARK_AT, RECORD_LEN};
 use second::{broken, fields, journal, Refusal};
 use std::hint::black_box;
 use std::time::Duration;
@@ -162,15 +162,28 @@ fn sizes(rounds: &Rounds, full: bool) {
     }
 }
 
-const NAMES: [&str; 8] =
-    ["PreAccept", "PreAcceptOK", "Accept", "AcceptOK", "Commit", "Prepare", "PrepareOK", "Nack"];
+/// By kind, from 1 on.
+const NAMES: [&str; 12] = [
+    "PreAccept",
+    "PreAcceptOK",
+    "Accept",
+    "AcceptOK",
+    "Commit",
+    "Prepare",
+    "PrepareOK",
+    "Nack",
+    "PreAccept, a rewire",
+    "Accept, a rewire",
+    "Commit, a rewire",
+    "PrepareOK, a rewire",
+];
 
 /// A valid message to copy 0.
 fn message_of(kind: u8) -> second::Message {
-    let (from, owner, ballot) = match kind {
+    let (from, owner, ballot) = match broken::body_of(kind) {
         6 => (2, 1, 10),
         7 => (1, 1, 8),
-        _ => (1, (kind % 2) as usize, 0),
+        body => (1, (body % 2) as usize, 0),
     };
     cases::message(kind, from, owner, 64, ballot)
 }
@@ -216,7 +229,7 @@ fn refusing(rounds: &Rounds) {
 /// A valid message, and with one thing changed: its kind, its length, its sender to none, its receiver, its lead (empty
 /// where the kind asks for none), its last field.
 fn refused(kind: u8) -> [Vec<u8>; 7] {
-    let mut bytes = [0; 42];
+    let mut bytes = [0; LONGEST];
     let length = second::message::encode(&message_of(kind), &mut bytes);
     let whole = bytes[..length].to_vec();
     let with = |at: usize, byte: u8| {
@@ -229,15 +242,15 @@ fn refused(kind: u8) -> [Vec<u8>; 7] {
         8 => with(10, 7),
         _ => with(length - 2, 65),
     };
-    let led_by_5 = if kind == 5 { Vec::new() } else { with(6, 29) };
+    let led_by_5 = if broken::body_of(kind) == 5 { Vec::new() } else { with(6, 29) };
     let longer = [&whole[..], &[0]].concat();
-    [whole.clone(), with(0, 9), longer, with(1, 7), with(2, 3), led_by_5, last]
+    [whole.clone(), with(0, 13), longer, with(1, 7), with(2, 3), led_by_5, last]
 }
 
 /// The C call and the second program to the same numbers, for each of the messages.
 fn reading(rounds: &Rounds, messages: &[Vec<u8>; 7]) -> [Vec<f64>; 2] {
     let library = |bytes: &[u8]| {
-        let (mut f, mut offset) = ([0; 18], 0);
+        let (mut f, mut offset) = ([0; fields::COUNT], 0);
         let (at, length) = (black_box(bytes).as_ptr(), bytes.len());
         // SAFETY: all areas are lent with their lengths.
         unsafe {
@@ -247,7 +260,7 @@ fn reading(rounds: &Rounds, messages: &[Vec<u8>; 7]) -> [Vec<f64>; 2] {
         keep(offset);
     };
     let second = |bytes: &[u8]| {
-        let mut f = [0; 18];
+        let mut f = [0; fields::COUNT];
         let answer = second::read_message(7, 64, 0, black_box(bytes));
         if let Ok(m) = &answer {
             fields::put(m, black_box(&mut f));
@@ -273,7 +286,7 @@ fn message(rounds: &Rounds, m: &second::Message) -> [[f64; 4]; 2] {
     let wrapped = LARGEST.read_message(bytes).expect("a valid message");
     let numbers = fields::fields(m);
     let [c_out, numbers_out, struct_out, wrapper_out] = &mut outs;
-    let (mut read, mut other, mut written) = ([0; 18], [0; 18], 0);
+    let (mut read, mut other, mut written) = ([0; fields::COUNT], [0; fields::COUNT], 0);
     let (mut at_read, mut at_written) = (0, 0);
     // SAFETY: all areas are arrays, lent with their lengths.
     let times = rounds.medians(&mut [
@@ -301,14 +314,14 @@ fn message(rounds: &Rounds, m: &second::Message) -> [[f64; 4]; 2] {
     [[times[0], times[1], times[2], times[3]], [times[4], times[5], times[6], times[7]]]
 }
 
-/// All eight kinds in turn; the end cuts a message.
+/// The eight kinds without a rewire in turn; the end cuts a message.
 fn eight_kinds(length: usize) -> Vec<u8> {
     let mut all = Vec::new();
     for kind in (1..=8).cycle() {
         if all.len() >= length {
             break;
         }
-        let mut bytes = [0; 42];
+        let mut bytes = [0; LONGEST];
         let whole = second::message::encode(&broken::valid(7, 0, kind, 3), &mut bytes);
         all.extend(&bytes[..whole]);
     }
@@ -319,7 +332,7 @@ fn eight_kinds(length: usize) -> Vec<u8> {
 fn streams(rounds: &Rounds) {
     let bytes = eight_kinds(65_536);
     println!(
-        "\n## A stream of {} bytes, all eight kinds, every message read after each take\n",
+        "\n## A stream of {} bytes, kinds 1 to 8, every message read after each take\n",
         bytes.len()
     );
     let seconds = "second, called as the library is | ratio | second, its own struct | ratio";
@@ -453,7 +466,7 @@ fn journals(rounds: &Rounds) {
     let record: (raw::WritesEntry, Writer) = (raw::pumxaqert_record_entry, journal::record_entry);
     write_line(rounds, "record, committed", &full, record);
     write_line(rounds, "record, in a phase with all replies", &busy, record);
-    full[make::place(LARGEST, 6, 64) + 36] = 1;
+    full[make::place(LARGEST, 6, 64) + MARK_AT] = 1;
     write_line(rounds, "mark", &full, (raw::pumxaqert_mark_entry, journal::mark_entry));
 }
 
@@ -467,7 +480,7 @@ fn some_entries(setup: Setup, count: usize, marks: bool) -> Vec<u8> {
         let (o, j) = (random.below(n), random.between(1, s));
         let place = make::place(setup, o, j);
         match marks {
-            true => t[place + 36] = is_mark as u8,
+            true => t[place + MARK_AT] = is_mark as u8,
             false => make::put(&mut t, place, &make::record(&mut random, setup, o)),
         }
         let writer: Writer = if is_mark { journal::mark_entry } else { journal::record_entry };
@@ -589,7 +602,7 @@ fn hand_out(rounds: &Rounds, table: &[u8]) -> [f64; 4] {
 fn unmark(t: &mut [u8]) {
     for o in 0..7 {
         for j in 1..=64 {
-            t[make::place(LARGEST, o, j) + 36] = 0;
+            t[make::place(LARGEST, o, j) + MARK_AT] = 0;
         }
     }
 }

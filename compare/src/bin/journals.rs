@@ -10,7 +10,7 @@ use compare::random::Random;
 use compare::{make, threads, world};
 use pumxaqert::{raw, Setup};
 use second::journal::length_of;
-use second::table::{Record, Vote, COMMITTED, HEAD_LEN, RECORD_LEN};
+use second::table::{Record, Vote, COMMITTED, HEAD_LEN, MARK_AT, RECORD_LEN};
 use std::process::ExitCode;
 use std::time::Instant;
 
@@ -207,6 +207,9 @@ fn bad_ends(journals: &mut Journals, book: &Book) -> Result<(), String> {
     Ok(())
 }
 
+/// Where a record's replies begin, after mark, phase and set.
+const REPLIES: usize = MARK_AT + 3;
+
 const ODD: [usize; 6] = [255, 256, 257, 65_536, 1 << 32, usize::MAX];
 
 fn writers(journals: &mut Journals, setup: Setup) -> Result<(), String> {
@@ -229,7 +232,7 @@ fn spoil(random: &mut Random, table: &mut [u8]) {
     let (head, records) = table.split_at_mut(HEAD_LEN);
     make::damage(random, head);
     for record in records.chunks_exact_mut(RECORD_LEN) {
-        let most = random.pick(&[39, 39, 39, RECORD_LEN]);
+        let most = random.pick(&[REPLIES, REPLIES, REPLIES, RECORD_LEN]);
         make::damage(random, &mut record[..most]);
     }
 }

@@ -22,6 +22,8 @@ struct Copy {
 struct Run {
     n: usize,
     s: usize,
+    /// A line with a command has a second key: from 5/12 on.
+    two_keys: bool,
     copies: Vec<Copy>,
     both: Both,
     readers: Readers,
@@ -44,8 +46,9 @@ impl Run {
                 other => return Err(format!("no blank table: {other:?}")),
             }
         }
+        let two_keys = number::<u8>(words, 3).unwrap_or(0) >= 5;
         let (readers, journals) = (Readers::default(), Journals::default());
-        Ok(Run { n, s, copies, both, readers, journals })
+        Ok(Run { n, s, two_keys, copies, both, readers, journals })
     }
 
     /// The answer as the recorded runs write it. A stream belongs to no copy.
@@ -97,7 +100,7 @@ impl Run {
         let bytes;
         let named = || Ok::<_, String>((number(words, 2)?, number(words, 3)?));
         let call = match *words.get(1).ok_or("no call")? {
-            "request" => Call::Request(number(words, 2)?, number(words, 3)?, number(words, 4)?),
+            "request" => self.request(&words[2..])?,
             "message" => {
                 bytes = from_hex(words.get(2).ok_or("no bytes")?)?;
                 Call::Message(&bytes)
@@ -113,6 +116,16 @@ impl Run {
         let answer = self.both.call(setup, ROOM, call, &mut its.tables)?;
         self.save(copy, answer)?;
         Ok(self.written(answer))
+    }
+
+    /// Op, key, second key where the run has one, edit.
+    fn request(&self, words: &[&str]) -> Result<Call<'static>, String> {
+        let last = 2 + self.two_keys as usize;
+        if words.len() != last + 1 {
+            return Err("wrong number of words".into());
+        }
+        let second = if self.two_keys { number(words, 2)? } else { 0 };
+        Ok(Call::Request(number(words, 0)?, number(words, 1)?, second, number(words, last)?))
     }
 
     /// Writes what the answer leaves to be saved; the journal then gives the copy's table.
@@ -140,7 +153,10 @@ impl Run {
             Answer::Event(o, j, written) => {
                 format!("event {o} {j} {}", to_hex(&self.both.ours.out[..written]))
             }
-            Answer::Settled(op, key, edit) => format!("settled {op} {key} {edit}"),
+            Answer::Settled(op, key, second, edit) if self.two_keys => {
+                format!("settled {op} {key} {second} {edit}")
+            }
+            Answer::Settled(op, key, _, edit) => format!("settled {op} {key} {edit}"),
             Answer::Waits(o, j) => format!("waits {o} {j}"),
             Answer::Codes(count) => {
                 let codes = self.both.ours.list[..count].iter();

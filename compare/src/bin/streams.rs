@@ -1,19 +1,19 @@
-//! streams COUNT [SEED]: a stream of all eight kinds in every cutting into two and three pieces, with every offset of it
+//! streams COUNT [SEED]: a stream of all twelve kinds in every cutting into two and three pieces, with every offset of it
 //! made an unknown kind, and places that no stream leads to; then so many random streams, cuttings and places. Every
 //! answer, place and buffer must be the second program's, and what comes out what the uncut stream says.
 
 use compare::random::Random;
 use compare::streams::{read, Counts, Readers};
-use compare::{make, threads, LENGTHS, UNTOUCHED};
+use compare::{make, threads, LENGTHS, LONGEST, UNTOUCHED};
 use pumxaqert::Setup;
 use second::broken;
-use second::message::encode;
+use second::message::{encode, LAST_KIND};
 use second::stream::Place;
 use std::process::ExitCode;
 use std::time::Instant;
 
 const ROOMS: std::ops::RangeInclusive<usize> = 64..=300;
-const UNKNOWN: [u8; 4] = [0, 9, 0x80, 255];
+const UNKNOWN: [u8; 4] = [0, LAST_KIND + 1, 0x80, 255];
 
 /// What is chosen and not drawn, in parts that can be done at the same time.
 #[derive(Clone, Copy)]
@@ -73,8 +73,8 @@ fn report(readers: &[Readers]) {
 /// A valid message of each kind, one after another.
 fn all_kinds() -> Vec<u8> {
     let mut all = Vec::new();
-    for kind in 1..=8 {
-        let mut bytes = [0; 42];
+    for kind in 1..=LAST_KIND {
+        let mut bytes = [0; LONGEST];
         let length = encode(&broken::valid(7, 1, kind, 3), &mut bytes);
         all.extend(&bytes[..length]);
     }
@@ -84,7 +84,7 @@ fn all_kinds() -> Vec<u8> {
 fn chosen() -> Vec<Chosen> {
     let length = LENGTHS.iter().sum::<usize>();
     let mut all: Vec<Chosen> = ROOMS.map(Chosen::Two).collect();
-    for room in [64, 65, 101, length, 300] {
+    for room in [64, 101, length] {
         all.extend((0..=length).map(|first| Chosen::Three(room, first)));
     }
     all.extend((0..=length).map(Chosen::Unknown));
@@ -141,9 +141,9 @@ fn unknown(readers: &mut Readers, all: &[u8], at: usize, byte: u8) -> Result<(),
 fn places(readers: &mut Readers, room: usize, at: usize) -> Result<(), String> {
     for end in 0..=room + 1 {
         for offset in 0..=at + 90 {
-            let kind = [1, 2, 4, 9][(end + offset) % 4];
+            let kind = [1, 2, 4, 12, 13][(end + offset) % 5];
             let buf = vec![kind; room];
-            readers.probe(&buf, Place { at, end, offset }, &[3, 0, 9])?;
+            readers.probe(&buf, Place { at, end, offset }, &[3, 0, 13])?;
         }
     }
     Ok(())
@@ -151,7 +151,7 @@ fn places(readers: &mut Readers, room: usize, at: usize) -> Result<(), String> {
 
 /// Numbers at every bound, and sums of lengths near them.
 fn large() -> Vec<usize> {
-    let ends = [0, 1, 9, 10, 14, 20, 36, 37, 53, 54, 62, 63, 64, 65, 83, 84, 300, 301];
+    let ends = [0, 1, 9, 10, 14, 20, 36, 37, 41, 46, 53, 54, 63, 64, 65, 73, 74, 83, 300, 301];
     let far = [1 << 31, 1 << 32, 1 << 63].into_iter().flat_map(|far| [far - 1, far]);
     ends.into_iter().chain(far).chain(ends.map(|near| usize::MAX - near)).collect()
 }
@@ -159,7 +159,7 @@ fn large() -> Vec<usize> {
 fn large_places(readers: &mut Readers, at: usize) -> Result<(), String> {
     for end in large() {
         for offset in large() {
-            for (room, kind) in [(0, 1), (63, 4), (64, 4), (65, 9), (300, 7)] {
+            for (room, kind) in [(0, 1), (63, 4), (64, 4), (65, 13), (300, 12)] {
                 let place = Place { at, end, offset };
                 readers.probe(&vec![kind; room], place, &[4; 80])?;
             }
@@ -197,11 +197,11 @@ fn some_stream(random: &mut Random) -> Vec<u8> {
     let stops = random.chance(30);
     let mut stream = Vec::new();
     for _ in 0..random.below(15) {
-        let mut bytes = [0; 42];
+        let mut bytes = [0; LONGEST];
         let mut length = make::bytes(&make::message(random, setup, &blank), &mut bytes);
         if random.chance(50) {
             bytes = std::array::from_fn(|_| random.word() as u8);
-            bytes[0] = random.between(1, 8) as u8;
+            bytes[0] = random.between(1, LAST_KIND as usize) as u8;
             length = LENGTHS[bytes[0] as usize];
         }
         if stops && random.chance(15) {
@@ -234,7 +234,7 @@ fn some_place(readers: &mut Readers, random: &mut Random) -> Result<(), String> 
         _ => {}
     }
     let mut buf = vec![UNTOUCHED; room];
-    buf.iter_mut().for_each(|byte| *byte = random.below(10) as u8);
-    let bytes: Vec<u8> = (0..random.below(80)).map(|_| random.below(10) as u8).collect();
+    buf.iter_mut().for_each(|byte| *byte = random.below(14) as u8);
+    let bytes: Vec<u8> = (0..random.below(80)).map(|_| random.below(14) as u8).collect();
     readers.probe(&buf, place, &bytes)
 }

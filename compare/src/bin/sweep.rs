@@ -4,8 +4,9 @@
 
 use compare::both::{Both, Call, Pair};
 use compare::random::Random;
-use compare::{make, reasons, threads};
+use compare::{make, reasons, threads, LONGEST};
 use pumxaqert::{Setup, ROOM};
+use second::message::LAST_KIND;
 use second::table::{HEAD_LEN, RECORD_LEN};
 use std::process::ExitCode;
 use std::time::Instant;
@@ -70,7 +71,7 @@ fn one(random: &mut Random, counts: &mut Counts) -> Result<(), String> {
     make::fill(random, setup, &mut table, 90);
     let mut both = Both::default();
     sweep_table(&mut both, setup, &table, counts)?;
-    for kind in 1..=8 {
+    for kind in 1..=LAST_KIND {
         let (bytes, length) = valid(random, setup, &table, kind);
         reasons::every_byte(&mut both, setup, &bytes[..length], &mut counts.messages)?;
     }
@@ -108,10 +109,10 @@ fn sweep_table(
 }
 
 /// A valid message of this kind to the setup's copy.
-fn valid(random: &mut Random, setup: Setup, table: &[u8], kind: u8) -> ([u8; 42], usize) {
+fn valid(random: &mut Random, setup: Setup, table: &[u8], kind: u8) -> ([u8; LONGEST], usize) {
     loop {
         let m = make::message(random, setup, table);
-        let mut bytes = [0; 42];
+        let mut bytes = [0; LONGEST];
         let length = make::bytes(&m, &mut bytes);
         let read = second::read_message(setup.n, setup.s, setup.copy, &bytes[..length]);
         if m.kind == kind && read.is_ok() {

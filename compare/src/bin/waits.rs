@@ -1,7 +1,7 @@
 //! waits COUNT [SEED [READS]]: of what so many random runs commit, how much waits for something else: by the
-//! interference of document 01 at all copies, and with the same seeds by that of 4/12. The second program works alone, on
-//! one key to three; of a hundred requests READS are reads (50 if left out). Run i has the seed SEED + i (SEED is 1 if left
-//! out).
+//! interference of document 01 at all copies, and with the same seeds by that of 4/12; a rewire has two keys in both. The
+//! second program works alone, on one key to three, and rewires one more; of a hundred requests READS are reads (50 if left
+//! out). Run i has the seed SEED + i (SEED is 1 if left out).
 //!
 //! An instance waits if its committed dependencies cover another one: before that is committed too, no copy hands it
 //! out. No-ops are left out; nobody asked for them.
@@ -10,7 +10,7 @@ use compare::both::Sides;
 use compare::demand::Chosen;
 use compare::places::{Place, Places};
 use compare::{threads, world};
-use second::rules::{covers, NO_OP, READ};
+use second::rules::{covers, NO_OP, READ, REWIRE};
 use std::process::ExitCode;
 
 /// Instances that were committed, and those of them that wait.
@@ -36,6 +36,7 @@ impl Count {
 struct Tally {
     reads: Count,
     writes: Count,
+    rewires: Count,
     places: Places,
 }
 
@@ -44,7 +45,11 @@ impl Tally {
         for &(o, j, command, deps) in chosen.iter().filter(|its| its.2.op != NO_OP) {
             let other = |p: usize| (1..=deps[p] as usize).any(|i| covers(&deps, o, j, p, i));
             let waits = (0..deps.len()).any(other);
-            let count = if command.op == READ { &mut self.reads } else { &mut self.writes };
+            let count = match command.op {
+                READ => &mut self.reads,
+                REWIRE => &mut self.rewires,
+                _ => &mut self.writes,
+            };
             count.add(Count { committed: 1, waiting: waits as u64 });
         }
     }
@@ -52,19 +57,22 @@ impl Tally {
     fn add(&mut self, other: &Tally) {
         self.reads.add(other.reads);
         self.writes.add(other.writes);
+        self.rewires.add(other.rewires);
         self.places.add(&other.places);
     }
 
     fn all(&self) -> Count {
         let mut all = self.reads;
         all.add(self.writes);
+        all.add(self.rewires);
         all
     }
 
     fn print(&self, name: &str) {
         println!("{name}");
-        let counts = [("instances", self.all()), ("reads", self.reads), ("writes", self.writes)];
-        for (what, count) in counts {
+        let Tally { reads, writes, rewires, .. } = *self;
+        let kinds = [("reads", reads), ("writes", writes), ("rewires", rewires)];
+        for (what, count) in [("instances", self.all())].into_iter().chain(kinds) {
             let Count { committed, waiting } = count;
             println!("{committed:>12}  {what} committed");
             println!("{waiting:>12}  of them wait ({:.1} percent)", count.percent());

@@ -4,18 +4,22 @@ use crate::planted::Planted::{self, *};
 use crate::planted::Setup;
 use crate::{lent, lent_mut, number_alone};
 use second::journal::{self, length_of};
+use second::old::OLD_RECORD_LEN;
 use second::refusal::{NotReplayed, ENTRY_INSTANCE, ENTRY_KIND, ENTRY_UNSOUND, INSTANCE, ROOM};
-use second::table::COMMITTED;
+use second::table::{COMMITTED, MARK_AT};
 use second::Refusal;
 
-// Where a record's status and mark stand in it, and the record in its entry.
+// Where a record's status stands in it, and the record in its entry.
 const STATUS: usize = 8;
-const MARK: usize = 36;
 const RECORD: usize = 4;
+const OLD_ENTRY: usize = RECORD + OLD_RECORD_LEN;
 
 #[no_mangle]
 pub extern "C" fn pumxaqert_entry_length(kind: usize) -> usize {
-    u8::try_from(kind).ok().and_then(length_of).unwrap_or(0)
+    match (Planted::now(), kind) {
+        (OldEntryLength, 20) => OLD_ENTRY,
+        _ => u8::try_from(kind).ok().and_then(length_of).unwrap_or(0),
+    }
 }
 
 #[no_mangle]
@@ -113,7 +117,7 @@ fn replay(
     journal: &[u8],
 ) -> Result<usize, NotReplayed> {
     let Setup { n, s, copy } = setup;
-    if (planted as usize) < RestForEntry as usize {
+    if !(RestForEntry as usize..=EntryTouched as usize).contains(&(planted as usize)) {
         return journal::replay(t, n, s, copy, journal);
     }
     second::judge_table(t, n, s, copy)?;
@@ -171,7 +175,7 @@ fn put(planted: Planted, setup: Setup, t: &mut [u8], entry: &mut [u8]) -> Result
             let next = (entry[1] as usize + 1) % n;
             let (other, _) = second::record_part(t, n, s, copy, next, number);
             if before[STATUS] == COMMITTED {
-                t[other + MARK] = (t[other + STATUS] == COMMITTED) as u8;
+                t[other + MARK_AT] = (t[other + STATUS] == COMMITTED) as u8;
                 return Ok(());
             }
         }
@@ -186,7 +190,7 @@ fn put(planted: Planted, setup: Setup, t: &mut [u8], entry: &mut [u8]) -> Result
         }
         (MarkOnUncommitted, Err(ENTRY_UNSOUND)) if is_mark => return Ok(()),
         (OldMarkKept, Ok(_)) if !is_mark && t[at + STATUS] == COMMITTED => {
-            t[at + MARK] |= before[MARK];
+            t[at + MARK_AT] |= before[MARK_AT];
         }
         (JudgedAsOwn, Err(ENTRY_UNSOUND)) if !is_mark => return as_own(setup, t, at, entry),
         _ => {}

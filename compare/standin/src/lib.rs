@@ -9,6 +9,7 @@ mod stream;
 
 use planted::Planted;
 use second::fields::{self, Fields};
+use second::rules::Command;
 use second::{Event, Refusal, Settled};
 use std::slice::{from_raw_parts, from_raw_parts_mut};
 
@@ -107,13 +108,16 @@ pub unsafe extern "C" fn pumxaqert_request(
     out_len: usize,
     op: usize,
     key: u32,
+    second: u32,
     edit: u64,
     values: *mut [usize; 4],
 ) -> u32 {
     let (t, out) = (lent_mut(table, table_len), lent_mut(out, out_len));
-    let op = op.try_into().unwrap_or(u8::MAX);
-    let by = planted::interference(Planted::now());
-    answered(second::request_by(by, t, n, s, c, out, op, key, edit), &mut *values)
+    let command = Command { op: op.try_into().unwrap_or(u8::MAX), key, second, edit };
+    let setup = planted::Setup { n, s, copy: c };
+    let answer = planted::request(Planted::now(), setup, t, out, command);
+    planted::sent(Planted::now(), &answer, out);
+    answered(answer, &mut *values)
 }
 
 #[no_mangle]
@@ -131,7 +135,9 @@ pub unsafe extern "C" fn pumxaqert_message(
 ) -> u32 {
     let (t, out) = (lent_mut(table, table_len), lent_mut(out, out_len));
     let setup = planted::Setup { n, s, copy: c };
-    answered(planted::message(Planted::now(), setup, t, out, lent(bytes, bytes_len)), &mut *values)
+    let answer = planted::message(Planted::now(), setup, t, out, lent(bytes, bytes_len));
+    planted::sent(Planted::now(), &answer, out);
+    answered(answer, &mut *values)
 }
 
 #[no_mangle]
@@ -167,6 +173,7 @@ pub unsafe extern "C" fn pumxaqert_nudge(
     let (t, out) = (lent_mut(table, table_len), lent_mut(out, out_len));
     let answer = second::nudge(t, n, s, c, out, owner, number);
     planted::after_nudge(Planted::now(), &answer, out);
+    planted::sent(Planted::now(), &answer, out);
     let number = answered(answer, &mut *values);
     if number != 0 && Planted::now() == Planted::ValuesLeft {
         *values = [owner, number as usize, 0, 0];
@@ -183,13 +190,16 @@ pub unsafe extern "C" fn pumxaqert_settled(
     c: usize,
     owner: usize,
     number: usize,
-    values: *mut [u64; 4],
+    values: *mut [u64; 5],
 ) -> u32 {
     let answer = second::settled(lent(table, table_len), n, s, c, owner, number);
+    let answer = planted::settled(Planted::now(), answer);
     *values = match answer {
-        Ok(Settled::Command { op, key, edit }) => [1, op as u64, key as u64, edit],
-        Ok(Settled::Waits { owner, number }) => [0, owner as u64, number as u64, 0],
-        Err(_) => [0; 4],
+        Ok(Settled::Command { op, key, second, edit }) => {
+            [1, op as u64, key as u64, second as u64, edit]
+        }
+        Ok(Settled::Waits { owner, number }) => [0, owner as u64, number as u64, 0, 0],
+        Err(_) => [0; 5],
     };
     number_alone(&answer)
 }
@@ -227,7 +237,7 @@ pub unsafe extern "C" fn pumxaqert_read_message(
 ) -> u32 {
     let answer =
         planted::read(Planted::now(), planted::Setup { n, s, copy: c }, lent(bytes, bytes_len));
-    *fields = answer.map_or([0; 18], |m| fields::fields(&m));
+    *fields = answer.map_or([0; fields::COUNT], |m| fields::fields(&m));
     number(&answer, &mut *offset)
 }
 

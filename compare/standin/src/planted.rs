@@ -1,11 +1,20 @@
 //! Differences that can be planted: the paper's "errors that look reasonable", and slips in each kind of lent memory.
 
 use second::fields::{self, Fields};
-use second::message::decode;
-use second::rules::{interfere, same_object, Command, WRITE};
-use second::table::{Record, Vote, RECORD_LEN};
-use second::{read_message, record_part, refusal, Event, Message, Refusal};
+use second::message::{
+    decode, is_long, length_of, COMMIT, LONG_COMMIT, LONG_PREPARE_OK, PREPARE_OK, PRE_ACCEPT,
+    PRE_ACCEPT_OK,
+};
+use second::rules::{interfere, same_object, Command, NO_OP, READ, REWIRE, WRITE};
+use second::table::{Record, Vote, COMMITTED, HEAD_LEN, MARK_AT, RECORD_LEN};
+use second::{read_message, record_part, refusal, Event, Message, Refusal, Settled};
 use std::sync::OnceLock;
+
+// In a record: the op, the keys and the edit of its own vote.
+const OP_AT: usize = 9;
+const KEY_AT: usize = 10;
+const SECOND_AT: usize = 14;
+const EDIT_AT: usize = 18;
 
 #[derive(Clone, Copy, PartialEq, Eq)]
 pub enum Planted {
@@ -92,11 +101,39 @@ pub enum Planted {
     FirstDecides,
     /// A no-op interferes with what writes its key, 0.
     NoOpInterferes,
+    /// Which commands interfere goes by their first keys alone.
+    SecondForgotten,
+    /// A request may rewire an object to itself.
+    EqualKeysRequested,
+    /// A message may.
+    EqualKeysRead,
+    /// The second key goes out before the first.
+    SecondFirst,
+    /// A long kind is taken with a read or a write in it.
+    ShortInLong,
+    /// An entry of a record is as long as it was without second keys.
+    OldEntryLength,
+    /// The second key of what has one key counts too, and it is 0.
+    SecondCounted,
+    /// Two Commits that differ in the second key alone are the same.
+    SecondNotCompared,
+    /// The judge does not look at the second key of what has one key.
+    SecondUnjudged,
+    /// A stream frames the long kinds by the lengths of the short ones.
+    LongAsShort,
+    /// A place in a stream is judged by the lengths of the short kinds.
+    OldSums,
+    /// For status 0 beside a rewire the reader blames the status.
+    StatusBlamed,
+    /// A settled rewire is told without its second key.
+    SettledWithoutSecond,
+    /// The judge takes a rewire of an object to itself.
+    EqualKeysJudged,
 }
 
 use Planted::*;
 
-const ALL: [Planted; 42] = [
+const ALL: [Planted; 56] = [
     Nothing,
     JoinedAsVoted,
     WorkedOutAnew,
@@ -139,6 +176,20 @@ const ALL: [Planted; 42] = [
     WritesAlone,
     FirstDecides,
     NoOpInterferes,
+    SecondForgotten,
+    EqualKeysRequested,
+    EqualKeysRead,
+    SecondFirst,
+    ShortInLong,
+    OldEntryLength,
+    SecondCounted,
+    SecondNotCompared,
+    SecondUnjudged,
+    LongAsShort,
+    OldSums,
+    StatusBlamed,
+    SettledWithoutSecond,
+    EqualKeysJudged,
 ];
 
 impl Planted {
@@ -159,26 +210,69 @@ pub fn read(planted: Planted, setup: Setup, bytes: &[u8]) -> Result<Message, Ref
     let wrong_way = m.to as usize != copy || m.from as usize == copy;
     match planted {
         WayBeforeRanges if refusal.number == 35 && wrong_way => Err(refusal::WRONG_WAY),
-        EarlierBlamed if m.kind == 7 && m.status == 0 && refusal.offset == 14 => {
+        EarlierBlamed if m.body() == PREPARE_OK && m.status == 0 && refusal.offset == 14 => {
             Err(Refusal::wrong_field(10))
         }
+        StatusBlamed if m.kind == LONG_PREPARE_OK && m.status == 0 && refusal.offset == 15 => {
+            Err(Refusal::wrong_field(14))
+        }
+        EqualKeysRead if blames_second(&m, &refusal) && m.key == m.second => Ok(m),
+        ShortInLong if is_long(m.kind) && blames_op(&m, &refusal) && m.op <= WRITE => Ok(m),
         _ => answer,
     }
+}
+
+/// Where the command begins in a message that has one.
+fn command_at(m: &Message) -> u8 {
+    match m.body() {
+        PREPARE_OK => 15,
+        _ => 10,
+    }
+}
+
+fn blames_op(m: &Message, refusal: &Refusal) -> bool {
+    refusal.offset == command_at(m)
+}
+
+fn blames_second(m: &Message, refusal: &Refusal) -> bool {
+    is_long(m.kind) && refusal.offset == command_at(m) + 5
 }
 
 /// The writer, with what is planted in it.
 pub fn write(planted: Planted, setup: Setup, out: &mut [u8], f: &Fields) -> Result<usize, Refusal> {
     let Setup { n, s, copy } = setup;
     let answer = fields::write(n, s, copy, out, f);
+    swap_keys(planted, &mut out[..answer.unwrap_or(0)]);
     let first = match f[0] {
         1 | 3 | 5 => 23,
         2 => 10,
         7 => 28,
+        9..=11 => 27,
+        12 => 32,
         _ => return answer,
     };
     match (planted, answer) {
         (EntriesAsOne, Err(r)) if r.offset >= first => Err(Refusal::wrong_field(first as usize)),
         _ => answer,
+    }
+}
+
+/// What an event writes, with what is planted in it.
+pub fn sent(planted: Planted, answer: &Result<Event, Refusal>, out: &mut [u8]) {
+    if let Ok(event) = answer {
+        swap_keys(planted, &mut out[..event.written]);
+    }
+}
+
+/// In each of these messages that has two keys.
+fn swap_keys(planted: Planted, mut messages: &mut [u8]) {
+    while let (SecondFirst, Some(&kind)) = (planted, messages.first()) {
+        let (message, rest) = messages.split_at_mut(length_of(kind).expect("a known kind"));
+        if is_long(kind) {
+            let key = if kind == LONG_PREPARE_OK { 16 } else { 11 };
+            message[key..key + 8].rotate_left(4);
+        }
+        messages = rest;
     }
 }
 
@@ -201,10 +295,65 @@ pub struct Setup {
 pub fn interference(planted: Planted) -> fn(&Command, &Command) -> bool {
     match planted {
         ReadsInterfere => same_object,
-        WritesAlone => |a, b| same_object(a, b) && a.op == WRITE && b.op == WRITE,
-        FirstDecides => |a, b| same_object(a, b) && a.op == WRITE,
-        NoOpInterferes => |a, b| a.key == b.key && (a.op == WRITE || b.op == WRITE),
+        WritesAlone => |a, b| same_object(a, b) && writes(a) && writes(b),
+        FirstDecides => |a, b| same_object(a, b) && writes(a),
+        NoOpInterferes => |a, b| interfere(&no_op_as_read(a), &no_op_as_read(b)),
+        SecondForgotten => |a, b| interfere(&of_one_key(a), &of_one_key(b)),
+        SecondCounted => |a, b| (writes(a) || writes(b)) && share_any(a, b),
         _ => interfere,
+    }
+}
+
+fn writes(c: &Command) -> bool {
+    matches!(c.op, WRITE | REWIRE)
+}
+
+fn no_op_as_read(c: &Command) -> Command {
+    let op = if c.op == NO_OP { READ } else { c.op };
+    Command { op, ..*c }
+}
+
+fn of_one_key(c: &Command) -> Command {
+    Command { op: c.op.min(WRITE), second: 0, ..*c }
+}
+
+/// Whether both have a key in common, with a second one for all but the no-op.
+fn share_any(a: &Command, b: &Command) -> bool {
+    let keys = [b.key, b.second];
+    a.op != NO_OP && b.op != NO_OP && (keys.contains(&a.key) || keys.contains(&a.second))
+}
+
+/// A request, with what is planted in it.
+pub fn request(
+    planted: Planted,
+    setup: Setup,
+    t: &mut [u8],
+    out: &mut [u8],
+    command: Command,
+) -> Result<Event, Refusal> {
+    let Setup { n, s, copy } = setup;
+    let Command { op, key, second, edit } = command;
+    let by = interference(planted);
+    let equal = planted == EqualKeysRequested && op == REWIRE && key == second && key > 0;
+    let first = if equal { key - 1 } else { key };
+    let answer = second::request_by(by, t, n, s, copy, out, op, first, second, edit);
+    if let (true, Ok(event)) = (equal, answer) {
+        // As if nothing else had been asked for.
+        let (at, _) = record_part(t, n, s, copy, event.owner, event.number);
+        t[at + 10..at + 14].copy_from_slice(&key.to_le_bytes());
+        let messages = out[..event.written].chunks_exact_mut(41);
+        messages.for_each(|message| message[11..15].copy_from_slice(&key.to_le_bytes()));
+    }
+    answer
+}
+
+/// What is told of a settled instance, with what is planted in it.
+pub fn settled(planted: Planted, answer: Result<Settled, Refusal>) -> Result<Settled, Refusal> {
+    match (planted, answer) {
+        (SettledWithoutSecond, Ok(Settled::Command { op, key, edit, .. })) => {
+            Ok(Settled::Command { op, key, second: 0, edit })
+        }
+        _ => answer,
     }
 }
 
@@ -219,7 +368,7 @@ pub fn message(
     let Setup { n, s, copy } = setup;
     let found = match planted {
         JoinedAsVoted | WorkedOutAnew | AgreeAmongThemselves | OwnerAmongReplies
-        | MarkForgotten | RefusedButStored => at_message(setup, t, bytes),
+        | MarkForgotten | RefusedButStored | SecondNotCompared => at_message(setup, t, bytes),
         _ => None,
     };
     let Some((m, at, record)) = found else {
@@ -265,16 +414,19 @@ fn changed_before(
     let mut m = *m;
     let own = record.own;
     match planted {
-        WorkedOutAnew if m.kind == 1 && matches!(own.status, 1 | 2) => {
+        WorkedOutAnew if m.body() == PRE_ACCEPT && matches!(own.status, 1 | 2) => {
             if own.voted == m.ballot && record.joined == m.ballot {
                 record.own = Vote::default();
             }
         }
-        AgreeAmongThemselves if m.kind == 2 && record.phase == 2 => {
+        AgreeAmongThemselves if m.kind == PRE_ACCEPT_OK && record.phase == 2 => {
             count_agreeing(f, &mut m, &mut record);
         }
-        OwnerAmongReplies if m.kind == 7 && record.phase == 1 => {
+        OwnerAmongReplies if m.body() == PREPARE_OK && record.phase == 1 => {
             take_matching(f, &mut m, &mut record);
+        }
+        SecondNotCompared if m.kind == LONG_COMMIT && own.status == COMMITTED => {
+            m.second = if own.command.op == REWIRE { own.command.second } else { m.second };
         }
         _ => return None,
     }
@@ -332,15 +484,15 @@ fn changed_after(
     before: &[u8],
 ) {
     match (planted, answer) {
-        (JoinedAsVoted, Ok(event)) if event.written > 0 && out[0] == 7 => {
+        (JoinedAsVoted, Ok(event)) if event.written > 0 && matches!(out[0], 7 | 12) => {
             // What was joined before this Prepare; a reply must still be valid to do harm.
             let joined: [u8; 4] = before[..4].try_into().expect("four bytes");
             if out[14] > 0 && u32::from_le_bytes(joined) < m.ballot {
                 out[10..14].copy_from_slice(&joined);
             }
         }
-        (MarkForgotten, Ok(_)) if m.kind == 5 => t[at + 36] = 0,
-        (RefusedButStored, Err(refusal::OTHER_COMMIT)) => t[at + 14] ^= 1,
+        (MarkForgotten, Ok(_)) if m.body() == COMMIT => t[at + MARK_AT] = 0,
+        (RefusedButStored, Err(refusal::OTHER_COMMIT)) => t[at + EDIT_AT] ^= 1,
         _ => {}
     }
 }
@@ -361,10 +513,26 @@ pub fn after_hand_out(planted: Planted, codes: usize, list: &mut [u16]) {
     }
 }
 
-/// The table as the judge then sees it: the last byte of its last record is nothing.
+/// The table as the judge then sees it: a byte, or a key, that it does not look at is nothing.
 pub fn before_judge(planted: Planted, t: &[u8]) -> Option<Vec<u8>> {
-    let last = t.len().checked_sub(1).filter(|_| planted == LastByteUnjudged)?;
     let mut seen = t.to_vec();
-    seen[last] = 0;
+    match planted {
+        LastByteUnjudged => *seen.last_mut()? = 0,
+        SecondUnjudged => {
+            let records = seen.get_mut(HEAD_LEN..)?.chunks_exact_mut(RECORD_LEN);
+            for record in records.filter(|record| record[OP_AT] < REWIRE) {
+                record[SECOND_AT..EDIT_AT].fill(0);
+            }
+        }
+        EqualKeysJudged => {
+            let records = seen.get_mut(HEAD_LEN..)?.chunks_exact_mut(RECORD_LEN);
+            for record in records.filter(|record| record[OP_AT] == REWIRE) {
+                if record[KEY_AT..SECOND_AT] == record[SECOND_AT..EDIT_AT] {
+                    record[SECOND_AT..EDIT_AT].fill(u8::MAX);
+                }
+            }
+        }
+        _ => return None,
+    }
     Some(seen)
 }

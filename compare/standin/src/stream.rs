@@ -2,6 +2,7 @@
 
 use crate::planted::Planted::{self, *};
 use crate::{lent, lent_mut, number_alone};
+use second::message::{is_long, LENGTHS, NACK};
 use second::refusal::UNSOUND;
 use second::stream::{self, Next, Place, Took};
 use second::Refusal;
@@ -108,8 +109,21 @@ fn next<'b>(planted: Planted, buf: &'b [u8], place: &mut Place) -> Result<Next<'
             place.offset -= 1;
             Ok(Next::Message(&message[..message.len() - 1]))
         }
+        (LongAsShort, Ok(Next::Message(message))) if is_long(message[0]) => {
+            place.at -= 4;
+            place.offset -= 4;
+            Ok(Next::Message(&message[..message.len() - 4]))
+        }
         _ => answer,
     }
+}
+
+/// Whether messages of kinds 1 to 8 add up to this.
+fn is_short_sum(number: usize) -> bool {
+    let lengths = &LENGTHS[1..=NACK as usize];
+    number == 0
+        || number > 100
+        || lengths.iter().any(|&length| length <= number && is_short_sum(number - length))
 }
 
 /// One call, with what is planted in the judging of its place.
@@ -119,6 +133,9 @@ fn judged<T>(
     mut call: impl FnMut(&mut Place) -> Result<T, Refusal>,
 ) -> Result<T, Refusal> {
     let Place { at, offset, .. } = *place;
+    if planted == OldSums && at <= offset && !(is_short_sum(at) && is_short_sum(offset - at)) {
+        return Err(UNSOUND);
+    }
     let answer = call(place);
     match (planted, &answer) {
         (UnsoundAccepted, Err(UNSOUND)) if at <= offset => {

@@ -62,7 +62,7 @@ module _ (out₀ : List ℕ) (to : ℕ) (m : Message) (out : List ℕ) (at q : �
   split e = g .rest ∙ from-in (7 - q) q to m (omega arith) e
 
   -- a message more fits
-  pub fits : member q to ≡ true → (at + lengthOf (kindOf (m .body)) ≤ 246) × (at + 46 ≤ length out)
+  pub fits : member q to ≡ true → (at + lengthOf (kindOf (m .body)) ≤ 246) × (at + lengthOf (kindOf (m .body)) ≤ length out)
   unfolding all
   fits e =
       let l : length (drop at all) ≡ length one + length (allBytes (messagesFrom (7 - q - 1) (q + 1) to m)) = ap length (split e) ∙ length-append one _ in

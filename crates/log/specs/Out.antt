@@ -22,4 +22,4 @@ outBytes x = allBytes (messages x)
 -- copy q's message, if it has one, fits a room of this length at `at`
 pub record Turn (to : ℕ) (m : Message) (room at q : ℕ) : Type 0 where
   pub copy : q < 7
-  pub fits : member q to ≡ true → (at + lengthOf (kindOf (m .body)) ≤ 246) × (at + 46 ≤ room)
+  pub fits : member q to ≡ true → (at + lengthOf (kindOf (m .body)) ≤ 246) × (at + lengthOf (kindOf (m .body)) ≤ room)

@@ -27,7 +27,7 @@ ghost use Rattle.numbers.specs.Num.{numAt, splice};
 ghost use Rattle.numbers.specs.Fields.{sizeOf};
 ghost use Rattle.codec.specs.Parts.{sentWidths, sentAt, sentBytes, depsBytes};
 ghost use Rattle.paper.specs.Command.{noop};
-ghost use Rattle.paper.specs.Message.{bodyOf, noMessage};
+ghost use Rattle.paper.specs.Message.{kindOf, bodyOf, noMessage};
 ghost use Rattle.wire.specs.Wire.{headSize, commandStart, depsStart, joinedStart, restEnd, lengthOf, kindAt, carriedAt, besideAt, messageAt, OfKind, opAt, editInCommand, offsetOf, widthOf, toldBytes, joinedBytes, part, headBytes, restBytes, messageBytes};
 ghost use Rattle.wire.specs.Calls.{unread, refusalOf, readMessage, wrote};
 
@@ -345,7 +345,7 @@ pub fn read_message(n: usize, s: usize, c: usize, b: &[u8]) -> Received
 }
 
 fn write_head(out: &mut [u8], at: usize, m: Message)
-    requires { ⌜ at + 46 ≤ length (now out) ⌝ }
+    requires { ⌜ (at + 10 ≤ length (now out)) × (at < 256) ⌝ }
     ensures { λ _. ⌜ now (out .exit) ≡ splice (now (out .entry)) at (headBytes m) ⌝ }
 {
     let body = m.body;
@@ -410,7 +410,7 @@ fn write_rest(out: &mut [u8], at: usize, p: Parts, x: Carried, d: [u16; 7])
 
 // Writes a message at an offset, and nothing beyond its length.
 pub fn message_bytes(out: &mut [u8], at: usize, m: Message)
-    requires { ⌜ at + 46 ≤ length (now out) ⌝ }
+    requires { ⌜ (at + lengthOf (kindOf (m .body)) ≤ length (now out)) × (at < 256) ⌝ }
     ensures { λ _. ⌜ now (out .exit) ≡ splice (now (out .entry)) at (messageBytes m) ⌝ }
 {
     let body = m.body;

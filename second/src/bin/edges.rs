@@ -4,8 +4,9 @@
 //! `edges` prints the edge cases, and their count at stderr. `edges FILE`
 //! turns the messages of a recorded run into calls of the reader.
 
-use second::broken::{self, has_command, has_deps, no_op, nothing, ones, valid};
+use second::broken::{self, body_of, has_command, has_deps, no_op, nothing, ones, takes, valid};
 use second::fields::{self, Fields};
+use second::message::{is_long, LAST_KIND, PREPARE, PREPARE_OK};
 use second::rules::Command;
 use second::table::{Record, Vote, RECORD_LEN};
 use second::{blank_table, judge_table, read_message, record_part, write_message, Message};
@@ -126,7 +127,7 @@ fn read_answer(n: usize, s: usize, c: usize, bytes: &[u8]) -> String {
 fn words_of(m: &Message) -> String {
     let names = [m.kind as u64, m.from as u64, m.to as u64, m.owner as u64, m.number as u64];
     let rest = [m.ballot as u64, m.voted as u64, m.status as u64, m.joined as u64, m.op as u64];
-    let last = [m.key as u64, m.edit];
+    let last = [m.key as u64, m.second as u64, m.edit];
     let words = names.into_iter().chain(rest).chain(last).chain(m.deps.map(u64::from));
     words.map(|x| x.to_string()).collect::<Vec<_>>().join(" ")
 }
@@ -157,7 +158,7 @@ fn bytes_of(m: &Message) -> Vec<u8> {
     let mut b = vec![m.kind, m.from, m.to, m.owner];
     b.extend(m.number.to_le_bytes());
     b.extend(m.ballot.to_le_bytes());
-    if m.kind == 7 {
+    if body_of(m.kind) == PREPARE_OK {
         b.extend(m.voted.to_le_bytes());
         b.push(m.status);
     }
@@ -167,6 +168,9 @@ fn bytes_of(m: &Message) -> Vec<u8> {
     if has_command(m.kind) {
         b.push(m.op);
         b.extend(m.key.to_le_bytes());
+        if is_long(m.kind) {
+            b.extend(m.second.to_le_bytes());
+        }
         b.extend(m.edit.to_le_bytes());
     }
     if has_deps(m.kind) {
@@ -206,10 +210,26 @@ fn command_changed(m: Message) -> Vec<Message> {
     if !has_command(m.kind) {
         return Vec::new();
     }
+    if is_long(m.kind) {
+        return keys_changed(m);
+    }
     let noops = [(0, 0, 0), (0, 1, 0), (0, 1 << 31, 0), (0, 0, 1), (0, 0, 1 << 63)];
     let others = [(1, 0, 0), (3, 0, 0), (255, 7, 9)];
     let with = |(op, key, edit)| Message { op, key, edit, ..m };
     noops.into_iter().chain(others).map(with).collect()
+}
+
+/// Of a message with a rewire: its keys at both sides of each other, every byte of them, and other ops.
+fn keys_changed(m: Message) -> Vec<Message> {
+    const MOST: u32 = u32::MAX;
+    let mut keys = vec![(0, 0), (0, 1), (1, 0), (7, 7), (7, 8), (8, 7)];
+    keys.extend([(0, MOST), (MOST - 1, MOST), (MOST, MOST), (MOST, 0), (255, 256), (256, 255)]);
+    keys.extend([(1 << 31, 1), (1, 1 << 31), (0x0100_0000, 0x00ff_ffff)]);
+    let mut all: Vec<Message> =
+        keys.into_iter().map(|(key, second)| Message { key, second, ..m }).collect();
+    all.extend([0, 1, 2, 4, 255].map(|op| Message { op, ..m }));
+    all.extend([no_op(&m), Message { edit: 0, ..m }, Message { edit: u64::MAX, ..m }]);
+    all
 }
 
 fn deps_changed(n: usize, s: usize, m: Message) -> Vec<Message> {
@@ -241,7 +261,7 @@ fn entries(n: usize, s: usize, base: [u16; 7]) -> Vec<[u16; 7]> {
 /// What only kinds 7 and 8 carry.
 fn rest_changed(n: usize, m: Message) -> Vec<Message> {
     let mut all = Vec::new();
-    if m.kind == 7 {
+    if body_of(m.kind) == PREPARE_OK {
         let near = [m.ballot - 1, m.ballot, m.ballot + 1, m.ballot + 8];
         all.extend(ballots(n).into_iter().chain(near).map(|voted| Message { voted, ..m }));
         all.extend([0, 1, 2, 3, 4, 255].map(|status| Message { status, ..m }));
@@ -257,7 +277,7 @@ fn rest_changed(n: usize, m: Message) -> Vec<Message> {
 /// Status 0 with all else zero, and with each other thing set.
 fn told_nothing(m: Message) -> Vec<Message> {
     let nothing = nothing(&m);
-    let mut all = vec![nothing];
+    let mut all = vec![nothing, Message { voted: 0, status: 0, ..m }];
     all.extend([
         Message { voted: 8, ..nothing },
         Message { op: 1, ..nothing },
@@ -291,13 +311,16 @@ fn leads_changed(n: usize, m: Message) -> Vec<Message> {
 
 fn messages(script: &mut Script, c: usize) {
     let (n, s) = (script.n, script.s);
-    for kind in 1..=8 {
+    for kind in 1..=LAST_KIND {
         let m = valid(n, c, kind, 3);
-        let mut all = names_changed(n, s, m);
-        all.extend(command_changed(m));
-        all.extend(deps_changed(n, s, m));
-        all.extend(rest_changed(n, m));
-        if !matches!(kind, 6 | 7) {
+        let mut all = command_changed(m);
+        // A long kind has the rest of a short one: at the first copy alone, so that the calls do not get too many.
+        if c == 0 || !is_long(kind) {
+            all.extend(names_changed(n, s, m));
+            all.extend(deps_changed(n, s, m));
+            all.extend(rest_changed(n, m));
+        }
+        if !matches!(body_of(kind), PREPARE | PREPARE_OK) {
             let first = valid(n, c, kind, 0);
             all.push(first);
             let no_op = no_op(&first);
@@ -314,7 +337,7 @@ fn messages(script: &mut Script, c: usize) {
 
 /// A known kind at every length, and every kind at some.
 fn lengths(script: &mut Script, c: usize) {
-    for kind in 1..=8 {
+    for kind in 1..=LAST_KIND {
         let bytes = bytes_of(&valid(script.n, c, kind, 3));
         for length in 0..=64 {
             let mut cut = bytes.clone();
@@ -326,8 +349,13 @@ fn lengths(script: &mut Script, c: usize) {
 
 fn kinds(script: &mut Script, c: usize) {
     for kind in 0..=255 {
-        for length in [1, 9, 10, 37, 64] {
-            let like = if length == 10 { 4 } else { 1 };
+        for length in [1, 10, 37, 41, 46] {
+            let like = match length {
+                10 => 4,
+                41 => 9,
+                46 => 12,
+                _ => 1,
+            };
             let mut bytes = bytes_of(&valid(script.n, c, like, 3));
             bytes.resize(length, 0);
             bytes[0] = kind;
@@ -338,7 +366,7 @@ fn kinds(script: &mut Script, c: usize) {
 
 fn writer(script: &mut Script, c: usize) {
     let n = script.n;
-    for kind in 1..=8 {
+    for kind in 1..=LAST_KIND {
         let m = valid(n, c, kind, 3);
         script.write(c, 256, &m);
         script.write(c, 0, &m);
@@ -349,6 +377,10 @@ fn writer(script: &mut Script, c: usize) {
         script.write(c, 300, &m);
         for to in [m.from, n as u8, 255] {
             script.write(c, 256, &Message { to, ..m });
+        }
+        if has_command(kind) {
+            script.write(c, 256, &Message { second: m.key, ..m });
+            script.write(c, 256, &Message { second: 1, deps: [u16::MAX; 7], ..m });
         }
         for q in [0, 6] {
             let mut beside = m;
@@ -370,14 +402,17 @@ fn clauses(script: &mut Script, c: usize) {
     });
 }
 
-/// The message of a line with these numbers. A line has a kind and an op, and beside what the kind carries it can have
-/// dependencies only.
+/// The message of a line with these numbers. A line has a kind and an op that go together, and beside what the kind
+/// carries it can have dependencies, and a second key where it has a first.
 fn said(f: &Fields) -> Option<Message> {
     let kind = f[0] as u8;
+    if !(1..=LAST_KIND).contains(&kind) {
+        return None;
+    }
     let m = fields::cut(f, kind);
     let carried = (has_command(kind) || m.command() == Command::default())
-        && (kind == 7 || (m.voted, m.status) == (0, 0));
-    ((1..=8).contains(&kind) && m.op <= 2 && carried).then_some(m)
+        && (body_of(kind) == PREPARE_OK || (m.voted, m.status) == (0, 0));
+    (takes(kind, f[8]) && carried).then_some(m)
 }
 
 /// A record, and where it stands.
@@ -388,7 +423,7 @@ struct Case {
 }
 
 fn write_command() -> Command {
-    Command { op: 2, key: 7, edit: 9 }
+    Command { op: 2, key: 7, second: 0, edit: 9 }
 }
 
 fn voted_at(n: usize, voted: u32, status: u8) -> Vote {
@@ -448,6 +483,34 @@ impl Cases {
     }
 }
 
+const fn command(op: u8, key: u32, second: u32, edit: u64) -> Command {
+    Command { op, key, second, edit }
+}
+
+/// Each op with keys and an edit at both sides of what it may have.
+const COMMANDS: [Command; 20] = [
+    command(0, 0, 0, 0),
+    command(0, 1, 0, 0),
+    command(0, 0, 1, 0),
+    command(0, 0, 0, 1),
+    command(1, 0, 0, 0),
+    command(1, 7, 0, 9),
+    command(1, 0, 1, 0),
+    command(1, 7, 8, 9),
+    command(2, 1, 0, 1),
+    command(2, 0, 1 << 31, 0),
+    command(2, 7, 8, 9),
+    command(3, 0, 0, 0),
+    command(3, 0, 1, 0),
+    command(3, 7, 8, 9),
+    command(3, 7, 7, 9),
+    command(3, 8, 7, 9),
+    command(3, 0xff, 0x100, 0),
+    command(3, u32::MAX - 1, u32::MAX, u64::MAX),
+    command(4, 7, 8, 9),
+    command(255, 0, 1, 0),
+];
+
 /// What is asked of every record, whatever its phase.
 fn ranges(cases: &mut Cases, n: usize, c: usize) {
     for b in few_ballots(n) {
@@ -462,8 +525,8 @@ fn ranges(cases: &mut Cases, n: usize, c: usize) {
         cases.with_own(c, |v| v.status = status);
         cases.with(|x| (x.record.own.status, x.record.mark) = (status, 1));
     }
-    for (op, key, edit) in [(0, 0, 0), (0, 1, 0), (0, 0, 1), (1, 0, 0), (3, 0, 0)] {
-        cases.with_own(c, |v| v.command = Command { op, key, edit });
+    for command in COMMANDS {
+        cases.with_own(c, |v| v.command = command);
     }
     for mark in [1, 2, 255] {
         cases.with(|x| x.record.mark = mark);
@@ -532,8 +595,8 @@ fn replies(cases: &mut Cases, n: usize, q: usize) {
     for status in [0, 1, 2, 3, 4, 255] {
         cases.with(|x| x.record.replies[q].status = status);
     }
-    for (op, key, edit) in [(0, 0, 0), (0, 1, 0), (0, 0, 1), (1, 0, 0), (2, 1, 1), (3, 0, 0)] {
-        cases.with(|x| x.record.replies[q].command = Command { op, key, edit });
+    for command in COMMANDS {
+        cases.with(|x| x.record.replies[q].command = command);
     }
     cases.with(|x| x.record.replies[q].deps[0] ^= 1);
     cases.with(|x| x.record.replies[q] = Vote::default());
@@ -546,8 +609,8 @@ fn replies(cases: &mut Cases, n: usize, q: usize) {
 fn nothing_voted(cases: &mut Cases, c: usize) {
     cases.with_own(c, |v| *v = Vote::default());
     cases.with_own(c, |v| *v = Vote { voted: 8, ..Vote::default() });
-    for (op, key, edit) in [(0, 1, 0), (0, 0, 1), (1, 0, 0), (2, 0, 0)] {
-        cases.with_own(c, |v| *v = Vote { command: Command { op, key, edit }, ..Vote::default() });
+    for command in COMMANDS {
+        cases.with_own(c, |v| *v = Vote { command, ..Vote::default() });
     }
     for q in [0, 2, 6] {
         cases.with_own(c, |v| {
@@ -757,7 +820,8 @@ fn one_setup(script: &mut Script, c: usize) {
 
 /// Lines that the program cannot read: what it says of them is its own.
 fn bad_lines(script: &mut Script) {
-    let fields = "1 0 1 0 1 0 0 0 0 2 7 9 0 0 0 0 0 0 0";
+    let fields = "1 0 1 0 1 0 0 0 0 2 7 0 9 0 0 0 0 0 0 0";
+    let rewire = "9 0 1 0 1 0 0 0 0 3 7 8 9 0 0 0 0 0 0 0";
     let hex = "00".repeat(301);
     let lines = [
         "x read -".into(),
@@ -772,9 +836,13 @@ fn bad_lines(script: &mut Script) {
         format!("0 write 301 {fields}"),
         format!("0 write 256 {fields} 0"),
         format!("0 write {fields}"),
-        format!("0 write 256 {}", fields.replacen('1', "9", 1)),
+        format!("0 write 256 {}", fields.replacen('1', "13", 1)),
         format!("0 write 256 {}", fields.replacen('1', "0", 1)),
         format!("0 write 256 {}", fields.replace(" 2 ", " 3 ")),
+        format!("0 write 256 {}", fields.replacen('1', "9", 1)),
+        format!("0 write 256 {}", rewire.replacen('9', "1", 1)),
+        format!("0 write 256 {}", rewire.replace(" 3 ", " 4 ")),
+        format!("0 write 256 {}", rewire.replace(" 8 ", " 4294967296 ")),
         format!("0 write 256 {}", fields.replace(" 7 ", " 4294967296 ")),
         format!("0 write 256 {}", fields.replace(" 9 ", " 18446744073709551616 ")),
         format!("0 judge {} 0 1 0 -", table_length(7, 64) + 1),

@@ -1,13 +1,13 @@
 //! Prints runs whose calls have bad arguments or bad tables, each call followed
 //! by the answer that this library gives, for the proved program `runs` to
 //! play. Answers end with checksums of the table and of the room after the call.
-//! Then reads and writes, of one key and of two; and streams, in a run that is
-//! not watched.
+//! Then reads, writes and rewires, which share a key or do not; and streams, in a
+//! run that is not watched.
 
-use second::message::{length_of, COMMIT, PRE_ACCEPT};
-use second::rules::{NO_OP, READ, WRITE};
+use second::message::{kind_of, length_of, COMMIT, LAST_KIND, PRE_ACCEPT};
+use second::rules::{Command, NO_OP, READ, REWIRE, WRITE};
 use second::stream::Stream;
-use second::table::RECORD_LEN;
+use second::table::{MARK_AT, RECORD_LEN};
 use second::{
     blank_table, hand_out, message, nudge, recover, request, settled, table_len, Event, Refusal,
     Settled,
@@ -17,6 +17,10 @@ use std::fmt::Write;
 /// Lent room before a call, to see what the call leaves alone.
 const UNTOUCHED: u8 = 0xee;
 const LAST_ROUND: u32 = u32::MAX - 7;
+// In a record, after its mark.
+const PHASE_AT: usize = MARK_AT + 1;
+const SET_AT: usize = MARK_AT + 2;
+const REPLIES_AT: usize = MARK_AT + 3;
 
 /// How calls are made, and the table of copy 0, at which all of them are.
 struct Run {
@@ -93,10 +97,14 @@ impl Run {
         self.answer(call, told, &room);
     }
 
-    /// An op that is no byte is no read or write either.
     fn request(&mut self, op: usize, key: u32, edit: u64) {
-        self.event(format!("request {op} {key} {edit}"), |t, n, s, c, room| {
-            request(t, n, s, c, room, u8::try_from(op).unwrap_or(u8::MAX), key, edit)
+        self.request_of(op, key, 0, edit);
+    }
+
+    /// An op that is no byte is none of the paper's either.
+    fn request_of(&mut self, op: usize, key: u32, second: u32, edit: u64) {
+        self.event(format!("request {op} {key} {second} {edit}"), |t, n, s, c, room| {
+            request(t, n, s, c, room, u8::try_from(op).unwrap_or(u8::MAX), key, second, edit)
         });
     }
 
@@ -116,7 +124,9 @@ impl Run {
 
     fn settled(&mut self, o: usize, j: usize) {
         let told = match settled(&self.table[..self.length], self.n, self.s, self.copy, o, j) {
-            Ok(Settled::Command { op, key, edit }) => format!("settled {op} {key} {edit}"),
+            Ok(Settled::Command { op, key, second, edit }) => {
+                format!("settled {op} {key} {second} {edit}")
+            }
             Ok(Settled::Waits { owner, number }) => format!("waits {owner} {number}"),
             Err(r) => format!("refused {r}"),
         };
@@ -156,18 +166,29 @@ fn accept_ok(o: u8, j: u8) -> [u8; 10] {
 
 /// A Commit from copy 1 to copy 0 of a write, with these dependencies.
 fn commit(o: u8, j: u8, edit: u8, deps: [u8; 3]) -> Vec<u8> {
-    with_command(COMMIT, (o, j), (WRITE, 7, edit), deps)
+    with_command(COMMIT, (o, j), &of_one(WRITE, 7, edit as u64), deps)
 }
 
-/// A message from copy 1 to copy 0 at ballot 0, with this op, key and edit.
-fn with_command(kind: u8, (o, j): (u8, u8), command: (u8, u8, u8), deps: [u8; 3]) -> Vec<u8> {
-    let (op, key, edit) = command;
-    let mut bytes = vec![kind, 1, 0, o, j, 0, 0, 0, 0, 0, op, key, 0, 0, 0, edit];
-    bytes.resize(23, 0);
+fn of_one(op: u8, key: u32, edit: u64) -> Command {
+    Command { op, key, second: 0, edit }
+}
+
+fn rewire(key: u32, second: u32, edit: u64) -> Command {
+    Command { op: REWIRE, key, second, edit }
+}
+
+/// A message from copy 1 to copy 0 at ballot 0, of the kind that this body has with this command.
+fn with_command(body: u8, (o, j): (u8, u8), command: &Command, deps: [u8; 3]) -> Vec<u8> {
+    let mut bytes = vec![kind_of(body, command.op), 1, 0, o, j, 0, 0, 0, 0, 0, command.op];
+    bytes.extend(command.key.to_le_bytes());
+    if command.op == REWIRE {
+        bytes.extend(command.second.to_le_bytes());
+    }
+    bytes.extend(command.edit.to_le_bytes());
     for d in deps {
         bytes.extend([d, 0]);
     }
-    bytes.resize(37, 0);
+    bytes.extend([0; 8]);
     bytes
 }
 
@@ -211,6 +232,7 @@ fn rooms(run: &mut Run) {
         run.give(room);
         run.every_call();
         run.request(3, 7, 100);
+        run.request_of(3, 7, 8, 100);
         run.message(&[]);
     }
 }
@@ -219,12 +241,25 @@ fn arguments(run: &mut Run, n: usize, s: usize) {
     for op in [0, 1, 2, 3, 255, 256, 257, 258] {
         run.request(op, u32::MAX, u64::MAX);
     }
+    keys(run);
     for (o, j) in [(0, 0), (n, 1), (0, s + 1), (256, 1), (0, 256 + 1), (n - 1, s), (0, 1)] {
         run.settled(o, j);
         run.nudge(o, j);
         run.recover(o, j);
     }
     messages(run, n, s);
+}
+
+/// Keys that rise, are equal and fall, with every op; where only a rewire may have two, and only rising ones.
+fn keys(run: &mut Run) {
+    const MOST: u32 = u32::MAX;
+    for op in [1, 2, 3, 4, 256 + 3] {
+        for (key, second) in [(0, 0), (0, 1), (1, 1), (2, 1), (MOST, 0), (MOST, MOST)] {
+            run.request_of(op, key, second, 5);
+        }
+    }
+    run.request_of(3, 0, MOST, 5);
+    run.request_of(3, MOST - 1, MOST, 5);
 }
 
 /// One message for each reason not to take it.
@@ -239,6 +274,15 @@ fn messages(run: &mut Run, n: usize, s: usize) {
     to_another[2] = 2;
     run.message(&to_another);
     run.message(&commit(0, 1, 9, [s as u8 + 1, 0, 0]));
+    let whole = with_command(COMMIT, (0, 1), &rewire(7, 8, 9), [0; 3]);
+    for (at, byte) in [(0, COMMIT), (10, WRITE), (15, 7), (15, 6), (27, s as u8 + 1)] {
+        let mut bytes = whole.clone();
+        bytes[at] = byte;
+        run.message(&bytes);
+    }
+    let mut in_a_short_kind = commit(0, 1, 9, [0; 3]);
+    in_a_short_kind[10] = REWIRE;
+    run.message(&in_a_short_kind);
 }
 
 /// Requests until no blank record is left.
@@ -271,31 +315,39 @@ fn lists(run: &mut Run) {
     }
 }
 
-/// Every op after every other, of one key and of two: a request after a Commit, and a PreAccept after both.
+/// Every op after every other, with one key and with another: a request after a Commit, and a PreAccept after both.
+/// Key 0 is a key too, though the second key of what has none is 0 as well.
 fn pairs(run: &mut Run) {
-    for (first, key) in [(NO_OP, 0), (READ, 7), (WRITE, 7)] {
-        for (op, its) in [(READ, key), (WRITE, key), (READ, 8), (WRITE, 8)] {
+    let noops = [Command::default()];
+    let ones = [0, 7, 8, 9].into_iter().flat_map(|key| [READ, WRITE].map(|op| of_one(op, key, 9)));
+    let rewires = [(0, 7), (7, 8), (8, 9), (7, 9), (0, 9)].map(|(a, b)| rewire(a, b, 9));
+    let all: Vec<Command> = noops.into_iter().chain(ones).chain(rewires).collect();
+    for first in &all {
+        for second in all.iter().filter(|second| second.op != NO_OP) {
             run.begin(3, 2);
-            run.message(&with_command(COMMIT, (1, 1), (first, key, key), [0; 3]));
-            run.request(op as usize, its as u32, 9);
-            run.message(&with_command(PRE_ACCEPT, (1, 2), (op, its, 9), [0; 3]));
+            run.message(&with_command(COMMIT, (1, 1), first, [0; 3]));
+            run.request_of(second.op as usize, second.key, second.second, second.edit);
+            run.message(&with_command(PRE_ACCEPT, (1, 2), second, [0; 3]));
         }
     }
 }
 
-/// A row with reads above a write and a write above reads, and after each request what either op of another owner sees.
+/// A row with reads above a write, a write above reads and rewires over and under both, and after each request what
+/// another owner's command sees.
 fn row(run: &mut Run) {
-    for op in [READ, WRITE] {
-        run.begin(3, 8);
-        for (j, own) in (1..).zip([READ, READ, WRITE, READ, READ, WRITE, WRITE, READ]) {
-            run.request(own as usize, 7, 100);
-            run.message(&with_command(PRE_ACCEPT, (1, j), (op, 7, 9), [0; 3]));
+    for other in [of_one(READ, 7, 9), of_one(WRITE, 7, 9), rewire(7, 9, 9), rewire(8, 9, 9)] {
+        run.begin(3, 11);
+        let ones = [READ, READ, WRITE, READ, READ, WRITE, WRITE, READ].map(|op| of_one(op, 7, 100));
+        let rewires = [rewire(7, 8, 100), rewire(0, 9, 100), rewire(6, 7, 100)];
+        for (j, own) in (1..).zip(ones.iter().chain(&rewires)) {
+            run.request_of(own.op as usize, own.key, own.second, own.edit);
+            run.message(&with_command(PRE_ACCEPT, (1, j), &other, [0; 3]));
         }
     }
 }
 
 /// One damage for each clause of soundness, on a blank table or on one with a request in 0.1.
-const DAMAGES: [(bool, usize, &[u8]); 28] = [
+const DAMAGES: [(bool, usize, &[u8]); 33] = [
     (false, 0, &[7]),
     (false, 0, &[0, 0, 0, 0, 1]),
     (false, 4, &[8, 0, 0, 0]),
@@ -305,25 +357,30 @@ const DAMAGES: [(bool, usize, &[u8]); 28] = [
     (false, 9, &[3]),
     (false, 10, &[1]),
     (false, 14, &[1]),
-    (false, 22, &[1]),
-    (false, 34, &[1]),
-    (false, 36, &[1]),
-    (false, 36, &[2]),
-    (false, 37, &[1]),
-    (false, 37, &[2]),
-    (false, 37, &[3]),
-    (false, 37, &[4]),
-    (false, 38, &[2]),
-    (false, 39, &[1]),
+    (false, 18, &[1]),
+    (false, 26, &[1]),
+    (false, 38, &[1]),
+    (false, MARK_AT, &[1]),
+    (false, MARK_AT, &[2]),
+    (false, PHASE_AT, &[1]),
+    (false, PHASE_AT, &[2]),
+    (false, PHASE_AT, &[3]),
+    (false, PHASE_AT, &[4]),
+    (false, SET_AT, &[2]),
+    (false, REPLIES_AT, &[1]),
     (false, RECORD_LEN - 1, &[1]),
     (true, 4, &[8]),
     (true, 8, &[3]),
     (true, 8, &[4]),
-    (true, 9, &[0, 0, 0, 0, 0, 0, 0, 0, 0, 0, 0, 0, 0]),
-    (true, 22, &[255, 255]),
-    (true, 38, &[1]),
-    (true, 38, &[2, 1]),
-    (true, 38, &[255]),
+    (true, 9, &[0; 17]),
+    (true, 9, &[3]),
+    (true, 9, &[4]),
+    (true, 9, &[3, 7, 0, 0, 0, 7]),
+    (true, 14, &[8]),
+    (true, 26, &[255, 255]),
+    (true, SET_AT, &[1]),
+    (true, SET_AT, &[2, 1]),
+    (true, SET_AT, &[255]),
 ];
 
 fn unsound(run: &mut Run, n: usize, s: usize) {
@@ -388,7 +445,7 @@ fn take(text: &mut String, stream: &mut Stream, bytes: &[u8]) {
 /// A message of each kind, all its bytes different.
 fn all_kinds() -> Vec<u8> {
     let mut bytes = Vec::new();
-    for kind in 1..=8 {
+    for kind in 1..=LAST_KIND {
         let length = length_of(kind).expect("a known kind");
         bytes.push(kind);
         bytes.extend((1..length).map(|at| (16 * kind as usize + at) as u8));
@@ -402,12 +459,12 @@ fn pieces(text: &mut String, all: &[u8]) {
         stream(text, room, []);
     }
     stream(text, 64, [&[] as &[u8], &all[..1], &[], &all[1..37], &[], &[], &all[37..61], &[]]);
-    for length in [1, 2, 7, 23, 36, 37, 38, 63, 64] {
+    for length in [1, 2, 7, 23, 36, 37, 38, 40, 41, 46, 63, 64] {
         stream(text, 64, all.chunks(length));
     }
     let thrice = [all, all, all].concat();
-    for room in [64, 65, 73, 100, 128, 210, 211, 212, 300] {
-        stream(text, room, all.chunks(42));
+    for room in [64, 65, 73, 100, 128, 211, 300, 379, 380, 381] {
+        stream(text, room, all.chunks(46));
         greedy_stream(text, room, &thrice);
     }
 }
@@ -415,11 +472,11 @@ fn pieces(text: &mut String, all: &[u8]) {
 /// A byte of no kind stops the stream where a kind is due, and nowhere else; whatever is handed over then.
 fn stops(text: &mut String, all: &[u8]) {
     let nothing: &[u8] = &[];
-    for unknown in [0, 9, 128, 255] {
+    for unknown in [0, 13, 128, 255] {
         stream(text, 64, [&[unknown][..], &[unknown], nothing, &all[..37]]);
-        stream(text, 64, [&[unknown, 4, 6, 8][..], all, nothing]);
+        stream(text, 64, [&[unknown, 4, 6, 8][..], &all[..LONGEST_LINE], nothing]);
         for room in [64, 85, 300] {
-            for (before, length) in [(37, 37), (61, 5), (61, 61), (98, 98), (211, 64), (211, 212)] {
+            for (before, length) in [(37, 37), (61, 5), (61, 61), (98, 98), (252, 64), (380, 300)] {
                 let stopped = [&all[..before], &[unknown], all].concat();
                 stream(text, room, stopped.chunks(length));
             }
@@ -427,7 +484,7 @@ fn stops(text: &mut String, all: &[u8]) {
     }
     for at in 0..37 {
         let mut inside = all[..61].to_vec();
-        inside[at] = 9;
+        inside[at] = 13;
         stream(text, 64, inside.chunks(31));
     }
 }

@@ -3,14 +3,16 @@
 //! keeps a journal, which after each call gives its table, and after a cut what
 //! it goes on with.
 //!
-//! replay RUNS: by the interference of request 4/12, whatever they were recorded by.
-//! replay as-recorded RUNS: by the one that was in force, which the number of the
-//! last change in a run's first line tells.
+//! replay RUNS: by today's rules, whatever they were recorded by.
+//! replay as-recorded RUNS: by those that were in force, which the number of the
+//! last change in a run's first line tells: before 4/12 another interference.
+//! (Before 5/12 kinds 9 to 12 were unknown, and no run from then has one.)
 
 use second::journal::{self, length_of, mark_entry, record_entry};
 use second::refusal::NotReplayed;
 use second::rules::{interfere, same_object, Command};
 use second::stream::{self, Place, Stream};
+use second::table::MARK_AT;
 use second::{
     blank_table, hand_out, judge_table, message_by, nudge, record_part, recover, request_by,
     settled, table_len, Event, Refusal, Settled,
@@ -51,6 +53,8 @@ struct Run {
     n: usize,
     s: usize,
     by: Rule,
+    /// A line with a command has a second key: from 5/12 on.
+    two_keys: bool,
     tables: Vec<Vec<u8>>,
     journals: Vec<Journal>,
     cuts: usize,
@@ -61,11 +65,12 @@ impl Run {
     /// By the first line's words.
     fn start(words: &[&str], as_recorded: bool) -> Result<Run, String> {
         let (n, s) = (number(words, 1)?, number(words, 2)?);
-        let before = as_recorded && number::<u8>(words, 3).unwrap_or(0) < 4;
-        let by = if before { same_object } else { interfere };
+        let change = number::<u8>(words, 3).unwrap_or(0);
+        let by = if as_recorded && change < 4 { same_object } else { interfere };
         let tables = (0..n).map(|copy| blank(n, s, copy)).collect::<Result<_, _>>()?;
         let journals = vec![Journal::default(); n];
-        Ok(Run { n, s, by, tables, journals, cuts: 0, stream: Default::default() })
+        let (cuts, stream) = (0, Default::default());
+        Ok(Run { n, s, by, two_keys: change >= 5, tables, journals, cuts, stream })
     }
 
     /// A stream belongs to no copy.
@@ -157,33 +162,28 @@ impl Run {
     /// The answer as the vectors write it, or what the call did wrong besides.
     fn call(&mut self, copy: usize, words: &[&str]) -> Result<String, String> {
         let (n, s, by) = (self.n, self.s, self.by);
-        let t = &mut self.tables[copy];
-        let before = t.clone();
-        let mut out = [UNTOUCHED; ROOM];
+        let numbers = || Ok::<_, String>((number(words, 2)?, number(words, 3)?));
         let what = *words.get(1).ok_or("no call")?;
         let length = match what {
-            "request" => 5,
+            "request" => 5 + self.two_keys as usize,
             "message" | "handout" => 3,
             _ => 4,
         };
         if words.len() != length {
             return Err("wrong number of words".into());
         }
+        let t = &mut self.tables[copy];
+        let before = t.clone();
+        let mut out = [UNTOUCHED; ROOM];
         let event = match what {
             "request" => {
-                let (op, key, edit) = (number(words, 2)?, number(words, 3)?, number(words, 4)?);
-                request_by(by, t, n, s, copy, &mut out, op, key, edit)
+                let Command { op, key, second, edit } = command(&words[2..])?;
+                request_by(by, t, n, s, copy, &mut out, op, key, second, edit)
             }
             "message" => message_by(by, t, n, s, copy, &mut out, &from_hex(words[2])?),
-            "recover" => recover(t, n, s, copy, &mut out, number(words, 2)?, number(words, 3)?),
-            "nudge" => nudge(t, n, s, copy, &mut out, number(words, 2)?, number(words, 3)?),
-            "settled" => {
-                return Ok(match settled(t, n, s, copy, number(words, 2)?, number(words, 3)?) {
-                    Ok(Settled::Command { op, key, edit }) => format!("settled {op} {key} {edit}"),
-                    Ok(Settled::Waits { owner, number }) => format!("waits {owner} {number}"),
-                    Err(r) => format!("refused {r}"),
-                })
-            }
+            "recover" => numbers().map(|(o, j)| recover(t, n, s, copy, &mut out, o, j))?,
+            "nudge" => numbers().map(|(o, j)| nudge(t, n, s, copy, &mut out, o, j))?,
+            "settled" => return numbers().map(|(o, j)| self.settled(copy, o, j)),
             "handout" => return self.hand_out(copy, number(words, 2)?),
             _ => return Err("unknown call".into()),
         };
@@ -192,6 +192,17 @@ impl Run {
             self.write(copy, record_entry, owner, number)?;
         }
         Ok(told)
+    }
+
+    fn settled(&self, copy: usize, o: usize, j: usize) -> String {
+        match settled(&self.tables[copy], self.n, self.s, copy, o, j) {
+            Ok(Settled::Command { op, key, second, edit }) if self.two_keys => {
+                format!("settled {op} {key} {second} {edit}")
+            }
+            Ok(Settled::Command { op, key, edit, .. }) => format!("settled {op} {key} {edit}"),
+            Ok(Settled::Waits { owner, number }) => format!("waits {owner} {number}"),
+            Err(r) => format!("refused {r}"),
+        }
     }
 
     fn hand_out(&mut self, copy: usize, room: usize) -> Result<String, String> {
@@ -206,6 +217,18 @@ impl Run {
         }
         Ok(told)
     }
+}
+
+/// A request's words: op, key, second key where the run has one, edit.
+fn command(words: &[&str]) -> Result<Command, String> {
+    let last = words.len() - 1;
+    let second = if last == 3 { number(words, 2)? } else { 0 };
+    Ok(Command {
+        op: number(words, 0)?,
+        key: number(words, 1)?,
+        second,
+        edit: number(words, last)?,
+    })
 }
 
 fn blank(n: usize, s: usize, copy: usize) -> Result<Vec<u8>, String> {
@@ -265,7 +288,7 @@ fn handed_out(
     }
     for &code in &list[..count] {
         let (at, _) = record_part(t, n, s, copy, (code / 256) as usize, (code % 256) as usize);
-        marked[at + 36] = 1;
+        marked[at + MARK_AT] = 1;
     }
     if t != marked {
         return Err("changed more than the marks".into());

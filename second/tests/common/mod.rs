@@ -3,12 +3,20 @@
 
 use second::*;
 
+/// The bytes of a vote and of a record, and where its replies begin.
+pub const VOTE: usize = 36;
+pub const RECORD: usize = 295;
+pub const REPLIES: usize = 43;
+/// The length of each kind of message; kind 0 is none.
+pub const LENGTHS: [usize; 13] = [0, 37, 24, 37, 10, 37, 10, 42, 14, 41, 41, 41, 46];
+
 #[derive(Clone, Copy, Debug, Default, PartialEq, Eq)]
 pub struct Vote {
     pub voted: u32,
     pub status: u8,
     pub op: u8,
     pub key: u32,
+    pub second: u32,
     pub edit: u64,
     pub deps: [u16; 7],
 }
@@ -30,7 +38,12 @@ pub fn deps(first: &[u16]) -> [u16; 7] {
 }
 
 pub fn vote(voted: u32, status: u8, op: u8, key: u32, edit: u64, d: &[u16]) -> Vote {
-    Vote { voted, status, op, key, edit, deps: deps(d) }
+    Vote { voted, status, op, key, second: 0, edit, deps: deps(d) }
+}
+
+/// A vote for a rewire.
+pub fn rewire(voted: u32, status: u8, key: u32, second: u32, edit: u64, d: &[u16]) -> Vote {
+    Vote { second, ..vote(voted, status, 3, key, edit, d) }
 }
 
 pub fn reply_deps(d: &[u16]) -> Vote {
@@ -43,25 +56,27 @@ impl Vote {
         b.push(self.status);
         b.push(self.op);
         b.extend(self.key.to_le_bytes());
+        b.extend(self.second.to_le_bytes());
         b.extend(self.edit.to_le_bytes());
         for d in self.deps {
             b.extend(d.to_le_bytes());
         }
-        assert_eq!(b.len(), 32);
+        assert_eq!(b.len(), VOTE);
         b
     }
 
     pub fn from(b: &[u8]) -> Vote {
         let mut d = [0; 7];
         for (q, entry) in d.iter_mut().enumerate() {
-            *entry = u16::from_le_bytes([b[18 + 2 * q], b[19 + 2 * q]]);
+            *entry = u16::from_le_bytes([b[22 + 2 * q], b[23 + 2 * q]]);
         }
         Vote {
             voted: u32::from_le_bytes(b[0..4].try_into().unwrap()),
             status: b[4],
             op: b[5],
             key: u32::from_le_bytes(b[6..10].try_into().unwrap()),
-            edit: u64::from_le_bytes(b[10..18].try_into().unwrap()),
+            second: u32::from_le_bytes(b[10..14].try_into().unwrap()),
+            edit: u64::from_le_bytes(b[14..22].try_into().unwrap()),
             deps: d,
         }
     }
@@ -75,21 +90,21 @@ impl Rec {
         for r in &self.replies {
             b.extend(r.bytes());
         }
-        assert_eq!(b.len(), 263);
+        assert_eq!(b.len(), RECORD);
         b
     }
 
     pub fn from(b: &[u8]) -> Rec {
         let mut replies = [Vote::default(); 7];
         for (q, r) in replies.iter_mut().enumerate() {
-            *r = Vote::from(&b[39 + 32 * q..71 + 32 * q]);
+            *r = Vote::from(&b[REPLIES + VOTE * q..REPLIES + VOTE * (q + 1)]);
         }
         Rec {
             joined: u32::from_le_bytes(b[0..4].try_into().unwrap()),
-            own: Vote::from(&b[4..36]),
-            mark: b[36],
-            phase: b[37],
-            set: b[38],
+            own: Vote::from(&b[4..40]),
+            mark: b[40],
+            phase: b[41],
+            set: b[42],
             replies,
         }
     }
@@ -116,24 +131,24 @@ pub struct Copy {
 
 impl Copy {
     pub fn blank(n: usize, s: usize, copy: usize) -> Copy {
-        let mut t = vec![0xff; 3 + 263 * n * s];
+        let mut t = vec![0xff; 3 + RECORD * n * s];
         blank_table(&mut t, n, s, copy).unwrap();
         Copy { n, s, copy, t }
     }
 
     fn at(&self, o: usize, j: usize) -> usize {
-        3 + 263 * (o * self.s + (j - 1))
+        3 + RECORD * (o * self.s + (j - 1))
     }
 
     pub fn put(&mut self, o: usize, j: usize, r: &Rec) -> &mut Copy {
         let at = self.at(o, j);
-        self.t[at..at + 263].copy_from_slice(&r.bytes());
+        self.t[at..at + RECORD].copy_from_slice(&r.bytes());
         self
     }
 
     pub fn get(&self, o: usize, j: usize) -> Rec {
         let at = self.at(o, j);
-        Rec::from(&self.t[at..at + 263])
+        Rec::from(&self.t[at..at + RECORD])
     }
 
     pub fn judge(&self) -> Result<(), Refusal> {
@@ -159,7 +174,7 @@ impl Copy {
             Ok(e) => e,
         };
         let (at, len) = record_part(&self.t, self.n, self.s, self.copy, e.owner, e.number);
-        assert_eq!((at, len), (self.at(e.owner, e.number), 263));
+        assert_eq!((at, len), (self.at(e.owner, e.number), RECORD));
         assert_eq!(self.t[..at], before[..at]);
         assert_eq!(self.t[at + len..], before[at + len..]);
         assert!(out[e.written..].iter().all(|&b| b == 0xa5));
@@ -170,7 +185,7 @@ impl Copy {
     fn split(&self, mut out: &[u8]) -> Vec<Message> {
         let mut all: Vec<Message> = Vec::new();
         while !out.is_empty() {
-            let len = [0, 37, 24, 37, 10, 37, 10, 42, 14][out[0] as usize];
+            let len = LENGTHS[out[0] as usize];
             let to = out[2] as usize;
             let m = read_message(self.n, self.s, to, &out[..len]).expect("valid where it goes");
             assert_eq!(m.from as usize, self.copy);
@@ -192,7 +207,17 @@ impl Copy {
         edit: u64,
     ) -> Result<(Event, Vec<Message>), Refusal> {
         let (n, s, c) = (self.n, self.s, self.copy);
-        self.event(|t, out| request(t, n, s, c, out, op, key, edit))
+        self.event(|t, out| request(t, n, s, c, out, op, key, 0, edit))
+    }
+
+    pub fn rewire(
+        &mut self,
+        key: u32,
+        second: u32,
+        edit: u64,
+    ) -> Result<(Event, Vec<Message>), Refusal> {
+        let (n, s, c) = (self.n, self.s, self.copy);
+        self.event(|t, out| request(t, n, s, c, out, 3, key, second, edit))
     }
 
     pub fn message(&mut self, m: &Message) -> Result<(Event, Vec<Message>), Refusal> {

@@ -1,9 +1,9 @@
-use Prim.Native.Nat.{_+_, _≤_}
+use Prim.Native.Nat.{_+_}
 use native.Mathlib.Omega.{arith}
 use Rattle.numbers.proofs.Laws.{splice-step}
 use Rattle.paper.specs.Message.{partsIn, kindOf, carriedIn}
-use Rattle.wire.specs.Wire.{restEnd, lengthOf, headBytes, restBytes, messageBytes}
-use Rattle.wire.proofs.Laws.{long-enough, end-further, length-headBytes, rest-size}
+use Rattle.wire.specs.Wire.{lengthOf, headBytes, restBytes, messageBytes}
+use Rattle.wire.proofs.Laws.{ten, end-further, length-headBytes, rest-size}
 use borrow.Author.Needs.{needs}
 use Rattle.wire.proofs.message_bytes.Statement.{statement}
 use Rattle.wire.proofs.message_bytes.Tie as tie
@@ -12,7 +12,7 @@ row-in-requires : tie.Need-row-in-requires
 row-in-requires c κs = search needs
 
 write-head-requires : tie.Need-write-head-requires
-write-head-requires c κs = search needs
+write-head-requires c κs = let s = c .before .before .before .before in (omega (arith, s .pre .0, ten (kindOf (s .args .m .body))), s .pre .1)
 
 add-write-rest : tie.Need-add-write-rest
 add-write-rest c = search needs
@@ -26,9 +26,9 @@ write-rest-requires c κs =
     let s = c .before .before .before .before .before .before .before .before .before in
     let at = s .args .at in
     let m = s .args .m in
-    let short : restEnd (partsIn (m .body)) 10 ≤ 46 = long-enough (kindOf (m .body)) in
     let end = end-further (partsIn (m .body)) 10 at in
-    let h = s .pre in
+    let h = s .pre .0 in
+    let near = s .pre .1 in
     rw (c .before .before .before .before .before .before .row-in .ensures) (omega arith, omega arith)
 
 same-length : tie.Need-same-length
@@ -40,9 +40,9 @@ returns c =
     let s = c .before .before .before .before .before .before .before .before .before .before .before .before in
     let at = s .args .at in
     let m = s .args .m in
-    let short : restEnd (partsIn (m .body)) 10 ≤ 46 = long-enough (kindOf (m .body)) in
     let end = end-further (partsIn (m .body)) 10 at in
-    let h = s .pre in
+    let h = s .pre .0 in
+    let near = s .pre .1 in
     let l = s .args .out .now in
     let r = restBytes (partsIn (m .body)) (carriedIn (m .body)) (m .deps) in
     let w = rw (c .before .before .before .before .before .before .before .before .before .row-in .ensures, c .before .before .before .carried-in .ensures) at (c .before .before .write-rest .ensures) in

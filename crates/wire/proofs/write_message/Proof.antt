@@ -1,6 +1,8 @@
 use mathlib.Core.Path.{sym, ap, ap₂, _∙_}
 use Prim.Native.Nat.{ℕ}
+use native.Mathlib.Omega.{arith}
 use borrow.Author.Tests.{not-true, not-false}
+use Rattle.paper.specs.Message.{kindOf}
 use Rattle.paper.specs.Valid.{verdictOn}
 use Rattle.paper.specs.declared.Row.{Row}
 use Rattle.paper.specs.declared.Verdict.{Verdict}
@@ -8,7 +10,7 @@ use Rattle.paper.specs.declared.Verdict.the-variants as verdict
 use Rattle.wire.specs.declared.Writing.the-variants as writing
 use Rattle.wire.specs.Calls.{Wrote}
 use Rattle.wire.specs.Wire.{headSize, restEnd, lengthOf}
-use Rattle.wire.proofs.Laws.{wrote-1, wrote-2, wrote-rest, wrote-blamed}
+use Rattle.wire.proofs.Laws.{long-enough, wrote-1, wrote-2, wrote-rest, wrote-blamed}
 use borrow.Author.Needs.{needs}
 use Rattle.wire.proofs.write_message.Statement.{statement}
 use Rattle.wire.proofs.write_message.Tie as tie
@@ -42,7 +44,7 @@ enum-told : tie.Need-enum-told
 enum-told c = search needs
 
 message-bytes-requires : tie.Need-message-bytes-requires
-message-bytes-requires c κs = search needs
+message-bytes-requires c κs = (omega (arith, c .before .before .before .before .before .before .before .if2 .left, long-enough (kindOf (c .before .before .before .before .before .before .before .before .before .before .before .args .m .body))), omega arith)
 
 rest-end-requires : tie.Need-rest-end-requires
 rest-end-requires c κs = search needs

@@ -21,7 +21,9 @@ addressed-requires : tie.Need-addressed-requires
 addressed-requires c κs = search needs
 
 message-bytes-requires : tie.Need-message-bytes-requires
-message-bytes-requires c κs = c .before .before .before .before .before .pre .fits (sym (c .before .before .before .member .ensures) ∙ not-false _ (c .before .before .if1 .left)) .1
+message-bytes-requires c κs =
+    let f = c .before .before .before .before .before .pre .fits (sym (c .before .before .before .member .ensures) ∙ not-false _ (c .before .before .if1 .left)) in
+    rw (c .addressed .ensures) (f .1, omega (arith, f .0))
 
 size-of-requires : tie.Need-size-of-requires
 size-of-requires c κs = search needs
