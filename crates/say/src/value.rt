@@ -27,16 +27,13 @@ pub fn say(form: &[u8], a: usize, b: usize, c: usize) {
 
 pub fn put_command(out: Text, k: Command) -> Text {
     let op = k.op;
-    let key = wide32(k.key);
-    let edit = size(k.edit);
+    let one = [wide32(k.key), size(k.edit), 0, 0];
+    let two = [wide32(k.key), wide32(k.second), size(k.edit), 0];
     match op {
         Op::Noop => put_bytes(out, b"no-op"),
-        Op::Read => put_form(out, b"read key #", [key, 0, 0, 0]),
-        Op::Write => put_form(out, b"write key # edit #", [key, edit, 0, 0]),
-        Op::Rewire => {
-            let v = [key, wide32(k.second), edit, 0];
-            put_form(out, b"rewire key # to key # edit #", v)
-        }
+        Op::Read => put_form(out, b"read key #", one),
+        Op::Write => put_form(out, b"write key # edit #", one),
+        Op::Rewire => put_form(out, b"rewire key # to key # edit #", two),
     }
 }
 

@@ -28,8 +28,8 @@ fn put_unknown_kind(out: Text, b: &[u8]) -> Text {
     put_form(out, b": there is no kind #", [kind_at(b), 0, 0, 0])
 }
 
-// A rewire's messages are longer than others of their name.
-fn put_long_kind(out: Text, b: &[u8]) -> Text {
+// The name of its kind; a rewire's messages are longer than others of that name.
+fn put_full_name(out: Text, b: &[u8]) -> Text {
     let named = put_kind(out, kind_at(b));
     if is_for_rewire(b) {
         return put_bytes(named, b" of a rewire");
@@ -39,7 +39,7 @@ fn put_long_kind(out: Text, b: &[u8]) -> Text {
 
 fn put_wrong_length(out: Text, b: &[u8]) -> Text {
     let k = kind_at(b);
-    let named = put_long_kind(put_bytes(out, b": "), b);
+    let named = put_full_name(put_bytes(out, b": "), b);
     put_form(
         named,
         b" has # bytes, and this has #",
