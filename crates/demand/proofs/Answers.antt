@@ -43,7 +43,7 @@ use Rattle.closed.proofs.Mark.{Found, nextOut-found}
 use Rattle.closed.specs.Held.{Held}
 use Rattle.closed.proofs.Heard.{valid-instance}
 use Rattle.closed.proofs.Closed.{request-event, message-event, recover-event}
-use Rattle.log.specs.Events.{Outcome, refuse, acted, gated, commandOf, opTaken, requested, received, recovered}
+use Rattle.log.specs.Events.{Outcome, refuse, acted, gated, commandOf, commandTaken, requested, received, recovered}
 use Rattle.log.proofs.Calls.{setup-of, receive-open}
 use Rattle.log.proofs.Outcomes.{request-ok, asked-5, asked-ok, recover-7, recover-ok}
 use Rattle.safety.specs.Run.{Setup}
@@ -51,7 +51,7 @@ use Rattle.demand.proofs.Range.{in-range, number-alike, request-alike, 
 use Rattle.demand.proofs.Records.{records, at-range, alike, blank-table, blank-records, held, put-held, put-records}
 use Rattle.demand.proofs.Written.{reads}
 use Rattle.demand.proofs.Handing.{sound-judged, mark-kept, mark-records, next-table, next-codes}
-use Rattle.demand.proofs.Steps.{gate-is, op-asked}
+use Rattle.demand.proofs.Steps.{gate-is, command-asked}
 
 -- numbers that are in range, by a test
 deps-fit : (d : List ℕ) → length d ≡ 7 → allBelow 7 (λ i. ltb (getD d i 0) (256 ^ 2)) ≡ true → DepsFit d
@@ -65,8 +65,8 @@ abbrev pub fitting : Message → Bool
 fitting m =
     ltb (m .from) 256 && (ltb (m .to) 256 && (ltb (m .owner) 256 && (ltb (m .number) (256 ^ 2) && (ltb (m .ballot) (256 ^ 4)
     && (ltb (carriedIn (m .body) .voted) (256 ^ 4) && (ltb (carriedIn (m .body) .status) 256 && (ltb (carriedIn (m .body) .command .key) (256 ^ 4)
-    && (ltb (carriedIn (m .body) .command .edit) (256 ^ 8) && (ltb (carriedIn (m .body) .joined) (256 ^ 4) && (eqb (length (m .deps)) 7
-    && allBelow 7 (λ i. ltb (getD (m .deps) i 0) (256 ^ 2))))))))))))
+    && (ltb (carriedIn (m .body) .command .second) (256 ^ 4) && (ltb (carriedIn (m .body) .command .edit) (256 ^ 8) && (ltb (carriedIn (m .body) .joined) (256 ^ 4) && (eqb (length (m .deps)) 7
+    && allBelow 7 (λ i. ltb (getD (m .deps) i 0) (256 ^ 2)))))))))))))
 
 pub message-fits : (m : Message) → fitting m ≡ true → MessageFits m
 message-fits m h =
@@ -78,7 +78,8 @@ message-fits m h =
     let (f, h₆) = and-true (ltb (carriedIn (m .body) .voted) (256 ^ 4)) _ h₅ in
     let (g, h₇) = and-true (ltb (carriedIn (m .body) .status) 256) _ h₆ in
     let (i, h₈) = and-true (ltb (carriedIn (m .body) .command .key) (256 ^ 4)) _ h₇ in
-    let (j, h₉) = and-true (ltb (carriedIn (m .body) .command .edit) (256 ^ 8)) _ h₈ in
+    let (q, hₐ) = and-true (ltb (carriedIn (m .body) .command .second) (256 ^ 4)) _ h₈ in
+    let (j, h₉) = and-true (ltb (carriedIn (m .body) .command .edit) (256 ^ 8)) _ hₐ in
     let (k, h₀) = and-true (ltb (carriedIn (m .body) .joined) (256 ^ 4)) _ h₉ in
     let (l, o) = and-true (eqb (length (m .deps)) 7) _ h₀ in
     record {
@@ -87,7 +88,7 @@ message-fits m h =
       owner = ltb-true _ _ c;
       number = ltb-true _ _ d;
       ballot = ltb-true _ _ e;
-      body = record { voted = ltb-true _ _ f; status = ltb-true _ _ g; command = record { key = ltb-true _ _ i; edit = ltb-true _ _ j }; joined = ltb-true _ _ k };
+      body = record { voted = ltb-true _ _ f; status = ltb-true _ _ g; command = record { key = ltb-true _ _ i; second = ltb-true _ _ q; edit = ltb-true _ _ j }; joined = ltb-true _ _ k };
       deps = deps-fit (m .deps) (eqb-true _ _ l) o;
     }
 
@@ -124,28 +125,30 @@ module _ (n s c : ℕ) (t : List ℕ) (u : Records) (h : Holds n s c t u) (out :
         };
       }
 
-  pub request-does : (op key edit : ℕ) → opTaken op ≡ true → CommandFits (commandOf op key edit) → c < n → leb (requestNumber s c u) s ≡ true
-      → Does n s c t out u (requested n s c t out op key edit) c (requestNumber s c u) (onRequest interfere n s c u (commandOf op key edit))
-  unfolding requestNumber commandOk
-  request-does op key edit taken fits copy small =
-      let k : Command = commandOf op key edit in
+  pub request-does : (op key second edit : ℕ) → commandTaken op key second edit ≡ true → CommandFits (commandOf op key second edit) → c < n
+      → leb (requestNumber s c u) s ≡ true
+      → Does n s c t out u (requested n s c t out op key second edit) c (requestNumber s c u) (onRequest interfere n s c u (commandOf op key second edit))
+  unfolding requestNumber
+  request-does op key second edit taken fits copy small =
+      let k : Command = commandOf op key second edit in
       let num : requestNumber s c (recordsIn s t) ≡ requestNumber s c u = number-alike n s (recordsIn s t) (records n s t) (alike n s t) c copy ∙ ap (requestNumber s c) (h .is) in
       let same : onRequest interfere n s c (recordsIn s t) k ≡ onRequest interfere n s c u k =
       request-alike n s (recordsIn s t) (records n s t) (alike n s t) interfere c copy k ∙ ap (λ (v : Records). onRequest interfere n s c v k) (h .is) in
       let l : requestNumber s c u ≤ s = leb-true _ _ small in
       let m : requestNumber s c (recordsIn s t) ≤ s = rw num l in
-      let noop : isNoop k ≡ false = op-asked op taken key edit in
-      let e = open-gate _ ∙ sym (request-ok n s c t out op key edit refl taken) ∙ sym (asked-ok n s c t out k refl m) in
+      let (noop, ok) = command-asked op key second edit taken in
+      let e = open-gate _ ∙ sym (request-ok n s c t out op key second edit refl taken) ∙ sym (asked-ok n s c t out k refl m) in
       does _ c (requestNumber s c u) (onRequest interfere n s c u k) (in-range n s c (requestNumber s c u) copy (blank-above s 1 (u c)) l)
-      (rw (← same) (request-event n s c (setup-of n s c t (h .kept .setup)) (recordsIn s t) (held n s c t (h .kept)) interfere k (rw noop) fits noop m .held))
+      (rw (← same) (request-event n s c (setup-of n s c t (h .kept .setup)) (recordsIn s t) (held n s c t (h .kept)) interfere k ok fits noop m .held))
       (e ∙ ap₂ (λ (i : ℕ) (z : Step). acted s t out c i z) num same)
 
-  pub request-full : (op key edit : ℕ) → opTaken op ≡ true → c < n → ltb s (requestNumber s c u) ≡ true → requested n s c t out op key edit ≡ refuse why.NoBlank t out
-  request-full op key edit taken copy full =
-      let k : Command = commandOf op key edit in
+  pub request-full : (op key second edit : ℕ) → commandTaken op key second edit ≡ true → c < n → ltb s (requestNumber s c u) ≡ true
+      → requested n s c t out op key second edit ≡ refuse why.NoBlank t out
+  request-full op key second edit taken copy full =
+      let k : Command = commandOf op key second edit in
       let num : requestNumber s c u ≡ requestNumber s c (recordsIn s t) = sym (number-alike n s (recordsIn s t) (records n s t) (alike n s t) c copy ∙ ap (requestNumber s c) (h .is)) in
       let l : s < requestNumber s c (recordsIn s t) = rw (← num) (ltb-true s (requestNumber s c u) full) in
-      open-gate _ ∙ sym (request-ok n s c t out op key edit refl taken) ∙ sym (asked-5 n s c t out k refl l)
+      open-gate _ ∙ sym (request-ok n s c t out op key second edit refl taken) ∙ sym (asked-5 n s c t out k refl l)
 
   -- a message that is valid here, as it was written
   pub message-does : (m : Message) → fitting m ≡ true → valid n s c m ≡ true → refused10 (u (m .owner) (m .number)) m ≡ false

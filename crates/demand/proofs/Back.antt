@@ -8,7 +8,7 @@ use mathlib.Core.List.{List, [], _∷_, _++_, map, List·Memᴰ, List·Memᴰ·h
 use lib.Dec.{eqb}
 use lib.ListN.{length, take, replicate}
 use borrow.Author.Tests.{eqb-false, le-ltb}
-use Rattle.paper.specs.Command.{isNoop, Interference, Wide}
+use Rattle.paper.specs.Command.{isNoop, commandOk, Interference, Wide}
 use Rattle.paper.specs.Instance.{instanceOk}
 use Rattle.paper.specs.Valid.{valid}
 use Rattle.paper.specs.declared.Command.{Command}
@@ -48,6 +48,10 @@ use Rattle.demand.proofs.Handing.{Pending, none-pending, hand-answers, 
 use Rattle.demand.proofs.History.{heard}
 use Rattle.demand.proofs.Steps.{gate-is, Brought, ownerIn, numberIn, stepIn, moved, stepped}
 use Rattle.demand.proofs.Bridge.{Beside, Tie, blank-tie, one-copy, here-is, other-stays, after, event-tie, in-memory, question-tie, hand-tie, marked-here, mark-out, mark-tie}
+
+-- what the calls take of a command that is no no-op
+abbrev pub Fits : Command → Type 0
+Fits k = (commandOk k ≡ true) × CommandFits k
 
 in-map : (l : List Message) (m : Message) → List·Memᴰ m l → List·Memᴰ (messageBytes m) (map messageBytes l)
 in-map l m (List·Memᴰ·head e) = List·Memᴰ·head (ap messageBytes e)
@@ -219,14 +223,14 @@ module _ (n s : ℕ) (setup : Setup n s) where
     there : (o j : ℕ) → instanceOk n s o j ≡ true → y .tables c o j ≡ recordIn s (savedTable k) o j
     there o j i = ap (λ (u : Records). u o j) (f .tie .copies c .table) ∙ at-range n s (savedTable k) o j i
 
-    request-back : (w : Interference) → Wide w → (v : Command) → CommandFits v → isNoop v ≡ false → requestNumber s c (y .tables c) ≤ s → (l : List Message)
+    request-back : (w : Interference) → Wide w → (v : Command) → Fits v → isNoop v ≡ false → requestNumber s c (y .tables c) ≤ s → (l : List Message)
         → rules.Among l (messages (onRequest w n s c (y .tables c) v)) → Back x (moved n s y c (request w v) l)
     unfolding asked log.acted
-    request-back w wide v fits noop small l among =
+    request-back w wide v (ok, fits) noop small l among =
         let t : List ℕ = savedTable k in
         let num : requestNumber s c (recordsIn s t) ≤ s =
         rw (number-alike n s (recordsIn s t) (records n s t) (alike n s t) c copy, ← f .tie .copies c .table) small in
-        event-back (request w v) (wide, noop, fits) (wide, noop, fits) (rw (gate-is n s c t room (asked w n s c t room v) kept, le-ltb s (requestNumber s c (recordsIn s t)) num)) l among
+        event-back (request w v) (wide, noop, ok, fits) (wide, noop, ok, fits) (rw (gate-is n s c t room (asked w n s c t room v) kept, le-ltb s (requestNumber s c (recordsIn s t)) num)) l among
 
     receive-back : (w : Interference) → Wide w → (m : Message) → List·Memᴰ m (y .sent) → valid n s c m ≡ true → refused10 (y .tables c (m .owner) (m .number)) m ≡ false → (l : List Message)
         → rules.Among l (messages (onMessage w n s c (y .tables c) m)) → Back x (rules.saved y c (rules.saveOf (m .owner) (m .number) (onMessage w n s c (y .tables c) m)) l)
@@ -268,9 +272,9 @@ module _ (n s : ℕ) (setup : Setup n s) where
       full = record { tie = question-tie n s setup x y (f .tie) c copy o j; still = f .still; saved = f .saved; bytes = f .bytes; read = f .read };
     }
 
-  -- requests whose key and edit are a u32 and a u64
+  -- requests whose keys are as the op has them, each a u32, with an edit that is a u64
   abbrev pub Fitting : List (Happening rules.Settling) → Type 0
-  Fitting l = (o j : ℕ) (k : Command) → List·Memᴰ (requested o j k) l → CommandFits k
+  Fitting l = (o j : ℕ) (k : Command) → List·Memᴰ (requested o j k) l → Fits k
 
   move-back : {y z : rules.State} (x : State) → Full x y → rules.Move n s y z → Fitting (z .history) → Back x z
   move-back {y = y} x f (rules.request c w v l copy wide noop small among) fit =

@@ -35,7 +35,7 @@ use Rattle.table.specs.Table.{recordIn, Kept}
 use Rattle.seen.specs.Records.{recordsIn}
 use Rattle.closed.proofs.Laws.{by-cond, tf}
 use Rattle.closed.proofs.Heard.{valid-instance}
-use Rattle.log.specs.Events.{Outcome, refuse, acted, commandOf, opTaken, asked, requestOpen, receiveOpen, recoverOpen, nudgeOpen, answerNumber}
+use Rattle.log.specs.Events.{Outcome, refuse, acted, commandOf, commandTaken, asked, requestOpen, receiveOpen, recoverOpen, nudgeOpen, answerNumber}
 use Rattle.log.specs.Events as log
 use Rattle.order.specs.Calls.{settledOpen, settled, handedOpen, handed, settlingNumber, handingNumber}
 use Rattle.order.specs.declared.Settling.{Settling}
@@ -99,11 +99,11 @@ module _ (n s : ℕ) (setup : Setup n s) where
   unfolding asked
   asked-fine w c t out v = or-else (ltb s (requestNumber s c (recordsIn s t))) why.NoBlank t out _ refl (done t out _ _ _)
 
-  request-fine : (c : ℕ) (t out : List ℕ) → Kept n s c t → (op key edit : ℕ) → Fine (log.requested n s c t out op key edit)
+  request-fine : (c : ℕ) (t out : List ℕ) → Kept n s c t → (op key second edit : ℕ) → Fine (log.requested n s c t out op key second edit)
   unfolding requestOpen
-  request-fine c t out k op key edit =
-      rw (gate-is n s c t out (requestOpen n s c t out op key edit) k)
-      (or-else (ltb (length out) 256) why.Room t out _ refl (or-else (not (opTaken op)) why.Op t out _ refl (asked-fine interfere c t out (commandOf op key edit))))
+  request-fine c t out k op key second edit =
+      rw (gate-is n s c t out (requestOpen n s c t out op key second edit) k)
+      (or-else (ltb (length out) 256) why.Room t out _ refl (or-else (not (commandTaken op key second edit)) why.Op t out _ refl (asked-fine interfere c t out (commandOf op key second edit))))
 
   open-fine : (c : ℕ) (t out : List ℕ) → Kept n s c t → (call : Call) → Fine (outcome n s c t out call)
   unfolding recoverOpen nudgeOpen
@@ -144,7 +144,7 @@ module _ (n s : ℕ) (setup : Setup n s) where
   unrefused : (c : ℕ) (t : List ℕ) (r : ℕ) → Kept n s c t → ((a : ℕ) → Other a → a ≡ r → ⊥) → Unrefused n s c t r
   unrefused c t r k h =
       record {
-        request = λ out op key edit. h _ (request-fine c t out k op key edit .is);
+        request = λ out op key second edit. h _ (request-fine c t out k op key second edit .is);
         event = λ out call. h _ (open-fine c t out k call .is);
         question = λ o j. h _ (question-fine c t k o j);
         handOut = λ list. h _ (hand-fine c t k list);

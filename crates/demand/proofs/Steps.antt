@@ -39,7 +39,7 @@ use Rattle.closed.proofs.Closed.{request-event, message-event, recover-event, n
 use Rattle.log.specs.declared.Gate.{Gate}
 use Rattle.log.specs.declared.Gate.the-variants.{Open, Shut}
 use Rattle.log.specs.declared.Answer.the-variants.{Event}
-use Rattle.log.specs.Events.{Outcome, refuse, acted, gateOf, gated, through, commandOf, opTaken, asked, requestOpen, receiveOpen, recoverOpen, nudgeOpen, answerNumber}
+use Rattle.log.specs.Events.{Outcome, refuse, acted, gateOf, gated, through, commandOf, opTaken, commandTaken, asked, requestOpen, receiveOpen, recoverOpen, nudgeOpen, answerNumber}
 use Rattle.log.proofs.Calls.{setup-of, receive-open}
 use Rattle.safety.specs.Run.{replaced}
 use Rattle.safety.specs.Run as rules
@@ -69,7 +69,7 @@ gate-is n s c t out rest k = rw (k .setup, k .sound) (go (ltb (length out) 256))
 
 -- what was asked of a call before it is made
 abbrev pub Brought : ℕ → ℕ → List Message → Call → Type 0
-Brought n s l (request w k) = Wide w × (isNoop k ≡ false) × CommandFits k
+Brought n s l (request w k) = Wide w × (isNoop k ≡ false) × (commandOk k ≡ true) × CommandFits k
 Brought n s l (receive w b) = Wide w × Carried n s l b
 Brought n s l (recover o j) = Unit {0}
 Brought n s l (nudge o j) = Unit {0}
@@ -110,28 +110,38 @@ pub record Stepped (n s c : ℕ) (t out : List ℕ) (call : Call) (y : rules.Sta
   pub long : 256 ≤ length out
   pub move : (l : List Message) → rules.Among l (messages (stepIn n s c (y .tables c) call)) → rules.Move n s y (moved n s y c call l)
 
--- a request's op is a read or a write
-pub op-asked : (op : ℕ) → opTaken op ≡ true → (key edit : ℕ) → isNoop (commandOf op key edit) ≡ false
-op-asked zero e key edit = sym e
-op-asked (suc zero) e key edit = refl
-op-asked (suc (suc op)) e key edit = refl
+-- a request's command is no no-op, and has its keys
+pub op-asked : (op : ℕ) → opTaken op ≡ true → (key second edit : ℕ) → isNoop (commandOf op key second edit) ≡ false
+op-asked zero e key second edit = sym e
+op-asked (suc zero) e key second edit = refl
+op-asked (suc (suc zero)) e key second edit = refl
+op-asked (suc (suc (suc op))) e key second edit = refl
 
--- the call, where it answers an event, has taken the op
+pub command-asked : (op key second edit : ℕ) → commandTaken op key second edit ≡ true
+    → (isNoop (commandOf op key second edit) ≡ false) × (commandOk (commandOf op key second edit) ≡ true)
+unfolding commandOk
+command-asked op key second edit e =
+    let (taken, keys) = and-true (opTaken op) _ e in
+    let some = op-asked op taken key second edit in
+    (some, rw (some, keys))
+
+-- the call, where it answers an event, has taken the command
 pub public-request : PublicRequest
 unfolding gated requestOpen
-public-request n s c t out op key edit o j w = by (gateOf n s c t (length out))
+public-request n s c t out op key second edit o j w = by (gateOf n s c t (length out))
   where
     k : Command
-    k = commandOf op key edit
+    k = commandOf op key second edit
 
-    taken : (b : Bool) → opTaken op ≡ b → cond (not b) (refuse why.Op t out) (asked interfere n s c t out k) .answer ≡ Event o j w
-        → (isNoop k ≡ false) × (cond (not b) (refuse why.Op t out) (asked interfere n s c t out k) ≡ asked interfere n s c t out k)
-    taken true e h = (op-asked op e key edit, refl)
+    taken : (b : Bool) → commandTaken op key second edit ≡ b → cond (not b) (refuse why.Op t out) (asked interfere n s c t out k) .answer ≡ Event o j w
+        → (isNoop k ≡ false) × (commandOk k ≡ true) × (cond (not b) (refuse why.Op t out) (asked interfere n s c t out k) ≡ asked interfere n s c t out k)
+    taken true e h = let (some, keys) = command-asked op key second edit e in (some, keys, refl)
     taken false e h = clash (cc)
 
-    by : (g : Gate) → through g t out (cond (not (opTaken op)) (refuse why.Op t out) (asked interfere n s c t out k)) .answer ≡ Event o j w
-        → (isNoop k ≡ false) × (through g t out (cond (not (opTaken op)) (refuse why.Op t out) (asked interfere n s c t out k)) ≡ through g t out (asked interfere n s c t out k))
-    by Open h = taken (opTaken op) refl h
+    by : (g : Gate) → through g t out (cond (not (commandTaken op key second edit)) (refuse why.Op t out) (asked interfere n s c t out k)) .answer ≡ Event o j w
+        → (isNoop k ≡ false) × (commandOk k ≡ true)
+        × (through g t out (cond (not (commandTaken op key second edit)) (refuse why.Op t out) (asked interfere n s c t out k)) ≡ through g t out (asked interfere n s c t out k))
+    by Open h = taken (commandTaken op key second edit) refl h
     by (Shut r) h = clash (cc)
 
 pub public-message : PublicMessage
@@ -146,8 +156,8 @@ module _ (n s c : ℕ) (t out : List ℕ) (k : Kept n s c t) (copy : c < n) (y :
 
   request-step : (w : Interference) (v : Command) → Brought n s (y .sent) (request w v) → answerNumber (outcome n s c t out (request w v) .answer) ≡ 0
       → Stepped n s c t out (request w v) y
-  unfolding asked requestNumber commandOk
-  request-step w v (wide, noop, f) h =
+  unfolding asked requestNumber
+  request-step w v (wide, noop, ok, f) h =
       let j : ℕ = requestNumber s c (recordsIn s t) in
       let x : Step = onRequest w n s c (recordsIn s t) v in
       let a = past _ why.Room t out _ _ (gate-is n s c t out (asked w n s c t out v) k) h in
@@ -158,7 +168,7 @@ module _ (n s c : ℕ) (t out : List ℕ) (k : Kept n s c t) (copy : c < n) (y :
       record {
         is = a .is ∙ d .is ∙ ap₂ (λ (i : ℕ) (z : Step). acted s t out c i z) (sym num) (sym same);
         range = rw num (in-range n s c j copy (blank-above s 1 (recordsIn s t c)) small);
-        closed = rw same (request-event n s c setup (recordsIn s t) (held n s c t k) w v (rw noop) f noop small);
+        closed = rw same (request-event n s c setup (recordsIn s t) (held n s c t k) w v ok f noop small);
         long = ltb-false (length out) 256 (a .test);
         move = λ l among. rules.request c w v l copy wide noop (rw num small) among;
       }

@@ -3,13 +3,14 @@
 use Prim.Native.Nat.{ℕ, _<_, _^_}
 use mathlib.Core.Path.{_≡_, refl, sym, _∙_}
 use mathlib.Core.Logic.{⊎-elim}
-use mathlib.Core.Bool.{true}
+use mathlib.Core.Bool.{true, _&&_}
 use mathlib.Core.List.{List, [], _∷_, map, List·Memᴰ, List·Memᴰ·not-nil, List·Memᴰ·cases-cons}
 use native.Mathlib.Omega.{arith}
 use lib.Dec.{ltb}
 use borrow.Author.Tests.{ltb-true}
 use Rattle.paper.specs.Instance.{instanceOk}
-use Rattle.paper.specs.Command.{noop}
+use Rattle.paper.specs.Command.{noop, commandOk}
+use Rattle.paper.specs.Fits.{CommandFits}
 use Rattle.paper.specs.declared.Command.{Command}
 use Rattle.paper.specs.declared.Record.{Record}
 use Rattle.table.specs.Table.{recordIn}
@@ -17,7 +18,7 @@ use Rattle.closed.proofs.Laws.{three, clash}
 use Rattle.safety.specs.Run.{Happening, requested, answered, Setup}
 use Rattle.safety.specs.Run as rules
 use Rattle.safety.specs.Demand as rules-demand
-use Rattle.safety.proofs.Witness.{fitting, write, read, deps, shown}
+use Rattle.safety.proofs.Witness.{fitting, write, read, other, rewire, deps, shown}
 use Rattle.safety.proofs.Witness as scripts
 use Rattle.demand.specs.Run.{State, savedTable, Start, Run}
 use Rattle.demand.specs.Demand.{inPlace, Committed}
@@ -47,8 +48,10 @@ module _ (n s : ℕ) (setup : Setup n s) where
   fit : (l : List (Happening rules.Settling)) → fitting l ≡ true → Fitting n s setup l
   fit [] h o j k i = absurd (List·Memᴰ·not-nil i)
   fit (requested p q b ∷ l) h o j k i =
-      let (key, edit, rest) = three (ltb (b .key) (256 ^ 4)) (ltb (b .edit) (256 ^ 8)) (fitting l) h in
-      ⊎-elim (λ (e : requested o j k ≡ requested p q b). rw (same e) (record { key = ltb-true (b .key) (256 ^ 4) key; edit = ltb-true (b .edit) (256 ^ 8) edit }))
+      let (ok, numbers, rest) = three (commandOk b) (ltb (b .key) (256 ^ 4) && ltb (b .second) (256 ^ 4) && ltb (b .edit) (256 ^ 8)) (fitting l) h in
+      let (key, second, edit) = three (ltb (b .key) (256 ^ 4)) (ltb (b .second) (256 ^ 4)) (ltb (b .edit) (256 ^ 8)) numbers in
+      let fits : CommandFits b = record { key = ltb-true (b .key) (256 ^ 4) key; second = ltb-true (b .second) (256 ^ 4) second; edit = ltb-true (b .edit) (256 ^ 8) edit } in
+      ⊎-elim (λ (e : requested o j k ≡ requested p q b). rw (same e) (ok, fits))
       (λ (m : List·Memᴰ (requested o j k) l). fit l rest o j k m) (List·Memᴰ·cases-cons i)
     where
       same : _≡_ {A = Happening rules.Settling} (requested o j k) (requested p q b) → k ≡ b
@@ -93,6 +96,11 @@ pub record Shown : Type 0 where
   -- a copy that works by document 01 and then by 4/12, beside others that work by 4/12: one read covers the other
   pub mixed : Reached 3 1 (λ x. Committed 3 1 (inPlace 3 1) x 0 0 1 (read 1) (deps 0 1 0) × Committed 3 1 (inPlace 3 1) x 1 1 1 (read 2) (deps 0 0 0)
       × (x .copies 0 .marks ≡ (1, 1) ∷ (0, 1) ∷ []) × (x .copies 1 .marks ≡ (1, 1) ∷ (0, 1) ∷ []))
+  -- a rewire of two objects, settled and handed out after the write of each
+  pub rewires : Reached 3 1 (λ x. Committed 3 1 (inPlace 3 1) x 2 2 1 (rewire 3) (deps 1 1 0) × Committed 3 1 (inPlace 3 1) x 0 0 1 (write 1) (deps 0 0 0)
+      × Committed 3 1 (inPlace 3 1) x 1 1 1 (other 2) (deps 0 0 0) × (x .copies 2 .marks ≡ (0, 1) ∷ (1, 1) ∷ (2, 1) ∷ [])
+      × (map heard (x .history) ≡ requested 0 1 (write 1) ∷ requested 1 1 (other 2) ∷ requested 2 1 (rewire 3) ∷ answered 2 2 1 (rules.waits 0 1)
+      ∷ answered 2 2 1 (rules.waits 1 1) ∷ answered 2 2 1 (rules.settled (rewire 3)) ∷ []))
 
 -- of five and of seven copies, each beside the moment before, when it is not yet so
 pub record Larger : Type 0 where
@@ -139,6 +147,13 @@ shown-bytes = let r = shown .0 in record {
     sym (t .copies 0 .marks) ∙ h .2,
     sym (t .copies 1 .marks) ∙ h .3,
   )) (r .mixed);
+  rewires = lifted 3 1 three-one _ _ (λ x y t h. (
+    of-rules 3 1 three-one x y t 2 2 1 (rewire 3) (deps 1 1 0) (omega arith) refl (h .0),
+    of-rules 3 1 three-one x y t 0 0 1 (write 1) (deps 0 0 0) (omega arith) refl (h .1),
+    of-rules 3 1 three-one x y t 1 1 1 (other 2) (deps 0 0 0) (omega arith) refl (h .2),
+    sym (t .copies 2 .marks) ∙ h .3,
+    sym (t .history) ∙ h .4,
+  )) (r .rewires);
 }
 
 pub larger-bytes : Larger

@@ -5,11 +5,11 @@ use mathlib.Core.List.{List, [], _∷_}
 use native.Mathlib.Omega.{arith}
 use lib.ListN.{length, replicate}
 use Rattle.numbers.specs.Num.{splice}
-use Rattle.codec.specs.Parts.{commandBytes, depsBytes}
+use Rattle.codec.specs.Parts.{sentBytes, depsBytes}
 use Rattle.wire.specs.Wire.{headBytes, restBytes, messageBytes}
 use lib.Count.{ones}
 use Rattle.paper.specs.Vote.{sameVote, member, voteOk, toldOk, noneIsBlank}
-use Rattle.paper.specs.Command.{sameCommand, commandOk, sameObject, interfere}
+use Rattle.paper.specs.Command.{sameCommand, commandOk, touches, sameObject, interfere}
 use Rattle.paper.specs.Deps.{sameDeps, depsOk, joinFrom, covers}
 use Rattle.paper.specs.Logic.{allBelow}
 use Rattle.paper.specs.Valid.{valid, firstFailing, firstOf, holdsOf, entryClauses}
@@ -71,15 +71,15 @@ two-out t u h o j p i e f g =
     handed-does 3 4 0 t u h (9 ∷ 9 ∷ 9 ∷ []) ∙ (λ k. record { answer = Codes (length (codes k)); table = table k; list = splice (9 ∷ 9 ∷ 9 ∷ []) 0 (codes k) })
 
 pub examples : (out : List ℕ) → 256 ≤ length out → paper.Examples out
-unfolding put requestNumber lowestBlank isBlank sameVote sameCommand sameDeps allBelow onRequest request afresh others bitsBelow messagesFrom member valid firstFailing firstOf holdsOf entryClauses rowOf ballotOk lead commandOk depsOk voteOk toldOk noneIsBlank instanceOk conflict differs onMessage byKind preAccept seenFrom seenEntry highest met sameObject interfere joinFrom onPreAcceptOk awaited collect preAcceptedBy fastEnough slowEnough someEnough matching different committing acceptingJoin accepting joinAll prepare onPrepareOk preparedBy quorum decide acceptedFrom afreshCommand topVoted maybeFast lowestFrom largestBelow onRecover recover ones nextOut firstNumber firstOwner firstOpen candidate isSettled waitsFor reaches reachesIn coversIn covers everywhere somewhere commit commandBytes depsBytes headBytes restBytes messageBytes allBytes acted splice handedOpen
+unfolding put requestNumber lowestBlank isBlank sameVote sameCommand sameDeps allBelow onRequest request afresh others bitsBelow messagesFrom member valid firstFailing firstOf holdsOf entryClauses rowOf ballotOk lead commandOk depsOk voteOk toldOk noneIsBlank instanceOk conflict differs onMessage byKind preAccept seenFrom seenEntry highest met touches sameObject interfere joinFrom onPreAcceptOk awaited collect preAcceptedBy fastEnough slowEnough someEnough matching different committing acceptingJoin accepting joinAll prepare onPrepareOk preparedBy quorum decide acceptedFrom afreshCommand topVoted maybeFast lowestFrom largestBelow onRecover recover ones nextOut firstNumber firstOwner firstOpen candidate isSettled waitsFor reaches reachesIn coversIn covers everywhere somewhere commit sentBytes depsBytes headBytes restBytes messageBytes allBytes acted splice handedOpen
 examples out room =
     let three : Setup 3 4 = record { copies = refl; numbers = refl } in
     let five : Setup 5 4 = record { copies = refl; numbers = refl } in
     let seven : Setup 7 4 = record { copies = refl; numbers = refl } in
     let zero-blank = blank-holds 3 4 three 0 (omega arith) in
-    let asks = request-does 3 4 0 (blankTable 3 4 0) _ zero-blank out room 2 7 100 refl (record { key = omega arith; edit = omega arith }) (omega arith) refl in
+    let asks = request-does 3 4 0 (blankTable 3 4 0) _ zero-blank out room 2 7 0 100 refl (record { key = omega arith; second = omega arith; edit = omega arith }) (omega arith) refl in
     let waits = message-does 3 4 0 paper.askedTable _ (asks .holds) out room (paper.about 1 0 0 PreAcceptOk (deps3 0 1 0)) refl refl refl in
-    let own = request-does 3 4 1 (blankTable 3 4 1) _ (blank-holds 3 4 three 1 (omega arith)) out room 2 7 5 refl (record { key = omega arith; edit = omega arith }) (omega arith) refl in
+    let own = request-does 3 4 1 (blankTable 3 4 1) _ (blank-holds 3 4 three 1 (omega arith)) out room 2 7 0 5 refl (record { key = omega arith; second = omega arith; edit = omega arith }) (omega arith) refl in
     let two-of-seven = blank-holds 7 4 seven 2 (omega arith) in
     let low = message-does 7 4 2 (blankTable 7 4 2) _ two-of-seven out room (paper.about 5 2 13 Prepare noDeps) refl refl refl in
     let last = message-does 7 4 2 (blankTable 7 4 2) _ two-of-seven out room (paper.about 0 2 4_294_967_288 Prepare noDeps) refl refl refl in
@@ -115,7 +115,7 @@ examples out room =
     }
 
 pub limits : (out : List ℕ) → paper.Limits out
-unfolding put requestNumber lowestBlank isBlank sameVote sameCommand sameDeps allBelow onRequest request afresh others bitsBelow messagesFrom member valid firstFailing firstOf holdsOf entryClauses rowOf ballotOk lead commandOk depsOk voteOk toldOk noneIsBlank instanceOk conflict differs onMessage byKind preAccept seenFrom seenEntry highest met sameObject interfere joinFrom onPreAcceptOk awaited collect preAcceptedBy fastEnough slowEnough someEnough matching different committing acceptingJoin accepting joinAll prepare onPrepareOk preparedBy quorum decide acceptedFrom afreshCommand topVoted maybeFast lowestFrom largestBelow onRecover recover ones nextOut firstNumber firstOwner firstOpen candidate isSettled waitsFor reaches reachesIn coversIn covers everywhere somewhere commit commandBytes depsBytes headBytes restBytes messageBytes allBytes acted splice handedOpen handedTable handedCodes handOut
+unfolding put requestNumber lowestBlank isBlank sameVote sameCommand sameDeps allBelow onRequest request afresh others bitsBelow messagesFrom member valid firstFailing firstOf holdsOf entryClauses rowOf ballotOk lead commandOk depsOk voteOk toldOk noneIsBlank instanceOk conflict differs onMessage byKind preAccept seenFrom seenEntry highest met touches sameObject interfere joinFrom onPreAcceptOk awaited collect preAcceptedBy fastEnough slowEnough someEnough matching different committing acceptingJoin accepting joinAll prepare onPrepareOk preparedBy quorum decide acceptedFrom afreshCommand topVoted maybeFast lowestFrom largestBelow onRecover recover ones nextOut firstNumber firstOwner firstOpen candidate isSettled waitsFor reaches reachesIn coversIn covers everywhere somewhere commit sentBytes depsBytes headBytes restBytes messageBytes allBytes acted splice handedOpen handedTable handedCodes handOut
 limits out =
     let three : Setup 3 4 = record { copies = refl; numbers = refl } in
     let blanks = blank-holds 3 4 three 0 (omega arith) in
@@ -124,8 +124,8 @@ limits out =
     let second = message-does 3 4 0 (putRecord 4 (blankTable 3 4 0) 0 1 _) _ (first .holds) room (omega arith) (commitOf 1 (deps3 1 0 0)) refl refl refl in
     record {
       full = λ long.
-          let asks = request-does 3 1 0 (blankTable 3 1 0) _ (blank-holds 3 1 (record { copies = refl; numbers = refl }) 0 (omega arith)) out long 2 7 100 refl (record { key = omega arith; edit = omega arith }) (omega arith) refl in
-          request-full 3 1 0 paper.usedTable _ (asks .holds) out long 2 7 100 refl (omega arith) refl;
+          let asks = request-does 3 1 0 (blankTable 3 1 0) _ (blank-holds 3 1 (record { copies = refl; numbers = refl }) 0 (omega arith)) out long 2 7 0 100 refl (record { key = omega arith; second = omega arith; edit = omega arith }) (omega arith) refl in
+          request-full 3 1 0 paper.usedTable _ (asks .holds) out long 2 7 0 100 refl (omega arith) refl;
       no-place = handed-does 3 4 0 paper.cycleTable _ (second .holds) [];
       short = λ e. room-short 3 4 0 (blankTable 3 4 0) _ blanks out _ (omega (arith, e));
     }

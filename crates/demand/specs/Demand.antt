@@ -53,7 +53,7 @@ inPlace n s =
 module _ (n s : ℕ) where
   -- no call of copy c on the table t, whatever its arguments, is refused r
   pub record Unrefused (c : ℕ) (t : List ℕ) (r : ℕ) : Type 0 where
-    pub request : (out : List ℕ) (op key edit : ℕ) → answerNumber (log.requested n s c t out op key edit .answer) ≡ r → ⊥
+    pub request : (out : List ℕ) (op key second edit : ℕ) → answerNumber (log.requested n s c t out op key second edit .answer) ≡ r → ⊥
     pub event : (out : List ℕ) (call : Call) → answerNumber (outcome n s c t out call .answer) ≡ r → ⊥
     pub question : (o j : ℕ) → settlingNumber (settled n s c t o j) ≡ r → ⊥
     pub handOut : (list : List ℕ) → handingNumber (handed n s c t list .answer) ≡ r → ⊥

@@ -108,7 +108,7 @@ abbrev pub chainTable : List ℕ
 chainTable = putRecord 4 (putRecord 4 (blankTable 3 4 0) 0 1 (doneRecord (deps3 0 0 1))) 2 1 (doneRecord noDeps)
 
 pub record Examples (out : List ℕ) : Type 0 where
-  pub W1 : requested 3 4 0 (blankTable 3 4 0) out 2 7 100 ≡ leaves (blankTable 3 4 0) out (askingRecord 0 (replicate 7 noVote)) 74 (bytesTo 1 ++ bytesTo 2)
+  pub W1 : requested 3 4 0 (blankTable 3 4 0) out 2 7 0 100 ≡ leaves (blankTable 3 4 0) out (askingRecord 0 (replicate 7 noVote)) 74 (bytesTo 1 ++ bytesTo 2)
   pub W2 : received 3 4 0 askedTable out (messageBytes (about 1 0 0 PreAcceptOk noDeps))
       ≡ leaves askedTable out (held 0 (vote 100 0 4 noDeps)) 74 (allBytes (toEach 0 0 (Commit (write 100)) noDeps (1 ∷ 2 ∷ [])))
   pub W3-answers : received 3 4 1 ownTable out (messageBytes (about 0 1 0 (PreAccept (write 100)) noDeps))
@@ -137,6 +137,6 @@ usedTable = putRecord 1 (blankTable 3 1 0) 0 1 (askingRecord 0 (replicate 7 noVo
 
 -- no number is left, no place, or one byte too few
 pub record Limits (out : List ℕ) : Type 0 where
-  pub full : 256 ≤ length out → requested 3 1 0 usedTable out 2 7 100 ≡ refuse NoBlank usedTable out
+  pub full : 256 ≤ length out → requested 3 1 0 usedTable out 2 7 0 100 ≡ refuse NoBlank usedTable out
   pub no-place : handed 3 4 0 cycleTable [] ≡ record { answer = Codes 0; table = cycleTable; list = [] }
-  pub short : length out ≡ 255 → requested 3 4 0 (blankTable 3 4 0) out 2 7 100 ≡ refuse Room (blankTable 3 4 0) out
+  pub short : length out ≡ 255 → requested 3 4 0 (blankTable 3 4 0) out 2 7 0 100 ≡ refuse Room (blankTable 3 4 0) out

@@ -2,10 +2,10 @@
 -- In all of this n, s is the setup, c a copy and o.j an instance.
 use Prim.Native.Nat.{ℕ, zero, suc, _<_}
 use mathlib.Core.Path.{_≡_}
-use mathlib.Core.Bool.{false}
+use mathlib.Core.Bool.{true, false}
 use mathlib.Core.List.{List, [], _∷_, _++_, List·Memᴰ}
 use lib.ListN.{take, drop}
-use Rattle.paper.specs.Command.{isNoop, Interference, interfere, Wide}
+use Rattle.paper.specs.Command.{isNoop, commandOk, Interference, interfere, Wide}
 use Rattle.paper.specs.Fits.{CommandFits}
 use Rattle.paper.specs.declared.Command.{Command}
 use Rattle.rules.specs.Order.{instanceOf}
@@ -65,28 +65,29 @@ pub data Call : Type 0 where
   recover nudge : (o j : ℕ) → Call
 
 -- what it answers on the table t with the room out, and both after it: what the calls' contracts cite. A request is taken
--- behind the test of its op (refusal 4), whatever ops the call takes.
+-- behind the test of its op and keys (refusal 4), whatever ops the call takes.
 abbrev pub outcome : ℕ → ℕ → ℕ → List ℕ → List ℕ → Call → Outcome
 outcome n s c t out (request w k) = gated n s c t out (asked w n s c t out k)
 outcome n s c t out (receive w b) = gated n s c t out (receiveOpen w n s c t out b)
 outcome n s c t out (recover o j) = recovered n s c t out o j
 outcome n s c t out (nudge o j) = nudged n s c t out o j
 
--- wherever the public request answers an event, it is that outcome, of a command that is no no-op; proofs/Steps: public-request
+-- wherever the public request answers an event, it is that outcome, of a command that is no no-op and has its keys; proofs/Steps:
+-- public-request
 abbrev pub PublicRequest : Type 0
-PublicRequest = (n s c : ℕ) (t out : List ℕ) (op key edit o j w : ℕ)
-    → log.requested n s c t out op key edit .answer ≡ Event o j w
-    → (isNoop (commandOf op key edit) ≡ false)
-    × (log.requested n s c t out op key edit ≡ outcome n s c t out (request interfere (commandOf op key edit)))
+PublicRequest = (n s c : ℕ) (t out : List ℕ) (op key second edit o j w : ℕ)
+    → log.requested n s c t out op key second edit .answer ≡ Event o j w
+    → (isNoop (commandOf op key second edit) ≡ false) × (commandOk (commandOf op key second edit) ≡ true)
+    × (log.requested n s c t out op key second edit ≡ outcome n s c t out (request interfere (commandOf op key second edit)))
 
 -- and so is the public call for a message; proofs/Steps: public-message
 abbrev pub PublicMessage : Type 0
 PublicMessage = (n s c : ℕ) (t out b : List ℕ) → log.received n s c t out b ≡ outcome n s c t out (receive interfere b)
 
--- every copy keeps in order at least what interferes; a requested command is no no-op, its key a u32 and its edit a u64; messages
--- are never invented
+-- every copy keeps in order at least what interferes; a requested command is no no-op, has the keys that its op takes, each a u32, and
+-- its edit is a u64; messages are never invented
 abbrev pub Possible : List (List ℕ) → Call → Type 0
-Possible sent (request w k) = Wide w × (isNoop k ≡ false) × CommandFits k
+Possible sent (request w k) = Wide w × (isNoop k ≡ false) × (commandOk k ≡ true) × CommandFits k
 Possible sent (receive w b) = Wide w × List·Memᴰ b sent
 Possible sent (recover o j) = Unit {0}
 Possible sent (nudge o j) = Unit {0}

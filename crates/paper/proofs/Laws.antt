@@ -12,7 +12,7 @@ use lib.Seq.{ext-getD}
 use borrow.Author.Tests.{eqb-true, eq-eqb}
 use Rattle.paper.specs.Logic.{allBelow}
 use Rattle.paper.specs.Deps.{sameDeps}
-use Rattle.paper.specs.Command.{opNumber, sameCommand}
+use Rattle.paper.specs.Command.{opNumber, isNoop, noop, keyOk, secondOk, commandOk, sameCommand}
 use Rattle.paper.specs.declared.Op.{Op}
 use Rattle.paper.specs.declared.Op.the-variants.{Noop, Read, Write, Rewire}
 use Rattle.paper.specs.declared.Command.{Command}
@@ -57,6 +57,18 @@ pub sameCommand-refl : (a : Command) → sameCommand a a ≡ true
 unfolding sameCommand
 sameCommand-refl a =
     rw (eq-eqb (opNumber (a .op)) (opNumber (a .op)) refl, eq-eqb (a .key) (a .key) refl, eq-eqb (a .second) (a .second) refl, eq-eqb (a .edit) (a .edit) refl)
+
+-- a no-op in range is the no-op
+pub noop-only : (k : Command) → commandOk k ≡ true → isNoop k ≡ true → sameCommand k noop ≡ true
+unfolding commandOk sameCommand
+noop-only k h n =
+    let o : opNumber (k .op) ≡ 0 = eqb-true _ _ n in
+    let (keys, edit) = and-true (keyOk k && secondOk k) _ h in
+    let (key, second) = and-true (keyOk k) _ keys in
+    let a : eqb (k .key) 0 ≡ true = rw o at key in
+    let b : eqb (k .second) 0 ≡ true = rw o at second in
+    let c : eqb (k .edit) 0 ≡ true = rw o at edit in
+    rw (o, a, b, c)
 
 -- equal commands are equal
 pub sameCommand-eq : (a b : Command) → sameCommand a b ≡ true → a ≡ b

@@ -12,7 +12,7 @@ use Rattle.paper.specs.Command.{isNoop, noop, sameCommand, keyOk, editOk, comma
 use Rattle.paper.specs.Deps.{noDeps, sameDeps, depsOk}
 use Rattle.paper.specs.Vote.{noVote, sameVote, noneVoted, noneOp, noneEntry, noneIsBlank, votedOk, statusOk, voteOk, member}
 use Rattle.paper.specs.Sound.{soundRecord, replyOk, repliesOk}
-use Rattle.paper.proofs.Laws.{and-true, allBelow-at}
+use Rattle.paper.proofs.Laws.{allBelow-at, noop-only}
 use Rattle.paper.specs.declared.Vote.{Vote}
 use Rattle.paper.specs.declared.Record.{Record}
 use Rattle.rules.specs.Request.{isBlank, lowestBlank}
@@ -30,15 +30,14 @@ use Rattle.table.specs.Table.{Judged}
 
 -- status 0 of a sound record is no vote
 none-voted : (n s : ℕ) (v : Vote) → voteOk n s 4 v ≡ true → noneIsBlank v ≡ true → v .status ≡ 0 → sameVote v noVote ≡ true
-unfolding voteOk noneIsBlank sameDeps allBelow sameVote sameCommand commandOk
+unfolding voteOk noneIsBlank sameDeps allBelow sameVote
 none-voted n s v ok none e =
     let (a, b, c, d) = four (votedOk n v) (statusOk 4 v) (commandOk (v .command)) (depsOk n s (v .deps)) ok in
     let zero = eq-eqb (v .status) 0 e in
     let (voted, noop, deps) = three (noneVoted v) (noneOp v) (allBelow 7 (noneEntry v)) none in
-    let (key, edit) = and-true (keyOk (v .command)) (editOk (v .command)) c in
     let op : isNoop (v .command) ≡ true = imp-at _ _ noop zero in
     let entries : sameDeps (v .deps) noDeps ≡ true = rw zero at deps in
-    both _ _ (both _ _ (both _ _ (imp-at _ _ voted zero) zero) (both _ _ (both _ _ op (imp-at _ _ key op)) (imp-at _ _ edit op))) entries
+    both _ _ (both _ _ (both _ _ (imp-at _ _ voted zero) zero) (noop-only (v .command) c op)) entries
 
 -- nothing collected: every place is zero
 none-told : (n s c : ℕ) (r : Record) → repliesOk n s c r ≡ true → r .set ≡ 0 → allBelow 7 (λ q. sameVote (getD (r .replies) q noVote) noVote) ≡ true

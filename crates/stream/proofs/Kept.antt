@@ -279,11 +279,11 @@ for-good s o e c = go (isStopped (held (s .buffer) (s .place))) (isWhole (held (
         let z : _≡_ {A = ℕ} 0 1 = cc in absurd (omega arith)
 
 -- what is no whole message and does not stop the stream is shorter than the longest message
-short : (h : List ℕ) → isStopped h ≡ false → isWhole h ≡ false → length h < 42
+short : (h : List ℕ) → isStopped h ≡ false → isWhole h ≡ false → length h < 46
 unfolding isStopped isWhole
 short h a b = go (eqb (length h) 0) (rowOf (kindAt h) .known) refl refl
   where
-    go : (e k : Bool) → eqb (length h) 0 ≡ e → rowOf (kindAt h) .known ≡ k → length h < 42
+    go : (e k : Bool) → eqb (length h) 0 ≡ e → rowOf (kindAt h) .known ≡ k → length h < 46
     go true k p q = omega (arith, eqb-true (length h) 0 p)
     go false true p q =
         let w : leb (lengthOf (kindAt h)) (length h) ≡ false = rw q at b in

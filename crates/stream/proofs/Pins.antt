@@ -27,15 +27,17 @@ pub beginnings : (begun 63 ≡ begin.Refused Room) × (begun 64 ≡ begin.At (at
 unfolding begun
 beginnings = (refl, refl)
 
--- all eight kinds, one after another, in any bytes that begin so
-pub kinds : uncut (message 1 37 9 ++ message 2 24 0 ++ message 3 37 9 ++ message 4 10 9 ++ message 5 37 0 ++ message 6 10 9 ++ message 7 42 9 ++ message 8 14 9)
-    ≡ record { messages = message 1 37 9 ∷ message 2 24 0 ∷ message 3 37 9 ∷ message 4 10 9 ∷ message 5 37 0 ∷ message 6 10 9 ∷ message 7 42 9 ∷ message 8 14 9 ∷ []; rest = 211; stopped = false }
+-- all twelve kinds, one after another, in any bytes that begin so
+pub kinds : uncut (message 1 37 9 ++ message 2 24 0 ++ message 3 37 9 ++ message 4 10 9 ++ message 5 37 0 ++ message 6 10 9 ++ message 7 42 9 ++ message 8 14 9 ++ message 9 41 9
+    ++ message 10 41 0 ++ message 11 41 9 ++ message 12 46 9)
+    ≡ record { messages = message 1 37 9 ∷ message 2 24 0 ∷ message 3 37 9 ∷ message 4 10 9 ∷ message 5 37 0 ∷ message 6 10 9 ∷ message 7 42 9 ∷ message 8 14 9
+    ∷ message 9 41 9 ∷ message 10 41 0 ∷ message 11 41 9 ∷ message 12 46 9 ∷ []; rest = 380; stopped = false }
 unfolding uncut wholeIn restIn isWhole isStopped rowOf lengthOf past
 kinds = refl
 
 -- what is left of a message, and a byte that is no kind: the same bytes within a message stop nothing
 pub rests : (uncut (message 4 10 0 ++ message 8 13 9) ≡ record { messages = message 4 10 0 ∷ []; rest = 10; stopped = false })
-    × (uncut (message 4 10 0 ++ 9 ∷ message 4 10 0) ≡ record { messages = message 4 10 0 ∷ []; rest = 10; stopped = true })
+    × (uncut (message 4 10 0 ++ 13 ∷ message 4 10 0) ≡ record { messages = message 4 10 0 ∷ []; rest = 10; stopped = true })
     × (uncut (0 ∷ []) ≡ record { messages = []; rest = 0; stopped = true })
     × (uncut [] ≡ record { messages = []; rest = 0; stopped = false })
 unfolding uncut wholeIn restIn isWhole isStopped rowOf lengthOf past
@@ -64,7 +66,7 @@ rooms = (refl, refl, refl, refl, refl, refl)
 -- where the stream stands still nothing is taken, and the offset is the stream's
 pub standing : (taken buffer (at 14 20 34) (5 ∷ []) ≡ record { told = record { answer = took.Bytes 1; place = at 0 7 34 }; buffer = replicate 6 6 ++ 5 ∷ (7 ∷ 7 ∷ 7 ∷ 1 ∷ 2 ∷ 3 ∷ 4 ∷ []) ++ replicate 50 6 })
     × (taken (0 ∷ replicate 63 1) (at 0 1 10) (1 ∷ []) ≡ unchanged (at 0 1 10) (0 ∷ replicate 63 1) (took.Stopped 10))
-    × (yielded (message 4 10 7 ++ replicate 54 9) (at 10 12 34) ≡ stay (at 10 12 34) (found.Stop 34))
+    × (yielded (message 4 10 7 ++ replicate 54 13) (at 10 12 34) ≡ stay (at 10 12 34) (found.Stop 34))
 unfolding taken takenOpen yielded yieldedOpen gateOf placeOk isSum sums rowOf lengthOf past held isStopped isWhole roomFor splice
 standing = (refl, refl, refl)
 
@@ -92,6 +94,6 @@ unfolding yielded taken gateOf placeOk isSum sums rowOf lengthOf past held
 refusals = (refl, refl, refl, refl, refl, refl, refl, refl, refl, refl)
 
 -- the small numbers that whole messages can have together, and the last that they cannot
-pub small-sums : (isSum 9 ≡ false) × (isSum 10 ≡ true) × (isSum 24 ≡ true) × (isSum 27 ≡ false) × (isSum 37 ≡ true) × (isSum 42 ≡ true) × (isSum 83 ≡ false)
+pub small-sums : (isSum 9 ≡ false) × (isSum 10 ≡ true) × (isSum 24 ≡ true) × (isSum 27 ≡ false) × (isSum 37 ≡ true) × (isSum 41 ≡ true) × (isSum 42 ≡ true) × (isSum 46 ≡ true) × (isSum 51 ≡ true) × (isSum 73 ≡ false)
 unfolding isSum sums rowOf lengthOf past
-small-sums = (refl, refl, refl, refl, refl, refl, refl)
+small-sums = (refl, refl, refl, refl, refl, refl, refl, refl, refl, refl)

@@ -166,7 +166,7 @@ module _ {l : ℕ} (big : 64 ≤ l) where
   gone {o} (m ∷ ms) e counts t =
       let n = length-append m (joined ms) in
       let k = length-append m [] in
-      let w : length m ≤ 42 = rw (e .0 .exact) (long-enough (kindAt m)) in
+      let w : length m ≤ 46 = rw (e .0 .exact) (long-enough (kindAt m)) in
       let q : o + length m + length (joined ms) ≡ o + length (m ++ joined ms) = omega arith in
       rw q at (gone ms (e .1) (omega arith) (offered [] (omega arith) (omega arith) (asked m [] (e .0) (offered (m ++ []) (omega arith) (omega arith) t))))
 

@@ -121,7 +121,7 @@ unfolding isSum sums
 sum-none = refl
 
 -- ten numbers one after another are sums, and so is each that is ten more
-first-ten : allBelow 10 (λ i. isSum (84 + i)) ≡ true
+first-ten : allBelow 10 (λ i. isSum (74 + i)) ≡ true
 unfolding allBelow isSum sums rowOf lengthOf past
 first-ten = refl
 
@@ -129,21 +129,21 @@ ten-more : lengthOf (kindOf AcceptOk) ≡ 10
 unfolding lengthOf past rowOf
 ten-more = refl
 
-large-below : (n x : ℕ) → x < n → 84 ≤ x → isSum x ≡ true
+large-below : (n x : ℕ) → x < n → 74 ≤ x → isSum x ≡ true
 large-below zero x a l = absurd (omega arith)
-large-below (suc n) x a l = at (leb 94 x) refl (λ m. large-below n (x - 10) (omega arith) (omega arith))
+large-below (suc n) x a l = at (leb 84 x) refl (λ m. large-below n (x - 10) (omega arith) (omega arith))
   where
-    at : (b : Bool) → leb 94 x ≡ b → (94 ≤ x → isSum (x - 10) ≡ true) → isSum x ≡ true
+    at : (b : Bool) → leb 84 x ≡ b → (84 ≤ x → isSum (x - 10) ≡ true) → isSum x ≡ true
     at true m h =
-        let lt = leb-true 94 x m in
+        let lt = leb-true 84 x m in
         let q : x - 10 + lengthOf (kindOf AcceptOk) ≡ x = omega (arith, ten-more) in
         rw q at (and-another (x - 10) (kindOf AcceptOk) (kind-known AcceptOk) (h lt))
     at false m h =
-        let lt = leb-false 94 x m in
-        let q : 84 + (x - 84) ≡ x = omega arith in
-        rw q at (allBelow-at 10 (λ i. isSum (84 + i)) first-ten (x - 84) (omega arith))
+        let lt = leb-false 84 x m in
+        let q : 74 + (x - 74) ≡ x = omega arith in
+        rw q at (allBelow-at 10 (λ i. isSum (74 + i)) first-ten (x - 74) (omega arith))
 
-pub large : (x : ℕ) → 84 ≤ x → isSum x ≡ true
+pub large : (x : ℕ) → 74 ≤ x → isSum x ≡ true
 large x l = large-below (suc x) x (omega arith) l
 
 abbrev same : Bool → Bool → Bool
@@ -154,33 +154,33 @@ same-eq : (a b : Bool) → same a b ≡ true → a ≡ b
 same-eq true b e = sym e
 same-eq false b e = sym (not-true b e)
 
--- none of them is above 93
-least-small : (d : ℕ) → least d ≤ 93
-least-small d = go (0 ∷ 51 ∷ 42 ∷ 93 ∷ 14 ∷ 65 ∷ 56 ∷ 37 ∷ 28 ∷ []) (omega arith, (omega arith, (omega arith, (omega arith, (omega arith, (omega arith, (omega arith, (omega arith, (omega arith, tt))))))))) d
+-- none of them is above 83
+least-small : (d : ℕ) → least d ≤ 83
+least-small d = go (0 ∷ 41 ∷ 42 ∷ 83 ∷ 14 ∷ 55 ∷ 46 ∷ 37 ∷ 28 ∷ []) (omega arith, (omega arith, (omega arith, (omega arith, (omega arith, (omega arith, (omega arith, (omega arith, (omega arith, tt))))))))) d
   where
     Small : List ℕ → Type 0
     Small [] = Unit {0}
-    Small (x ∷ xs) = (x ≤ 93) × Small xs
+    Small (x ∷ xs) = (x ≤ 83) × Small xs
 
-    go : (l : List ℕ) → Small l → (d : ℕ) → getD l d 79 ≤ 93
+    go : (l : List ℕ) → Small l → (d : ℕ) → getD l d 69 ≤ 83
     go [] s d = omega arith
     go (x ∷ l) s zero = s .0
     go (x ∷ l) s (suc d) = go l (s .1) d
 
-every-small : allBelow 94 (λ x. same (leb (least (x % 10)) x) (isSum x)) ≡ true
+every-small : allBelow 84 (λ x. same (leb (least (x % 10)) x) (isSum x)) ≡ true
 unfolding allBelow isSum sums rowOf lengthOf past
 every-small = refl
 
 pub least-sum : (x : ℕ) → leb (least (x % 10)) x ≡ isSum x
-least-sum x = go (leb 94 x) refl
+least-sum x = go (leb 84 x) refl
   where
-    go : (a : Bool) → leb 94 x ≡ a → leb (least (x % 10)) x ≡ isSum x
-    go true e = let l = leb-true 94 x e in let m = least-small (x % 10) in le-leb (least (x % 10)) x (omega arith) ∙ sym (large x (omega arith))
-    go false e = same-eq (leb (least (x % 10)) x) (isSum x) (allBelow-at 94 (λ x. same (leb (least (x % 10)) x) (isSum x)) every-small x (leb-false 94 x e))
+    go : (a : Bool) → leb 84 x ≡ a → leb (least (x % 10)) x ≡ isSum x
+    go true e = let l = leb-true 84 x e in let m = least-small (x % 10) in le-leb (least (x % 10)) x (omega arith) ∙ sym (large x (omega arith))
+    go false e = same-eq (leb (least (x % 10)) x) (isSum x) (allBelow-at 84 (λ x. same (leb (least (x % 10)) x) (isSum x)) every-small x (leb-false 84 x e))
 
 above : (k d : ℕ) → k ≤ d → (d ≡ k → ⊥) → suc k ≤ d
 above k d l n = omega arith
 
 -- no digit but the last is left
-pub last-digit : (d : ℕ) → (d ≡ 0 → ⊥) → (d ≡ 1 → ⊥) → (d ≡ 2 → ⊥) → (d ≡ 3 → ⊥) → (d ≡ 4 → ⊥) → (d ≡ 5 → ⊥) → (d ≡ 6 → ⊥) → (d ≡ 7 → ⊥) → (d ≡ 8 → ⊥) → 79 ≡ least d
-last-digit d a b c e f g h i j = sym (List·getD-eq-default (0 ∷ 51 ∷ 42 ∷ 93 ∷ 14 ∷ 65 ∷ 56 ∷ 37 ∷ 28 ∷ []) 79 {n = d} (above 8 d (above 7 d (above 6 d (above 5 d (above 4 d (above 3 d (above 2 d (above 1 d (above 0 d (omega arith) a) b) c) e) f) g) h) i) j))
+pub last-digit : (d : ℕ) → (d ≡ 0 → ⊥) → (d ≡ 1 → ⊥) → (d ≡ 2 → ⊥) → (d ≡ 3 → ⊥) → (d ≡ 4 → ⊥) → (d ≡ 5 → ⊥) → (d ≡ 6 → ⊥) → (d ≡ 7 → ⊥) → (d ≡ 8 → ⊥) → 69 ≡ least d
+last-digit d a b c e f g h i j = sym (List·getD-eq-default (0 ∷ 41 ∷ 42 ∷ 83 ∷ 14 ∷ 55 ∷ 46 ∷ 37 ∷ 28 ∷ []) 69 {n = d} (above 8 d (above 7 d (above 6 d (above 5 d (above 4 d (above 3 d (above 2 d (above 1 d (above 0 d (omega arith) a) b) c) e) f) g) h) i) j))

@@ -29,7 +29,7 @@ isSum x = sums x x
 
 -- the least of them with each last digit, which the code goes by; proofs/Sums shows that it comes to the same
 abbrev pub least : ℕ → ℕ
-least d = getD (0 ∷ 51 ∷ 42 ∷ 93 ∷ 14 ∷ 65 ∷ 56 ∷ 37 ∷ 28 ∷ []) d 79
+least d = getD (0 ∷ 41 ∷ 42 ∷ 83 ∷ 14 ∷ 55 ∷ 46 ∷ 37 ∷ 28 ∷ []) d 69
 
 -- no stream is longer: its offsets fit a u64
 abbrev pub longest : ℕ
