@@ -21,7 +21,7 @@ use Rattle.closed.proofs.Laws.{tf}
 use Rattle.order.specs.Calls.{handed}
 use Rattle.safety.specs.Run.{Instance, Setup}
 use Rattle.safety.specs.Run as rules
-use Rattle.safety.proofs.Witness.{write, read, deps}
+use Rattle.safety.proofs.Witness.{write, read, rewire, deps}
 use Rattle.demand.specs.Run as place
 use Rattle.demand.specs.Demand.{inPlace, Committed}
 use Rattle.demand.proofs.Bridge.{begin, bridge, blank-tie}
@@ -186,6 +186,20 @@ pub record Shown (i j : ℕ) : Type 0 where
   -- a copy that works by document 01 and then by 4/12, beside others that work by 4/12: one read covers the other
   pub mixed : Reached 3 1 (i ∷ j ∷ []) (λ x. Committed 3 1 (journalled 3 1) x 0 0 1 (read 1) (deps 0 1 0) × Committed 3 1 (journalled 3 1) x 1 1 1 (read 2) (deps 0 0 0)
       × (savedMarks (x .copies 0) ≡ (1, 1) ∷ (0, 1) ∷ []) × (savedMarks (x .copies 1) ≡ (1, 1) ∷ (0, 1) ∷ []))
+  -- a rewire, which covers the write of each of its objects
+  pub rewires : Reached 3 1 (i ∷ j ∷ []) (λ x. Committed 3 1 (journalled 3 1) x 2 2 1 (rewire 3) (deps 1 1 0) × (savedMarks (x .copies 2) ≡ (0, 1) ∷ (1, 1) ∷ (2, 1) ∷ []))
+
+-- a commit, and marks saved by that copy
+one : (i j c o n : ℕ) → c < 3 → Inside i j → {Q : place.State → Type 0} {k : Command} {d : List ℕ} {m : Instance} {ms : List Instance}
+    → ((y : place.State) → Q y → Committed 3 1 (inPlace 3 1) y c o n k d × (y .copies c .marks ≡ m ∷ ms)) → bytes.Reached 3 1 Q
+    → Reached 3 1 (i ∷ j ∷ []) (λ x. Committed 3 1 (journalled 3 1) x c o n k d × (savedMarks (x .copies c) ≡ m ∷ ms))
+one i j c o n l a {Q} {k} {d} {m} {ms} of r =
+    lift 3 1 three-one i j a Q (i ∷ j ∷ []) _
+    (λ y₀ y st q h b g.
+    let z = of y h in
+    ⊎-elim (λ (f : b ≡ i). subst (λ (p : ℕ). List·Memᴰ p (tears i j q)) (sym f) (cut-commit 3 1 three-one i j a st q c o n k d (z .0)))
+    (λ (f : List·Memᴰ b (j ∷ [])). only 3 1 three-one i j a j b (tears i j q) (cut-mark 3 1 three-one i j a st q c m ms (z .1)) f) (List·Memᴰ·cases-cons g))
+    (λ x y evens h. let z = of y h in (here 3 1 three-one i j a x y evens c o n k d (z .0), evens c l .marks ∙ z .1)) r
 
 -- 0.1 and 1.1 committed by their owners, and marks saved there
 pair : (i j : ℕ) → Inside i j → {Q : place.State → Type 0} {k l : Command} {d e : List ℕ} {m : Instance} {ms ns : List Instance}
@@ -212,6 +226,7 @@ shown-journals i j a = let r = shown-bytes in record {
   out = pair i j a (λ y h. h) (r .out);
   reads = pair i j a (λ y h. (h .0, h .1, h .4, h .5)) (r .reads);
   mixed = pair i j a (λ y h. h) (r .mixed);
+  rewires = one i j 2 2 1 (omega arith) a (λ y h. (h .0, h .3)) (r .rewires);
 }
 
 -- of five and of seven copies, each beside the moment before, when it is not yet so
