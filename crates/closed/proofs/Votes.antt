@@ -9,12 +9,11 @@ use lib.Dec.{ltb, eqb}
 use lib.ListN.{length, getD, set, List·getD-eq-default}
 use borrow.Author.Tests.{leb-true, le-leb, ne-eqb}
 use Rattle.paper.specs.Logic.{allBelow}
-use Rattle.paper.specs.Command.{noop, sameCommand, commandOk}
+use Rattle.paper.specs.Command.{noop, commandOk}
 use Rattle.paper.specs.Deps.{depsOk, sameDeps}
 use Rattle.paper.specs.Ballot.{ballotOk}
 use Rattle.paper.specs.Vote.{noVote, sameVote, noneIsBlank, voteOk, toldOk, addedOk, member}
 use Rattle.paper.specs.Sound.{collectedOk, replyOk, repliesOk}
-use Rattle.paper.specs.declared.Command.{Command}
 use Rattle.paper.specs.declared.Vote.{Vote}
 use Rattle.paper.specs.declared.Record.{Record}
 use Rattle.paper.proofs.Laws.{allBelow-at, sameCommand-eq, sameCommand-refl}

@@ -11,7 +11,7 @@ use lib.ListN.{length, getD, List·getD-eq-default}
 use borrow.Author.Tests.{leb-true, ltb-true, eqb-true, lt-ltb, le-ltb}
 use Rattle.paper.specs.Logic.{allBelow}
 use Rattle.paper.specs.Instance.{instanceOk}
-use Rattle.paper.specs.Command.{isNoop, commandOk, interfere}
+use Rattle.paper.specs.Command.{interfere}
 use Rattle.paper.specs.Vote.{blank}
 use Rattle.paper.specs.Message.{carriedIn}
 use Rattle.paper.specs.Valid.{valid}

@@ -1,6 +1,6 @@
 -- A test of all seven places is the conjunction of seven tests; what status 0 asks; a ballot and a vote, test by
 -- test. Assumes nothing.
-use mathlib.Core.Path.{_≡_, refl, sym, _∙_}
+use mathlib.Core.Path.{_≡_, sym, _∙_}
 use mathlib.Core.Bool.{Bool, true, false, _&&_}
 use Prim.Native.Nat.{ℕ, _%_}
 use mathlib.Core.List.{List, [], _∷_}

@@ -8,7 +8,7 @@ use native.Mathlib.Omega.{arith}
 use lib.ListN.{getD}
 use Rattle.paper.specs.Logic.{implies}
 use Rattle.paper.specs.Command.{noop, isRewire}
-use Rattle.paper.specs.Message.{unknown, rows, rowOf, rowIn, partsOf, partsIn, kindBy, kindOf, shortKind, saidIn, isCommit, commandCarried, carriedIn, commandIn, joinedIn, bodyOf, isFresh, kept}
+use Rattle.paper.specs.Message.{unknown, rows, rowOf, rowIn, partsOf, partsIn, kindBy, kindOf, saidIn, isCommit, commandCarried, carriedIn, commandIn, joinedIn, bodyOf, isFresh, kept}
 use Rattle.paper.specs.declared.Command.{Command}
 use Rattle.paper.specs.declared.Body.{Body}
 use Rattle.paper.specs.declared.Body.the-variants.{PreAccept, PreAcceptOk, Accept, AcceptOk, Commit, Prepare, PrepareOk, Nack}

@@ -12,7 +12,7 @@ use borrow.Author.Tests.{leb-true, ltb-true, le-leb, eqb-true}
 use Rattle.paper.specs.Logic.{implies}
 use Rattle.paper.specs.Ballot.{ballotOk}
 use Rattle.paper.specs.Deps.{noDeps, entryLimit, sameDeps}
-use Rattle.paper.specs.Message.{rowIn, partsIn, voteIn, commandIn}
+use Rattle.paper.specs.Message.{rowIn, partsIn, voteIn}
 use Rattle.paper.specs.Valid.{depsCarried, secondCarried, Clause, DepsCarried, SecondCarried, FromRange, ToRange, OwnerRange, NumberRange, BallotRange, RecoveryBallot, ToHere, FromAnother, FromLead, ToLead, VotedRange, ToldBelow, StatusRange, ToldVoted, OpRange, FreshOp, ToldOp, KeyRange, SecondRange, EditRange, EntryRange, ToldEntry, JoinedRange, JoinedAbove, Failing, none, first, holdsOf, holds, entryClauses, clauses, firstOf, firstFailing, blameOf, verdictOf, verdictOn, hasField}
 use Rattle.paper.specs.declared.Field.{Field}
 use Rattle.paper.specs.declared.Field.the-variants as field

@@ -52,6 +52,19 @@ op-back Rewire = refl
 pub opNumber-apart : (a b : Op) → opNumber a ≡ opNumber b → a ≡ b
 opNumber-apart a b e = sym (op-back a) ∙ ap opFrom e ∙ op-back b
 
+-- equal commands are equal
+pub sameCommand-eq : (a b : Command) → sameCommand a b ≡ true → a ≡ b
+unfolding sameCommand
+sameCommand-eq a b h =
+    let p = and-true (eqb (opNumber (a .op)) (opNumber (b .op)) && eqb (a .key) (b .key) && eqb (a .second) (b .second)) _ h in
+    let q = and-true (eqb (opNumber (a .op)) (opNumber (b .op)) && eqb (a .key) (b .key)) _ (p .0) in
+    let r = and-true (eqb (opNumber (a .op)) (opNumber (b .op))) _ (q .0) in
+    let o = opNumber-apart (a .op) (b .op) (eqb-true _ _ (r .0)) in
+    let k = eqb-true (a .key) (b .key) (r .1) in
+    let l = eqb-true (a .second) (b .second) (q .1) in
+    let e = eqb-true (a .edit) (b .edit) (p .1) in
+    λ i. record { op = o i; key = k i; second = l i; edit = e i }
+
 -- a command is the same as itself
 pub sameCommand-refl : (a : Command) → sameCommand a a ≡ true
 unfolding sameCommand
@@ -69,16 +82,3 @@ noop-only k h n =
     let b : eqb (k .second) 0 ≡ true = rw o at second in
     let c : eqb (k .edit) 0 ≡ true = rw o at edit in
     rw (o, a, b, c)
-
--- equal commands are equal
-pub sameCommand-eq : (a b : Command) → sameCommand a b ≡ true → a ≡ b
-unfolding sameCommand
-sameCommand-eq a b h =
-    let p = and-true (eqb (opNumber (a .op)) (opNumber (b .op)) && eqb (a .key) (b .key) && eqb (a .second) (b .second)) _ h in
-    let q = and-true (eqb (opNumber (a .op)) (opNumber (b .op)) && eqb (a .key) (b .key)) _ (p .0) in
-    let r = and-true (eqb (opNumber (a .op)) (opNumber (b .op))) _ (q .0) in
-    let o = opNumber-apart (a .op) (b .op) (eqb-true _ _ (r .0)) in
-    let k = eqb-true (a .key) (b .key) (r .1) in
-    let l = eqb-true (a .second) (b .second) (q .1) in
-    let e = eqb-true (a .edit) (b .edit) (p .1) in
-    λ i. record { op = o i; key = k i; second = l i; edit = e i }

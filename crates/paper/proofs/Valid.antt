@@ -11,7 +11,7 @@ use Rattle.paper.specs.Deps.{entryOk, depsOk}
 use Rattle.paper.specs.Vote.{votedOk, statusOk, voteOk, noneVoted, noneOp, noneEntry, noneIsBlank, toldOk}
 use Rattle.paper.specs.Message.{rowIn, partsIn, commandIn, voteIn, joinedIn}
 use Rattle.paper.specs.Valid.{fromRange, toRange, ownerRange, numberRange, ballotRange, recoveryBallot, toHere, fromAnother, fromLead, toLead, toldBelow, freshOp, joinedRange, joinedAbove, depsCarried, secondCarried, opRange, Clause, EntryRange, ToldEntry, carriedClauses, headClauses, wayClauses, toldClauses, commandClauses, entryClauses, depsClauses, joinedClauses, Failing, none, first, holdsOf, holds, clauses, firstOf, firstFailing, isNone, opIn, valid, verdictOf, verdictOn}
-use lib.Dec.{ltb, eqb}
+use lib.Dec.{eqb}
 use Rattle.paper.specs.declared.Op.{Op}
 use Rattle.paper.specs.declared.Op.the-variants.{Noop, Read, Write, Rewire}
 use Rattle.paper.specs.declared.Command.{Command}
@@ -164,7 +164,7 @@ unfolding commandOk
 carried-whole b v e h =
     let (keys, edit) = and-true (keyOk (v .command) && secondOk (v .command)) _ h in
     let second = and-true (keyOk (v .command)) _ keys .1 in
-    rw (second-is b, sym (ap isRewire e)) (go (isRewire (v .command)) (ltb (v .command .key) (v .command .second)) (eqb (v .command .second) 0) second)
+    rw (second-is b, sym (ap isRewire e)) (go (isRewire (v .command)) _ _ second)
   where
     go : (t l z : Bool) → cond t l z ≡ true → (t || z) ≡ true
     go true l z h = refl

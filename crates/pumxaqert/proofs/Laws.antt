@@ -4,8 +4,8 @@ use mathlib.Core.Bool.{Bool, true, false, cond}
 use mathlib.Core.List.{List, [], _∷_}
 use Prim.Native.Nat.{ℕ, suc, _+_, _-_, _≤_, _<_}
 use native.Mathlib.Omega.{arith}
-use lib.Dec.{leb}
-use borrow.Author.Tests.{lt-ltb, le-ltb, le-leb, lt-leb}
+use lib.Dec.{leb, eqb}
+use borrow.Author.Tests.{lt-ltb, le-ltb, ne-eqb}
 use lib.ListN.{length, getD, replicate}
 use Rattle.paper.specs.Setup.{setupOk}
 use Rattle.paper.specs.Message.{rowOf, partsOf, partsIn, votedIn, joinedIn}
@@ -28,7 +28,7 @@ use Rattle.order.specs.declared.Settling.the-variants as settling
 use Rattle.paper.specs.Command.{opNumber}
 use Rattle.paper.specs.declared.Command.{Command}
 use Rattle.order.specs.Calls.{settlingValues}
-use Rattle.pumxaqert.specs.Fields.{otherBallot, fieldsOf, readValues, messageFrom, sameFields, fieldOf, most, carriedOnly, firstLarge, misfit, wroteMisfit, wroteFields}
+use Rattle.pumxaqert.specs.Fields.{otherBallot, fieldsOf, readValues, messageFrom, sameFields, fieldOf, most, canHold, carriedOnly, firstUnheld, misfit, wroteMisfit, wroteFields}
 
 pub other-joined : (b : Body) → partsIn b .joined ≡ true → joinedIn b ≡ otherBallot b
 unfolding otherBallot
@@ -56,7 +56,7 @@ module _ {x y : Received} (e : x ≡ y) where
         (ef ∙ ap (λ (z : Received). fieldsOf (z .message)) e ∙ ap (λ (a : Reading). readValues a (y .message)) q, ap readingOffset q),
       )
 
-  pub read-refused : (r : Refusal) {k : ℕ} {f : List ℕ} {a : ℕ} → x .answer ≡ reading.Refused r → k ≡ numberOf r → f ≡ replicate 18 0 → a ≡ offsetIn r → Reads y k f a
+  pub read-refused : (r : Refusal) {k : ℕ} {f : List ℕ} {a : ℕ} → x .answer ≡ reading.Refused r → k ≡ numberOf r → f ≡ replicate 19 0 → a ≡ offsetIn r → Reads y k f a
   read-refused r v ek ef ea =
       let q : reading.Refused r ≡ y .answer = sym v ∙ answers in
       (ek ∙ ap readingNumber q, (ef ∙ ap (λ (a : Reading). readValues a (y .message)) q, ea ∙ ap readingOffset q))
@@ -104,7 +104,7 @@ module _ (fs : List ℕ) {r : Row} (row : r ≡ rowOf (getD fs 0 0)) where
     unfolding misfit
     misfit-length f = let c : carriedOnly (partsOf (getD fs 0 0)) fs ≡ false = sym only ∙ f in rw (known, c)
 
-    pub misfit-rest : t ≡ true → {x : Blame} → x ≡ firstLarge (r .parts) fs 17 1 → refusalOf (r .parts) x ≡ refusalOf (partsOf (getD fs 0 0)) (misfit fs)
+    pub misfit-rest : t ≡ true → {x : Blame} → x ≡ firstUnheld (r .parts) fs 18 1 → refusalOf (r .parts) x ≡ refusalOf (partsOf (getD fs 0 0)) (misfit fs)
     unfolding misfit
     misfit-rest f ex =
         let c : carriedOnly (partsOf (getD fs 0 0)) fs ≡ true = sym only ∙ f in
@@ -119,31 +119,38 @@ wrote-as ex eo y e = let q = sym e ∙ ex in (ap writingNumber q, (ap writingCou
 -- what is left of the numbers, from the i-th on
 module _ (p : Parts) (fs : List ℕ) where
   pub record Left (i : ℕ) : Type 0 where
-    pub rest : firstLarge p fs (18 - i) i ≡ firstLarge p fs 17 1
-    pub few : i ≤ 18
+    pub rest : firstUnheld p fs (19 - i) i ≡ firstUnheld p fs 18 1
+    pub few : i ≤ 19
 
   pub all-left : Left 1
   all-left = record { rest = refl; few = omega arith }
 
-  one : (i : ℕ) → i < 18 → firstLarge p fs (18 - i) i ≡ cond (leb (getD fs i 0) (getD most i 0)) (firstLarge p fs (18 - (i + 1)) (i + 1)) (blame.Of (fieldOf p i))
-  unfolding firstLarge
-  one i l = let e : 18 - i ≡ suc (18 - (i + 1)) = omega arith in rw e
+  one : (i : ℕ) → i < 19 → firstUnheld p fs (19 - i) i ≡ cond (canHold p i (getD fs i 0)) (firstUnheld p fs (19 - (i + 1)) (i + 1)) (blame.Of (fieldOf p i))
+  unfolding firstUnheld
+  one i l = let e : 19 - i ≡ suc (19 - (i + 1)) = omega arith in rw e
 
-  module _ (i : ℕ) (l : Left i) (h : i < 18) {k : ℕ} (ek : k ≡ getD most i 0) where
-    pub large : k < getD fs i 0 → {f : Field} → f ≡ fieldOf p i → blame.Of f ≡ firstLarge p fs 17 1
-    large b ef =
-        let t : leb (getD fs i 0) (getD most i 0) ≡ false = lt-leb (getD fs i 0) (getD most i 0) (omega arith) in
-        ap blame.Of ef ∙ (rw t) ∙ sym (one i h) ∙ l .rest
+  module _ (i : ℕ) (l : Left i) (h : i < 19) {t : Bool} (et : t ≡ canHold p i (getD fs i 0)) where
+    pub unheld : t ≡ false → {f : Field} → f ≡ fieldOf p i → blame.Of f ≡ firstUnheld p fs 18 1
+    unheld b ef = ap blame.Of ef ∙ (rw (sym et ∙ b)) ∙ sym (one i h) ∙ l .rest
 
-    pub fits : getD fs i 0 ≤ k → Left (i + 1)
-    fits b =
-        let t : leb (getD fs i 0) (getD most i 0) ≡ true = le-leb (getD fs i 0) (getD most i 0) (omega arith) in
-        record { rest = (rw t) ∙ sym (one i h) ∙ l .rest; few = omega arith }
+    pub held : t ≡ true → Left (i + 1)
+    held b = record { rest = (rw (sym et ∙ b)) ∙ sym (one i h) ∙ l .rest; few = omega arith }
 
-  pub none-large : (i : ℕ) → Left i → 18 ≤ i → blame.Length ≡ firstLarge p fs 17 1
-  unfolding firstLarge
-  none-large i l h = let e : 18 - i ≡ 0 = omega arith in (rw e) ∙ l .rest
+  pub none-left : (i : ℕ) → Left i → 19 ≤ i → blame.Length ≡ firstUnheld p fs 18 1
+  unfolding firstUnheld
+  none-left i l h = let e : 19 - i ≡ 0 = omega arith in (rw e) ∙ l .rest
+
+-- what a place can hold, outcome by outcome
+module _ (p : Parts) (i x : ℕ) where
+  pub other-place : (i ≡ 8 → ⊥) → {k : ℕ} → k ≡ getD most i 0 → leb x k ≡ canHold p i x
+  other-place n e = rw (ne-eqb i 8 n, e)
+
+  pub long-op : i ≡ 8 → p .second ≡ true → eqb x 3 ≡ canHold p i x
+  long-op e t = rw (e, t)
+
+  pub short-op : i ≡ 8 → p .second ≡ false → leb x 2 ≡ canHold p i x
+  short-op e t = rw (e, t)
 
 -- a settled instance's command, as numbers
-pub settled-values : (k : Command) {a b : ℕ} → a ≡ opNumber (k .op) → b ≡ k .key → (1 ∷ a ∷ b ∷ k .edit ∷ []) ≡ settlingValues (settling.Settled k)
-settled-values k p q = λ i. 1 ∷ p i ∷ q i ∷ k .edit ∷ []
+pub settled-values : (k : Command) {a b c : ℕ} → a ≡ opNumber (k .op) → b ≡ k .key → c ≡ k .second → (1 ∷ a ∷ b ∷ c ∷ k .edit ∷ []) ≡ settlingValues (settling.Settled k)
+settled-values k p q r = λ i. 1 ∷ p i ∷ q i ∷ r i ∷ k .edit ∷ []

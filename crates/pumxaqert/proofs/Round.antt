@@ -1,4 +1,4 @@
--- A message is made of its fields, eighteen numbers of a message are its fields, and with that both round trips of the C calls:
+-- A message is made of its fields, nineteen numbers of a message are its fields, and with that both round trips of the C calls:
 -- written fields read back equal, accepted bytes write back equal. Assumes nothing.
 use mathlib.Core.Path.{_≡_, refl, sym, ap, _∙_}
 use mathlib.Core.Bool.{Bool, true, false, _&&_, cond}
@@ -13,10 +13,11 @@ use Rattle.numbers.specs.Num.{splice}
 use Rattle.codec.specs.Parts.{opOf, depsNumbers}
 use Rattle.codec.proofs.Laws.{opOf-opNumber, op-small, deps-are}
 use Rattle.paper.specs.Logic.{allBelow}
-use Rattle.paper.specs.Command.{opNumber}
+use Rattle.paper.specs.Command.{opNumber, isRewire}
 use Rattle.paper.specs.Setup.{setupOk}
 use Rattle.paper.specs.Fits.{CommandFits, DepsFit, CarriedFits, MessageFits}
-use Rattle.paper.specs.Message.{rowOf, partsOf, partsIn, kindOf, noneCarried, commandCarried, joinedCarried, carriedIn, bodyOf, commandIn, votedIn, statusIn, joinedIn}
+use Rattle.paper.specs.Message.{rowOf, partsOf, partsIn, kindBy, kindOf, noneCarried, commandCarried, joinedCarried, carriedIn, bodyOf, commandIn, votedIn, statusIn, joinedIn}
+use Rattle.paper.proofs.Bodies.{said-joined}
 use Rattle.paper.proofs.Laws.{and-true, allBelow-at}
 use Rattle.paper.proofs.Numbers.{numberOf-pos}
 use Rattle.paper.specs.declared.Command.{Command}
@@ -57,16 +58,31 @@ other-fits b f = go (partsIn b .joined)
     go true = f .joined
     go false = f .voted
 
+-- what holds of a body's short and of its long kind holds of its kind
+either-kind : (P : ℕ → Type 0) (short long : ℕ) (k : Command) → P short → P long → P (kindBy short long k)
+either-kind P short long k p q = go (isRewire k)
+  where
+    go : (t : Bool) → P (cond t long short)
+    go true = q
+    go false = p
+
+-- a PrepareOK's other ballot is the voted one
+told-other : (v t : ℕ) (k : Command) → otherBallot (PrepareOk v t k) ≡ v
+unfolding otherBallot rowOf
+told-other v t k = rw (said-joined (PrepareOk v t k))
+
 -- a body is made of its kind and of what it carries, with one place for its other ballot
 body-back : (b : Body) → bodyFrom (kindOf b) (otherBallot b) (statusIn b) (commandIn b) ≡ b
 unfolding bodyFrom bodyOf otherBallot rowOf
-body-back (PreAccept k) = refl
+body-back (PreAccept k) = either-kind (λ i. bodyFrom i (otherBallot (PreAccept k)) 0 k ≡ PreAccept k) 1 9 k refl refl
 body-back PreAcceptOk = refl
-body-back (Accept k) = refl
+body-back (Accept k) = either-kind (λ i. bodyFrom i (otherBallot (Accept k)) 0 k ≡ Accept k) 3 10 k refl refl
 body-back AcceptOk = refl
-body-back (Commit k) = refl
+body-back (Commit k) = either-kind (λ i. bodyFrom i (otherBallot (Commit k)) 0 k ≡ Commit k) 5 11 k refl refl
 body-back Prepare = refl
-body-back (PrepareOk v t k) = refl
+body-back (PrepareOk v t k) =
+    let o = otherBallot (PrepareOk v t k) in
+    either-kind (λ i. bodyFrom i o t k ≡ PrepareOk o t k) 7 12 k refl refl ∙ ap (λ (x : ℕ). PrepareOk x t k) (told-other v t k)
 body-back (Nack j) = refl
 
 same-own : (n : ℕ) (fs : List ℕ) → allBelow n (λ i. eqb (getD fs i 0) (getD fs i 0)) ≡ true
@@ -81,7 +97,7 @@ module _ (m : Message) (f : MessageFits m) where
       let c = commandIn (m .body) in
       let o : opNumber (c .op) % 256 ≡ opNumber (c .op) = whole8 (opNumber (c .op)) (omega (arith, op-small (c .op))) in
       let p : opOf (opNumber (c .op) % 256) ≡ c .op = ap opOf o ∙ opOf-opNumber (c .op) in
-      λ i. record { op = p i; key = whole32 (c .key) (f .body .command .key) i; edit = c .edit }
+      λ i. record { op = p i; key = whole32 (c .key) (f .body .command .key) i; second = whole32 (c .second) (f .body .command .second) i; edit = c .edit }
 
   deps-back : depsFrom (fieldsOf m) ≡ m .deps
   unfolding depsFrom fieldsOf
@@ -112,28 +128,28 @@ module _ (m : Message) (f : MessageFits m) where
   -- and its fields are a message's
   pub fields-same : sameFields (fieldsOf m) (fieldsOf (messageFrom (fieldsOf m))) ≡ true
   unfolding sameFields
-  fields-same = ap (λ (x : Message). sameFields (fieldsOf m) (fieldsOf x)) fields-message ∙ same-own 18 (fieldsOf m)
+  fields-same = ap (λ (x : Message). sameFields (fieldsOf m) (fieldsOf x)) fields-message ∙ same-own 19 (fieldsOf m)
 
 -- so fields tell messages apart
 pub fields-apart : (m k : Message) → MessageFits m → MessageFits k → fieldsOf m ≡ fieldsOf k → m ≡ k
 fields-apart m k f g e = sym (fields-message m f) ∙ ap messageFrom e ∙ fields-message k g
 
-fields-long : (m : Message) → length (fieldsOf m) ≡ 18
+fields-long : (m : Message) → length (fieldsOf m) ≡ 19
 unfolding fieldsOf
 fields-long m = refl
 
-sameFields-eq : (f g : List ℕ) → length f ≡ 18 → length g ≡ 18 → sameFields f g ≡ true → f ≡ g
+sameFields-eq : (f g : List ℕ) → length f ≡ 19 → length g ≡ 19 → sameFields f g ≡ true → f ≡ g
 unfolding sameFields
 sameFields-eq f g p q h =
-    ext-getD 0 f g (p ∙ sym q) (λ i l. eqb-true _ _ (allBelow-at 18 (λ j. eqb (getD f j 0) (getD g j 0)) h i (omega arith)))
+    ext-getD 0 f g (p ∙ sym q) (λ i l. eqb-true _ _ (allBelow-at 19 (λ j. eqb (getD f j 0) (getD g j 0)) h i (omega arith)))
 
--- eighteen numbers that are some message's are the fields of the message that they make
-pub message-fields : (fs : List ℕ) → length fs ≡ 18 → sameFields fs (fieldsOf (messageFrom fs)) ≡ true → fieldsOf (messageFrom fs) ≡ fs
+-- nineteen numbers that are some message's are the fields of the message that they make
+pub message-fields : (fs : List ℕ) → length fs ≡ 19 → sameFields fs (fieldsOf (messageFrom fs)) ≡ true → fieldsOf (messageFrom fs) ≡ fs
 message-fields fs l e = sym (sameFields-eq fs (fieldsOf (messageFrom fs)) l (fields-long (messageFrom fs)) e)
 
 -- what is made of numbers fits, as each is cut to its place
 joined-carried : (j : ℕ) → j < 256 ^ 4 → CarriedFits (joinedCarried j)
-joined-carried j h = record { voted = omega arith; status = omega arith; command = record { key = omega arith; edit = omega arith }; joined = h }
+joined-carried j h = record { voted = omega arith; status = omega arith; command = record { key = omega arith; second = omega arith; edit = omega arith }; joined = h }
 
 none-carried : CarriedFits noneCarried
 none-carried = joined-carried 0 (omega arith)
@@ -152,7 +168,11 @@ body-fits x f (suc (suc (suc (suc (suc zero))))) = command-carried (x .command) 
 body-fits x f (suc (suc (suc (suc (suc (suc zero)))))) = none-carried
 body-fits x f (suc (suc (suc (suc (suc (suc (suc zero))))))) = record { voted = f .voted; status = f .status; command = f .command; joined = omega arith }
 body-fits x f (suc (suc (suc (suc (suc (suc (suc (suc zero)))))))) = joined-carried (x .joined) (f .joined)
-body-fits x f (suc (suc (suc (suc (suc (suc (suc (suc (suc k))))))))) = none-carried
+body-fits x f (suc (suc (suc (suc (suc (suc (suc (suc (suc zero))))))))) = command-carried (x .command) (f .command)
+body-fits x f (suc (suc (suc (suc (suc (suc (suc (suc (suc (suc zero)))))))))) = command-carried (x .command) (f .command)
+body-fits x f (suc (suc (suc (suc (suc (suc (suc (suc (suc (suc (suc zero))))))))))) = command-carried (x .command) (f .command)
+body-fits x f (suc (suc (suc (suc (suc (suc (suc (suc (suc (suc (suc (suc zero)))))))))))) = record { voted = f .voted; status = f .status; command = f .command; joined = omega arith }
+body-fits x f (suc (suc (suc (suc (suc (suc (suc (suc (suc (suc (suc (suc (suc k))))))))))))) = none-carried
 
 cut8 : (x : ℕ) → x % 256 < 256
 cut8 x = omega arith
@@ -177,7 +197,7 @@ deps-fit fs = record { seven = refl; each = each }
     each (suc (suc (suc (suc (suc (suc zero)))))) = cut16 _
     each (suc (suc (suc (suc (suc (suc (suc i))))))) = omega arith
 
-pub messageFrom-fits : (fs : List ℕ) → getD fs 10 0 < 256 ^ 8 → MessageFits (messageFrom fs)
+pub messageFrom-fits : (fs : List ℕ) → getD fs 11 0 < 256 ^ 8 → MessageFits (messageFrom fs)
 unfolding messageFrom bodyFrom commandFrom
 messageFrom-fits fs h = record {
   from = cut8 (getD fs 1 0);
@@ -188,7 +208,7 @@ messageFrom-fits fs h = record {
   body = body-fits _ (record {
     voted = cut32 (getD fs 6 0);
     status = cut8 (getD fs 7 0);
-    command = record { key = cut32 (getD fs 9 0); edit = h };
+    command = record { key = cut32 (getD fs 9 0); second = cut32 (getD fs 10 0); edit = h };
     joined = cut32 (getD fs 6 0);
   }) (getD fs 0 0);
   deps = deps-fit fs;
@@ -233,7 +253,7 @@ to-is m fs e = ap (λ (l : List ℕ). getD l 2 0) e
 
 -- Written fields read back equal: where the writer answers a count, so many bytes of the room are read by the copy named in `to` as
 -- the fields that were given.
-pub written-fields-read : (n s c : ℕ) (out fs : List ℕ) (k a : ℕ) (o : List ℕ) (r : ℕ) (gs : List ℕ) (i : ℕ) → length fs ≡ 18 → ((i : ℕ) → getD fs i 0 < 256 ^ 8)
+pub written-fields-read : (n s c : ℕ) (out fs : List ℕ) (k a : ℕ) (o : List ℕ) (r : ℕ) (gs : List ℕ) (i : ℕ) → length fs ≡ 19 → ((i : ℕ) → getD fs i 0 < 256 ^ 8)
     → Writes (wroteFields n s c out fs) 0 k a o → Reads (readMessage n s (getD fs 2 0) (take k o)) r gs i → (r ≡ 0) × (gs ≡ fs)
 written-fields-read n s c out fs k a o r gs i l small (w0, (wk, (wa, wo))) (rn, (rf, ra)) =
     let m : Message = messageFrom fs in
@@ -241,7 +261,7 @@ written-fields-read n s c out fs k a o r gs i l small (w0, (wk, (wa, wo))) (rn, 
     let same = some-message n s c out fs k f in
     let told : wroteFields n s c out fs ≡ wrote n s c out m = as-message n s c out fs same in
     let e : wrote n s c out m .answer ≡ writing.Bytes k = sym (ap (λ (w : Wrote). w .answer) told) ∙ f in
-    let fits : MessageFits m = messageFrom-fits fs (small 10) in
+    let fits : MessageFits m = messageFrom-fits fs (small 11) in
     let back : fieldsOf m ≡ fs = message-fields fs l same in
     let to : m .to ≡ getD fs 2 0 = to-is m fs back in
     let room : o ≡ wrote n s c out m .out = wo ∙ ap (λ (w : Wrote). w .out) told in

@@ -39,9 +39,9 @@ module _ (r q : ℕ) (v w t u o p : List ℕ) where
   event-unique x f g =
       (f .0 ∙ sym (g .0), f .1 .0 ∙ sym (g .1 .0), f .1 .1 .0 ∙ sym (g .1 .1 .0), f .1 .1 .1 ∙ sym (g .1 .1 .1))
 
-  pub pumxaqert-request-unique : (n s c : ℕ) (table out : List ℕ) (op key edit : ℕ) → Gives (requested n s c table out op key edit) r v t o
-      → Gives (requested n s c table out op key edit) q w u p → Same
-  pumxaqert-request-unique n s c table out op key edit = event-unique (requested n s c table out op key edit)
+  pub pumxaqert-request-unique : (n s c : ℕ) (table out : List ℕ) (op key second edit : ℕ) → Gives (requested n s c table out op key second edit) r v t o
+      → Gives (requested n s c table out op key second edit) q w u p → Same
+  pumxaqert-request-unique n s c table out op key second edit = event-unique (requested n s c table out op key second edit)
 
   pub pumxaqert-message-unique : (n s c : ℕ) (table out b : List ℕ) → Gives (received n s c table out b) r v t o → Gives (received n s c table out b) q w u p → Same
   pumxaqert-message-unique n s c table out b = event-unique (received n s c table out b)

@@ -1,4 +1,4 @@
-// A message as eighteen numbers, and back.
+// A message as nineteen numbers, and back.
 use codec::op_of;
 use nouns::command::op_number;
 use nouns::message::body_of;
@@ -27,7 +27,7 @@ ghost use lib.ListN.{getD};
 ghost use Rattle.paper.specs.Message.{partsOf};
 ghost use Rattle.paper.specs.Valid.{hasField};
 ghost use Rattle.wire.specs.Calls.{refusalOf};
-ghost use Rattle.pumxaqert.specs.Fields.{otherBallot, fieldsOf, commandFrom, bodyFrom, depsFrom, messageFrom, sameFields, otherField, fieldOf, most, carriedOnly, firstLarge, misfit};
+ghost use Rattle.pumxaqert.specs.Fields.{otherBallot, fieldsOf, commandFrom, bodyFrom, depsFrom, messageFrom, sameFields, otherField, fieldOf, most, canHold, carriedOnly, firstUnheld, misfit};
 
 fn from8(x: u8) -> u64
     ensures { λ r. ⌜ r ≡ x ⌝ }
@@ -83,7 +83,7 @@ fn other_ballot(b: Body) -> u32
     voted_in(b)
 }
 
-pub fn fields_of(m: Message) -> [u64; 18]
+pub fn fields_of(m: Message) -> [u64; 19]
     ensures { λ r. ⌜ r ≡ fieldsOf m ⌝ }
 {
     let body = m.body;
@@ -101,6 +101,7 @@ pub fn fields_of(m: Message) -> [u64; 18]
         from8(status_in(body)),
         from_size(op_number(op)),
         from32(command.key),
+        from32(command.second),
         command.edit,
         from16(d[0]),
         from16(d[1]),
@@ -112,13 +113,19 @@ pub fn fields_of(m: Message) -> [u64; 18]
     ]
 }
 
-fn command_from(f: &[u64; 18]) -> Command
+fn command_from(f: &[u64; 19]) -> Command
     ensures { λ r. ⌜ r ≡ commandFrom (now (f .entry)) ⌝ }
 {
     let op = op_of(low8(f[8]));
     let key = low32(f[9]);
-    let edit = f[10];
-    Command { op, key, edit }
+    let second = low32(f[10]);
+    let edit = f[11];
+    Command {
+        op,
+        key,
+        second,
+        edit,
+    }
 }
 
 fn body_from(k: u64, v: u32, t: u8, c: Command) -> Body
@@ -133,21 +140,21 @@ fn body_from(k: u64, v: u32, t: u8, c: Command) -> Body
     body_of(k as usize, x)
 }
 
-fn deps_from(f: &[u64; 18]) -> [u16; 7]
+fn deps_from(f: &[u64; 19]) -> [u16; 7]
     ensures { λ r. ⌜ r ≡ depsFrom (now (f .entry)) ⌝ }
 {
-    let d0 = low16(f[11]);
-    let d1 = low16(f[12]);
-    let d2 = low16(f[13]);
-    let d3 = low16(f[14]);
-    let d4 = low16(f[15]);
-    let d5 = low16(f[16]);
-    let d6 = low16(f[17]);
+    let d0 = low16(f[12]);
+    let d1 = low16(f[13]);
+    let d2 = low16(f[14]);
+    let d3 = low16(f[15]);
+    let d4 = low16(f[16]);
+    let d5 = low16(f[17]);
+    let d6 = low16(f[18]);
     [d0, d1, d2, d3, d4, d5, d6]
 }
 
 // The message of these numbers, each cut to its place.
-pub fn message_from(f: &[u64; 18]) -> Message
+pub fn message_from(f: &[u64; 19]) -> Message
     ensures { λ r. ⌜ r ≡ messageFrom (now (f .entry)) ⌝ }
 {
     let command = command_from(f);
@@ -171,10 +178,10 @@ pub fn message_from(f: &[u64; 18]) -> Message
     }
 }
 
-pub fn same_fields(f: &[u64; 18], g: &[u64; 18]) -> bool
+pub fn same_fields(f: &[u64; 19], g: &[u64; 19]) -> bool
     ensures { λ r. ⌜ r ≡ sameFields (now (f .entry)) (now (g .entry)) ⌝ }
 {
-    let mut left = 18;
+    let mut left = 19;
     while 0 < left {
         left -= 1;
         if f[left] != g[left] {
@@ -196,7 +203,7 @@ fn other_field(p: Parts) -> Field
 
 // The field that a number stands for.
 fn field_of(p: Parts, i: usize) -> Field
-    requires { ⌜ i < 18 ⌝ }
+    requires { ⌜ i < 19 ⌝ }
     ensures { λ r. ⌜ r ≡ fieldOf p i ⌝ }
 {
     let other = other_field(p);
@@ -211,6 +218,7 @@ fn field_of(p: Parts, i: usize) -> Field
         Field::Status,
         Field::Op,
         Field::Key,
+        Field::Second,
         Field::Edit,
         Field::Entry(0),
         Field::Entry(1),
@@ -225,7 +233,7 @@ fn field_of(p: Parts, i: usize) -> Field
 
 // The most that can stand there.
 fn most(i: usize) -> u64
-    requires { ⌜ i < 18 ⌝ }
+    requires { ⌜ i < 19 ⌝ }
     ensures { λ r. ⌜ r ≡ getD most i 0 ⌝ }
 {
     let all = [
@@ -237,7 +245,8 @@ fn most(i: usize) -> u64
         4_294_967_295,
         4_294_967_295,
         255,
-        2,
+        3,
+        4_294_967_295,
         4_294_967_295,
         18_446_744_073_709_551_615,
         65_535,
@@ -252,8 +261,8 @@ fn most(i: usize) -> u64
 }
 
 // A number is 0 where the kind carries none.
-fn carried_or_zero(p: Parts, f: &[u64; 18], i: usize) -> bool
-    requires { ⌜ i < 18 ⌝ }
+fn carried_or_zero(p: Parts, f: &[u64; 19], i: usize) -> bool
+    requires { ⌜ i < 19 ⌝ }
     ensures { λ r. ⌜ r ≡ (hasField p (fieldOf p i) || eqb (getD (now (f .entry)) i 0) 0) ⌝ }
 {
     if has_field(p, field_of(p, i)) {
@@ -262,10 +271,10 @@ fn carried_or_zero(p: Parts, f: &[u64; 18], i: usize) -> bool
     f[i] == 0
 }
 
-fn carried_only(p: Parts, f: &[u64; 18]) -> bool
+fn carried_only(p: Parts, f: &[u64; 19]) -> bool
     ensures { λ r. ⌜ r ≡ carriedOnly p (now (f .entry)) ⌝ }
 {
-    let mut left = 18;
+    let mut left = 19;
     while 0 < left {
         left -= 1;
         if !carried_or_zero(p, f, left) {
@@ -275,12 +284,26 @@ fn carried_only(p: Parts, f: &[u64; 18]) -> bool
     true
 }
 
-fn first_large(p: Parts, f: &[u64; 18]) -> Blame
-    ensures { λ r. ⌜ r ≡ firstLarge p (now (f .entry)) 17 1 ⌝ }
+// The place can hold the number; the op's place holds the ops that its kind carries.
+fn can_hold(p: Parts, i: usize, x: u64) -> bool
+    requires { ⌜ i < 19 ⌝ }
+    ensures { λ r. ⌜ r ≡ canHold p i x ⌝ }
+{
+    if i != 8 {
+        return x <= most(i);
+    }
+    if p.second {
+        return x == 3;
+    }
+    x <= 2
+}
+
+fn first_unheld(p: Parts, f: &[u64; 19]) -> Blame
+    ensures { λ r. ⌜ r ≡ firstUnheld p (now (f .entry)) 18 1 ⌝ }
 {
     let mut i = 1;
-    while i < 18 {
-        if f[i] > most(i) {
+    while i < 19 {
+        if !can_hold(p, i, f[i]) {
             return Blame::Of(field_of(p, i));
         }
         i += 1;
@@ -289,7 +312,7 @@ fn first_large(p: Parts, f: &[u64; 18]) -> Blame
 }
 
 // Why numbers are refused that are no message's.
-pub fn misfit(f: &[u64; 18]) -> Refusal
+pub fn misfit(f: &[u64; 19]) -> Refusal
     ensures { λ r. ⌜ r ≡ refusalOf (partsOf (getD (now (f .entry)) 0 0)) (misfit (now (f .entry))) ⌝ }
 {
     let row = row_of(f[0] as usize);
@@ -299,5 +322,5 @@ pub fn misfit(f: &[u64; 18]) -> Refusal
     if !carried_only(row.parts, f) {
         return Refusal::WrongLength;
     }
-    refusal_of(row.parts, first_large(row.parts, f))
+    refusal_of(row.parts, first_unheld(row.parts, f))
 }

@@ -19,7 +19,7 @@ pub extern "C" fn pumxaqert_read_message(
     s: usize,
     c: usize,
     bytes: &[u8],
-    fields: &mut [u64; 18],
+    fields: &mut [u64; 19],
     offset: &mut usize,
 ) -> u32
     ensures number { λ r. ⌜ r ≡ readingNumber (readMessage n s c (now (bytes .entry)) .answer) ⌝ }
@@ -36,7 +36,7 @@ pub extern "C" fn pumxaqert_read_message(
             0
         }
         Reading::Refused(why) => {
-            *fields = [0; 18];
+            *fields = [0; 19];
             *offset = offset_in(why);
             number_of(why)
         }
@@ -44,7 +44,7 @@ pub extern "C" fn pumxaqert_read_message(
 }
 
 // Writes what these numbers say.
-fn write_fields(n: usize, s: usize, c: usize, out: &mut [u8], f: &[u64; 18]) -> Writing
+fn write_fields(n: usize, s: usize, c: usize, out: &mut [u8], f: &[u64; 19]) -> Writing
     ensures answers { λ r. ⌜ r ≡ wroteFields n s c (now (out .entry)) (now (f .entry)) .answer ⌝ }
     ensures room { λ _. ⌜ now (out .exit) ≡ wroteFields n s c (now (out .entry)) (now (f .entry)) .out ⌝ }
 {
@@ -68,7 +68,7 @@ pub extern "C" fn pumxaqert_write_message(
     s: usize,
     c: usize,
     out: &mut [u8],
-    fields: &[u64; 18],
+    fields: &[u64; 19],
     written: &mut usize,
     offset: &mut usize,
 ) -> u32

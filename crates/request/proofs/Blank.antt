@@ -8,7 +8,7 @@ use lib.Dec.{eqb}
 use lib.ListN.{getD}
 use borrow.Author.Tests.{eqb-true, eq-eqb}
 use Rattle.paper.specs.Logic.{allBelow}
-use Rattle.paper.specs.Command.{isNoop, noop, sameCommand, keyOk, editOk, commandOk}
+use Rattle.paper.specs.Command.{isNoop, noop, commandOk}
 use Rattle.paper.specs.Deps.{noDeps, sameDeps, depsOk}
 use Rattle.paper.specs.Vote.{noVote, sameVote, noneVoted, noneOp, noneEntry, noneIsBlank, votedOk, statusOk, voteOk, member}
 use Rattle.paper.specs.Sound.{soundRecord, replyOk, repliesOk}

@@ -16,7 +16,7 @@ use Rattle.rules.specs.Accepting.{joinAll}
 use Rattle.rules.specs.Seen.{Records, met, seenEntry, seenFrom, seen}
 use Rattle.paper.proofs.Deps.{join-entry}
 use Rattle.rules.proofs.Rests.{highest-above}
-use Rattle.reach.proofs.Tests.{and-in, eqb-eq, eqb-same, ltb-in}
+use Rattle.reach.proofs.Tests.{eqb-eq, eqb-same, ltb-in}
 use Rattle.safety.proofs.Sets.{all-at}
 use Rattle.reach.proofs.Instances.{all-in}
 

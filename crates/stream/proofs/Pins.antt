@@ -30,8 +30,12 @@ beginnings = (refl, refl)
 -- all twelve kinds, one after another, in any bytes that begin so
 pub kinds : uncut (message 1 37 9 ++ message 2 24 0 ++ message 3 37 9 ++ message 4 10 9 ++ message 5 37 0 ++ message 6 10 9 ++ message 7 42 9 ++ message 8 14 9 ++ message 9 41 9
     ++ message 10 41 0 ++ message 11 41 9 ++ message 12 46 9)
-    ≡ record { messages = message 1 37 9 ∷ message 2 24 0 ∷ message 3 37 9 ∷ message 4 10 9 ∷ message 5 37 0 ∷ message 6 10 9 ∷ message 7 42 9 ∷ message 8 14 9
-    ∷ message 9 41 9 ∷ message 10 41 0 ∷ message 11 41 9 ∷ message 12 46 9 ∷ []; rest = 380; stopped = false }
+    ≡ record {
+      messages = message 1 37 9 ∷ message 2 24 0 ∷ message 3 37 9 ∷ message 4 10 9 ∷ message 5 37 0 ∷ message 6 10 9 ∷ message 7 42 9 ∷ message 8 14 9
+          ∷ message 9 41 9 ∷ message 10 41 0 ∷ message 11 41 9 ∷ message 12 46 9 ∷ [];
+      rest = 380;
+      stopped = false;
+    }
 unfolding uncut wholeIn restIn isWhole isStopped rowOf lengthOf past
 kinds = refl
 

@@ -23,7 +23,7 @@ use Rattle.paper.specs.declared.Blame.the-variants as blame
 use Rattle.paper.specs.declared.Verdict.{Verdict}
 use Rattle.paper.specs.declared.Verdict.the-variants as verdict
 use Rattle.paper.proofs.Laws.{and-true, allBelow-at}
-use Rattle.paper.proofs.Bodies.{untold-voted, untold-status, no-command, no-second, unjoined, stale}
+use Rattle.paper.proofs.Bodies.{untold-voted, untold-status, no-command, unjoined, stale}
 use Rattle.valid.specs.Groups.{unless, andThen, allCarried, headVerdict, wayVerdict, toldVerdict, commandVerdict, highest, entriesVerdict, depsVerdict, joinedVerdict, bodyVerdict}
 
 -- the verdict on a list of clauses

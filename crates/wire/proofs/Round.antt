@@ -4,7 +4,7 @@ use mathlib.Core.Bool.{Bool, true, false, _&&_, _||_, cond}
 use mathlib.Core.List.{List, [], _∷_, _++_, append-assoc, append-nil}
 use Prim.Native.Nat.{ℕ, _+_, _-_, _≤_, _<_}
 use native.Mathlib.Omega.{arith}
-use lib.Dec.{leb, ltb}
+use lib.Dec.{ltb}
 use lib.ListN.{length, getD, take, drop, take-append-drop, length-drop}
 use lib.Seq.{take-all, take-add, drop-drop}
 use borrow.Author.Tests.{eq-eqb, eqb-true, ltb-false}
@@ -188,7 +188,6 @@ module _ (m : Message) (f : MessageFits m) (short : secondCarried (rowIn (m .bod
           let o = rest-op (partsIn (m .body)) (carriedIn (m .body)) (m .deps) (headBytes m) (length-headBytes m) (f .body) (f .deps) (sendable m short) e in
           ap (opRange (partsIn (m .body) .second)) o ∙ op-fits 0 0 0 m
       go false e = rw (no-second (m .body) e, e)
-
 
 -- the bytes from one place to another
 abbrev span : List ℕ → ℕ → ℕ → List ℕ

@@ -1,6 +1,5 @@
 use Rattle.codec.proofs.read_sent.Statement.{statement}
 use Rattle.codec.proofs.read_sent.Tie as tie
-use borrow.Author.Needs.{needs}
 
 read-long-requires : tie.Need-read-long-requires
 read-long-requires c κs = rw (c .if1 .taken) at (c .before .before .pre)

@@ -4,7 +4,6 @@ use Rattle.paper.specs.declared.Body.the-variants.{Prepare}
 use Rattle.paper.proofs.Bodies.{unlisted}
 use Rattle.nouns.proofs.message.body_of.Statement.{statement}
 use Rattle.nouns.proofs.message.body_of.Tie as tie
-use borrow.Author.Needs.{needs}
 
 returns : tie.Need-returns
 unfolding bodyOf

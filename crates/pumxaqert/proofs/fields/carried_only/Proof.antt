@@ -13,7 +13,7 @@ use Rattle.pumxaqert.proofs.fields.carried_only.Statement.{statement}
 use Rattle.pumxaqert.proofs.fields.carried_only.Tie as tie
 
 abbrev Inv-loop : tie.InvT-loop
-Inv-loop p f left₀ left = (carriedOnly p f ≡ allBelow left (λ i. hasField p (fieldOf p i) || eqb (getD f i 0) 0)) × (left ≤ 18)
+Inv-loop p f left₀ left = (carriedOnly p f ≡ allBelow left (λ i. hasField p (fieldOf p i) || eqb (getD f i 0) 0)) × (left ≤ 19)
 
 abbrev μ-loop : tie.MeasureT-loop
 μ-loop p f left₀ left = left

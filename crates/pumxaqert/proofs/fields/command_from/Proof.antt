@@ -18,6 +18,12 @@ element-copy-out-low32 c = search needs
 low32-requires : tie.Need-low32-requires
 low32-requires c κs = search needs
 
+element-copy-out-low32-2 : tie.Need-element-copy-out-low32-2
+element-copy-out-low32-2 c = search needs
+
+low32-requires-2 : tie.Need-low32-requires-2
+low32-requires-2 c κs = search needs
+
 element-copy-out-edit : tie.Need-element-copy-out-edit
 element-copy-out-edit c = search needs
 
@@ -34,5 +40,7 @@ command-from-spec =
     op-of-requires
     element-copy-out-low32
     low32-requires
+    element-copy-out-low32-2
+    low32-requires-2
     element-copy-out-edit
     returns)

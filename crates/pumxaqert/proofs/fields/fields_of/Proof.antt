@@ -52,6 +52,9 @@ from-size-requires c κs = search needs
 from32-requires-3 : tie.Need-from32-requires-3
 from32-requires-3 c κs = search needs
 
+from32-requires-4 : tie.Need-from32-requires-4
+from32-requires-4 c κs = search needs
+
 array-read-from16 : tie.Need-array-read-from16
 array-read-from16 c = search needs
 
@@ -96,7 +99,7 @@ from16-requires-8 c κs = search needs
 
 returns : tie.Need-returns
 unfolding fieldsOf
-returns c = λ i. (c .before .before .before .before .before .before .before .before .before .before .before .before .before .before .before .before .before .before .before .from8 .ensures ∙ c .before .before .before .before .before .before .before .before .before .before .before .before .before .before .before .before .before .before .before .before .kind-of .ensures) i ∷ (c .before .before .before .before .before .before .before .before .before .before .before .before .before .before .before .before .before .before .from82 .ensures) i ∷ (c .before .before .before .before .before .before .before .before .before .before .before .before .before .before .before .before .before .from83 .ensures) i ∷ (c .before .before .before .before .before .before .before .before .before .before .before .before .before .before .before .before .from84 .ensures) i ∷ (c .before .before .before .before .before .before .before .before .before .before .before .before .before .before .before .from16 .ensures) i ∷ (c .before .before .before .before .before .before .before .before .before .before .before .before .before .before .from32 .ensures) i ∷ (c .before .before .before .before .before .before .before .before .before .before .before .before .from322 .ensures ∙ c .before .before .before .before .before .before .before .before .before .before .before .before .before .other-ballot .ensures) i ∷ (c .before .before .before .before .before .before .before .before .before .before .from85 .ensures ∙ c .before .before .before .before .before .before .before .before .before .before .before .status-in .ensures) i ∷ (c .before .before .before .before .before .before .before .before .from-size .ensures ∙ c .before .before .before .before .before .before .before .before .before .op-number .ensures ∙ ap (λ (k : Command). opNumber (k .op)) (c .before .before .before .before .before .before .before .before .before .before .before .before .before .before .before .before .before .before .before .before .before .before .command-in .ensures)) i ∷ (c .before .before .before .before .before .before .before .from323 .ensures ∙ ap (λ (k : Command). k .key) (c .before .before .before .before .before .before .before .before .before .before .before .before .before .before .before .before .before .before .before .before .before .before .command-in .ensures)) i ∷ (ap (λ (k : Command). k .edit) (c .before .before .before .before .before .before .before .before .before .before .before .before .before .before .before .before .before .before .before .before .before .before .command-in .ensures)) i ∷ (c .before .before .before .before .before .before .from162 .ensures) i ∷ (c .before .before .before .before .before .from163 .ensures) i ∷ (c .before .before .before .before .from164 .ensures) i ∷ (c .before .before .before .from165 .ensures) i ∷ (c .before .before .from166 .ensures) i ∷ (c .before .from167 .ensures) i ∷ (c .from168 .ensures) i ∷ []
+returns c = λ i. (c .before .before .before .before .before .before .before .before .before .before .before .before .before .before .before .before .before .before .before .before .from8 .ensures ∙ c .before .before .before .before .before .before .before .before .before .before .before .before .before .before .before .before .before .before .before .before .before .kind-of .ensures) i ∷ (c .before .before .before .before .before .before .before .before .before .before .before .before .before .before .before .before .before .before .before .from82 .ensures) i ∷ (c .before .before .before .before .before .before .before .before .before .before .before .before .before .before .before .before .before .before .from83 .ensures) i ∷ (c .before .before .before .before .before .before .before .before .before .before .before .before .before .before .before .before .before .from84 .ensures) i ∷ (c .before .before .before .before .before .before .before .before .before .before .before .before .before .before .before .before .from16 .ensures) i ∷ (c .before .before .before .before .before .before .before .before .before .before .before .before .before .before .before .from32 .ensures) i ∷ (c .before .before .before .before .before .before .before .before .before .before .before .before .before .from322 .ensures ∙ c .before .before .before .before .before .before .before .before .before .before .before .before .before .before .other-ballot .ensures) i ∷ (c .before .before .before .before .before .before .before .before .before .before .before .from85 .ensures ∙ c .before .before .before .before .before .before .before .before .before .before .before .before .status-in .ensures) i ∷ (c .before .before .before .before .before .before .before .before .before .from-size .ensures ∙ c .before .before .before .before .before .before .before .before .before .before .op-number .ensures ∙ ap (λ (k : Command). opNumber (k .op)) (c .before .before .before .before .before .before .before .before .before .before .before .before .before .before .before .before .before .before .before .before .before .before .before .command-in .ensures)) i ∷ (c .before .before .before .before .before .before .before .before .from323 .ensures ∙ ap (λ (k : Command). k .key) (c .before .before .before .before .before .before .before .before .before .before .before .before .before .before .before .before .before .before .before .before .before .before .before .command-in .ensures)) i ∷ (c .before .before .before .before .before .before .before .from324 .ensures ∙ ap (λ (k : Command). k .second) (c .before .before .before .before .before .before .before .before .before .before .before .before .before .before .before .before .before .before .before .before .before .before .before .command-in .ensures)) i ∷ (ap (λ (k : Command). k .edit) (c .before .before .before .before .before .before .before .before .before .before .before .before .before .before .before .before .before .before .before .before .before .before .before .command-in .ensures)) i ∷ (c .before .before .before .before .before .before .from162 .ensures) i ∷ (c .before .before .before .before .before .from163 .ensures) i ∷ (c .before .before .before .before .from164 .ensures) i ∷ (c .before .before .before .from165 .ensures) i ∷ (c .before .before .from166 .ensures) i ∷ (c .before .from167 .ensures) i ∷ (c .from168 .ensures) i ∷ []
 
 pub fields-of-spec : {M : Type 1} → statement M
 fields-of-spec =
@@ -117,6 +120,7 @@ fields-of-spec =
     op-number-requires
     from-size-requires
     from32-requires-3
+    from32-requires-4
     array-read-from16
     from16-requires-2
     array-read-from16-2

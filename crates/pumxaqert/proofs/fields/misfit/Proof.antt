@@ -20,14 +20,14 @@ carried-only-requires c κs = search needs
 returns-2 : tie.Need-returns-2
 returns-2 c = misfit-length _ (c .before .before .before .before .row-of .ensures) (not-false _ (c .before .before .if1 .left)) (c .before .carried-only .ensures) (not-true _ (c .if2 .taken))
 
-first-large-requires : tie.Need-first-large-requires
-first-large-requires c κs = search needs
+first-unheld-requires : tie.Need-first-unheld-requires
+first-unheld-requires c κs = search needs
 
 refusal-of-requires : tie.Need-refusal-of-requires
 refusal-of-requires c κs = search needs
 
 returns-3 : tie.Need-returns-3
-returns-3 c = c .refusal-of .ensures ∙ misfit-rest _ (c .before .before .before .before .before .before .row-of .ensures) (not-false _ (c .before .before .before .before .if1 .left)) (c .before .before .before .carried-only .ensures) (not-false _ (c .before .before .if2 .left)) (c .before .first-large .ensures)
+returns-3 c = c .refusal-of .ensures ∙ misfit-rest _ (c .before .before .before .before .before .before .row-of .ensures) (not-false _ (c .before .before .before .before .if1 .left)) (c .before .before .before .carried-only .ensures) (not-false _ (c .before .before .if2 .left)) (c .before .first-unheld .ensures)
 
 pub misfit-spec : {M : Type 1} → statement M
 misfit-spec =
@@ -38,6 +38,6 @@ misfit-spec =
     returns
     carried-only-requires
     returns-2
-    first-large-requires
+    first-unheld-requires
     refusal-of-requires
     returns-3)

@@ -11,7 +11,7 @@ use Rattle.table.proofs.Walk.{left-true, left-false, left-none}
 use Rattle.pumxaqert.specs.Fields.{sameFields}
 
 abbrev Inv-loop : tie.InvT-loop
-Inv-loop f g left₀ left = (sameFields f g ≡ allBelow left (λ i. eqb (getD f i 0) (getD g i 0))) × (left ≤ 18)
+Inv-loop f g left₀ left = (sameFields f g ≡ allBelow left (λ i. eqb (getD f i 0) (getD g i 0))) × (left ≤ 19)
 
 abbrev μ-loop : tie.MeasureT-loop
 μ-loop f g left₀ left = left

@@ -36,7 +36,7 @@ returns c = let q = sym (c .before .before .x .given .1) ∙ c .before .before .
 
 returns-2 : tie.Need-returns-2
 returns-2 c = let q = sym (c .before .before .before .before .x2 .given .1) ∙ c .before .before .before .before .before .before .settled .ensures in
-    (ap settlingNumber q, (λ i. 0 ∷ (c .before .before .from-size .ensures) i ∷ (c .before .from-size2 .ensures) i ∷ 0 ∷ []) ∙ ap settlingValues q)
+    (ap settlingNumber q, (λ i. 0 ∷ (c .before .before .from-size .ensures) i ∷ (c .before .from-size2 .ensures) i ∷ 0 ∷ 0 ∷ []) ∙ ap settlingValues q)
 
 returns-3 : tie.Need-returns-3
 returns-3 c = let q = sym (c .before .before .before .x3 .given .1) ∙ c .before .before .before .before .before .settled .ensures in
