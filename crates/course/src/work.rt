@@ -146,7 +146,12 @@ fn on_table(t: &mut [u8], w: Scene, c: usize, what: Event, b: &[u8], room: &mut 
     let n = w.n;
     let s = w.s;
     match what {
-        Event::Request { op, key, edit } => request::ask::request(t, n, s, c, room, op, key, edit),
+        Event::Request {
+            op,
+            key,
+            second,
+            edit,
+        } => request::ask::request(t, n, s, c, room, op, key, second, edit),
         Event::Message => receive::message::message(t, n, s, c, room, b),
         Event::Recover { o, j } => recover::recover(t, n, s, c, room, o, j),
         Event::Nudge { o, j } => nudge::nudge(t, n, s, c, room, o, j),

@@ -2,6 +2,8 @@
 use crate::play::Setup;
 use codec::op_of;
 use nouns::command::op_number;
+use nouns::logic::both;
+use nouns::logic::equal;
 use nouns::logic::wide8;
 use nouns::logic::wide16;
 use nouns::logic::wide32;
@@ -53,8 +55,8 @@ fn put_body(out: Text, body: Body) -> Text {
         wide32(joined_in(body)),
         0,
     ];
-    let v = [op_number(op), wide32(k.key), size(k.edit), 0];
-    put_form(put_form(out, b" # # #", told), b" # # #", v)
+    let v = [op_number(op), wide32(k.key), wide32(k.second), size(k.edit)];
+    put_form(put_form(out, b" # # #", told), b" # # # #", v)
 }
 
 fn put_deps(out: Text, deps: [u16; 7]) -> Text {
@@ -109,7 +111,8 @@ fn command_of(v: [usize; NUMBERS]) -> Command {
     Command {
         op: op_of(low8(v[11])),
         key: low32(v[12]),
-        edit: wide(v[13]),
+        second: low32(v[13]),
+        edit: wide(v[14]),
     }
 }
 
@@ -127,7 +130,7 @@ fn carried_of(v: [usize; NUMBERS]) -> Carried {
 fn deps_of(v: [usize; NUMBERS]) -> [u16; 7] {
     let mut deps = [0u16; 7];
     for i in 0..7 {
-        deps[i] = low16(v[i + 14]);
+        deps[i] = low16(v[i + 15]);
     }
     deps
 }
@@ -150,11 +153,11 @@ fn message_of(v: [usize; NUMBERS]) -> Message {
 fn most(i: usize) -> usize {
     match i {
         1 => BYTES,
-        2 => 8,
+        2 => 12,
         3 | 4 | 5 | 9 => 255,
-        7 | 8 | 10 | 12 => 4294967295,
-        11 => 2,
-        0 | 13 => usize::MAX,
+        7 | 8 | 10 | 12 | 13 => 4294967295,
+        11 => 3,
+        0 | 14 => usize::MAX,
         _ => 65535,
     }
 }
@@ -181,12 +184,19 @@ fn write_to(room: &mut [u8], w: Setup, m: Message) -> Text {
     put_hex(put_writing(answer), &*room, room.len())
 }
 
-// C write ROOM KIND FROM TO OWNER NUMBER BALLOT VOTED STATUS JOINED OP KEY EDIT D0 .. D6
+// The kind of the line is the one that its body has with its command.
+fn agree(v: [usize; NUMBERS], m: Message) -> bool {
+    let body = m.body;
+    equal(v[2], wide8(kind_of(body)))
+}
+
+// C write ROOM KIND FROM TO OWNER NUMBER BALLOT VOTED STATUS JOINED OP KEY SECOND EDIT D0 .. D6
 pub fn write(got: Read, w: Setup) -> Text {
     let mut room = [0xEEu8; BYTES];
     let v = got.v;
-    if !fit(v) {
+    let m = message_of(v);
+    if !both(fit(v), agree(v, m)) {
         return bad_line();
     }
-    write_to(front_mut(&mut room, v[1]), w, message_of(v))
+    write_to(front_mut(&mut room, v[1]), w, m)
 }

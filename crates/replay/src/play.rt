@@ -46,7 +46,7 @@ fn play_line(line: &[u8], w: Setup, t: &mut [u8]) -> Setup {
         line,
         b"run # #\
             |# read @\
-            |# write # # # # # # # # # # # # # # # # # # # #\
+            |# write # # # # # # # # # # # # # # # # # # # # #\
             |# judge # # # # @\
             |# blank #\
             |# part # # #",

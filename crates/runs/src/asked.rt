@@ -21,8 +21,8 @@ use text::put::put_number;
 
 fn put_settled(k: Command) -> Text {
     let op = k.op;
-    let v = [op_number(op), wide32(k.key), size(k.edit), 0];
-    put_form(empty(), b"= settled # # #", v)
+    let v = [op_number(op), wide32(k.key), wide32(k.second), size(k.edit)];
+    put_form(empty(), b"= settled # # # #", v)
 }
 
 fn put_settling(answer: Settling) -> Text {

@@ -8,6 +8,7 @@ use nouns::logic::both;
 use paper::Refusal;
 use text::bytes::front;
 use text::bytes::low32;
+use text::forms::NUMBERS;
 use text::forms::Read;
 use text::put::Text;
 use text::put::bad_line;
@@ -49,23 +50,36 @@ fn kept(w: Told, answer: Answer, t: &[u8], d: &mut [u8]) -> Told {
     }
 }
 
+// The numbers of a request: op, key, second key, edit.
+fn ask(v: [usize; NUMBERS], w: Told, t: &mut [u8], room: &mut [u8]) -> Answer {
+    let key = low32(v[2]);
+    let second = low32(v[3]);
+    let edit = wide(v[4]);
+    request::ask::request(t, w.n, w.s, w.c, room, v[1], key, second, edit)
+}
+
 // The library's answer, by the place of the call's form.
 fn answer_of(got: Read, w: Told, t: &mut [u8], room: &mut [u8]) -> Answer {
     let v = got.v;
     let bytes = got.bytes;
     let form = got.form;
     match form {
-        6 => request::ask::request(t, w.n, w.s, w.c, room, v[1], low32(v[2]), wide(v[3])),
+        6 => ask(v, w, t, room),
         7 => receive::message::message(t, w.n, w.s, w.c, room, front(&bytes, got.length)),
         8 => recover::recover(t, w.n, w.s, w.c, room, v[1], v[2]),
         _ => nudge::nudge(t, w.n, w.s, w.c, room, v[1], v[2]),
     }
 }
 
-// C request OP KEY EDIT, C message BYTES, C recover OWNER NUMBER, C nudge OWNER NUMBER. A key is a u32.
+// Keys are u32.
+fn keys_fit(key: usize, second: usize) -> bool {
+    both(key <= 4294967295, second <= 4294967295)
+}
+
+// C request OP KEY SECOND EDIT, C message BYTES, C recover OWNER NUMBER, C nudge OWNER NUMBER
 pub fn event(got: Read, w: Told, t: &mut [u8], d: &mut [u8], room: &mut [u8]) -> Outcome {
     let v = got.v;
-    if both(got.form == 6, 4294967295 < v[2]) {
+    if both(got.form == 6, !keys_fit(v[2], v[3])) {
         return said(bad_line(), w);
     }
     let answer = answer_of(got, w, &mut *t, &mut *room);

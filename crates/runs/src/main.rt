@@ -1,6 +1,6 @@
 // Plays recorded runs of several copies from standard input and writes an answer line for each call.
 // `run N S` blanks copies 0 to N-1. Then a line is a call at copy C:
-//     C request OP KEY EDIT      C message BYTES      C recover OWNER NUMBER      C nudge OWNER NUMBER
+//     C request OP KEY SECOND EDIT      C message BYTES      C recover OWNER NUMBER      C nudge OWNER NUMBER
 //     C settled OWNER NUMBER     C handout ROOM     C cut KEEP
 // Each copy keeps a journal. A cut, right after a call at C, falls inside the entry behind the first KEEP of those that the call
 // added: the copy starts again from the table that its journal was begun with and what is left of the journal.

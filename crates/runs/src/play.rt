@@ -35,7 +35,10 @@ use text::put::put_number;
 // Seven areas, one for each copy's table, and one for the stream's buffer.
 const TABLES: usize = 7 * LONGEST;
 
-const AREAS: usize = TABLES + BYTES;
+// The longest buffer of a stream: it holds a message of each kind, and a byte more.
+const BUFFER: usize = 381;
+
+const AREAS: usize = TABLES + BUFFER;
 
 // A disk for each copy.
 const DISKS: usize = 7 * DISK;
@@ -142,7 +145,7 @@ fn play_stream(got: Read, w: Told, all: &mut [u8]) -> Told {
         return take_line(got, w, part_mut(all, TABLES, w.buffer));
     }
     let room = got.v[0];
-    if BYTES < room {
+    if BUFFER < room {
         finish(bad_line());
         return w;
     }
@@ -177,7 +180,7 @@ fn play_line(line: &[u8], w: Told, all: &mut [u8], disks: &mut [u8]) -> Told {
             |room #\
             |watch\
             |# poke # @\
-            |# request # # #\
+            |# request # # # #\
             |# message @\
             |# recover # #\
             |# nudge # #\

@@ -23,6 +23,13 @@ pub fn row_at(b: &[u8]) -> Row {
     row_of(kind_at(b))
 }
 
+// It is of a kind that carries rewires alone.
+pub fn is_for_rewire(b: &[u8]) -> bool {
+    let row = row_at(b);
+    let parts = row.parts;
+    parts.second
+}
+
 // Every field in the order of the bytes.
 fn field(i: usize) -> Field {
     match i {
@@ -35,14 +42,15 @@ fn field(i: usize) -> Field {
         6 => Field::Status,
         7 => Field::Op,
         8 => Field::Key,
-        9 => Field::Edit,
-        10 => Field::Entry(0),
-        11 => Field::Entry(1),
-        12 => Field::Entry(2),
-        13 => Field::Entry(3),
-        14 => Field::Entry(4),
-        15 => Field::Entry(5),
-        16 => Field::Entry(6),
+        9 => Field::Second,
+        10 => Field::Edit,
+        11 => Field::Entry(0),
+        12 => Field::Entry(1),
+        13 => Field::Entry(2),
+        14 => Field::Entry(3),
+        15 => Field::Entry(4),
+        16 => Field::Entry(5),
+        17 => Field::Entry(6),
         _ => Field::Joined,
     }
 }
@@ -54,7 +62,7 @@ fn begins_at(p: Parts, f: Field, offset: usize) -> bool {
 pub fn field_at(b: &[u8], offset: usize) -> Begins {
     let row = row_at(b);
     let parts = row.parts;
-    for i in 0..18 {
+    for i in 0..19 {
         let f = field(i);
         if begins_at(parts, f, offset) {
             return Begins::Field(f);

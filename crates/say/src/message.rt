@@ -51,11 +51,11 @@ fn put_body(out: Text, n: usize, body: Body, deps: [u16; 7]) -> Text {
     }
 }
 
-// The kinds' names stand in the order of the paper's numbers.
+// The kinds' names stand in the order of the paper's numbers; those of a rewire are named as the others.
 pub fn put_kind(out: Text, k: usize) -> Text {
     put_text(
         out,
-        b"|PreAccept|PreAcceptOK|Accept|AcceptOK|Commit|Prepare|PrepareOK|Nack",
+        b"|PreAccept|PreAcceptOK|Accept|AcceptOK|Commit|Prepare|PrepareOK|Nack|PreAccept|Accept|Commit|PrepareOK",
         k,
     )
 }

@@ -1,4 +1,5 @@
 // What a field of a message may be, beside what stands in the others.
+use crate::fields::is_for_rewire;
 use crate::fields::row_at;
 use crate::fields::value_in;
 use nouns::logic::both;
@@ -10,6 +11,7 @@ use scene::Scene;
 use text::put::Text;
 use text::put::put_bytes;
 use text::put::put_form;
+use wire::kind_at;
 
 fn put_below(out: Text, n: usize) -> Text {
     put_form(out, b"below #", [n, 0, 0, 0])
@@ -65,7 +67,19 @@ fn is_first(b: &[u8]) -> bool {
     both(is_fresh(ballots), value_in(b, Field::Ballot) == 0)
 }
 
+// It is of a kind for rewires, which cannot tell that there is no vote.
+fn put_rewire_range(out: Text, b: &[u8]) -> Text {
+    let told = put_form(out, b"3, since kind is #", [kind_at(b), 0, 0, 0]);
+    if tells_none(b) {
+        return put_bytes(told, b"; and 0, since status is 0");
+    }
+    told
+}
+
 fn put_op_range(out: Text, b: &[u8]) -> Text {
+    if is_for_rewire(b) {
+        return put_rewire_range(out, b);
+    }
     if tells_none(b) {
         return put_bytes(out, b"0, since status is 0");
     }
@@ -78,6 +92,10 @@ fn put_op_range(out: Text, b: &[u8]) -> Text {
 // A no-op has neither key nor edit; every other command may have any.
 fn put_noop_range(out: Text) -> Text {
     put_bytes(out, b"0, since op is 0")
+}
+
+fn put_second_range(out: Text, b: &[u8]) -> Text {
+    put_form(out, b"above key #", [value_in(b, Field::Key), 0, 0, 0])
 }
 
 fn put_entry_range(out: Text, w: Scene, b: &[u8], q: usize) -> Text {
@@ -103,6 +121,7 @@ pub fn put_range(out: Text, w: Scene, b: &[u8], f: Field) -> Text {
         Field::Status => put_status_range(out, b),
         Field::Op => put_op_range(out, b),
         Field::Key => put_noop_range(out),
+        Field::Second => put_second_range(out, b),
         Field::Edit => put_noop_range(out),
         Field::Entry(q) => put_entry_range(out, w, b, wide8(q)),
         Field::Joined => put_joined_range(out, n, b),

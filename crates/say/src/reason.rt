@@ -34,8 +34,8 @@ pub fn put_reason(out: Text, why: Reason) -> Text {
         out,
         b"a line begins with copies, copy, deliver, drop, repeat, damage, shorten, cut, stop, restart, show or #\
             |say: copies 3, numbers 4\
-            |say: copy 0 requests write key 7 edit 100, requests read key 7, recovers 0.1, nudges 0.1, \
-            is asked about 0.1, hands out, hands out up to 2, or begins its journal anew\
+            |say: copy 0 requests write key 7 edit 100, requests read key 7, requests rewire key 7 to key 9 edit 100, \
+            recovers 0.1, nudges 0.1, is asked about 0.1, hands out, hands out up to 2, or begins its journal anew\
             |say: deliver 0 to 1, deliver 0 to 1 at 2, deliver all, drop 0 to 1, or repeat 0 to 1\
             |say: damage 0 to 1 byte 15 as 9, or shorten 0 to 1 to 6 bytes\
             |say: cut copy 0 before saving, before sending, after 1 mark, at byte 100 of its entry, or at byte 2 of mark 1\

@@ -27,11 +27,13 @@ pub fn say(form: &[u8], a: usize, b: usize, c: usize) {
 
 pub fn put_command(out: Text, k: Command) -> Text {
     let op = k.op;
-    let v = [wide32(k.key), size(k.edit), 0, 0];
+    let one = [wide32(k.key), size(k.edit), 0, 0];
+    let two = [wide32(k.key), wide32(k.second), size(k.edit), 0];
     match op {
         Op::Noop => put_bytes(out, b"no-op"),
-        Op::Read => put_form(out, b"read key #", v),
-        Op::Write => put_form(out, b"write key # edit #", v),
+        Op::Read => put_form(out, b"read key #", one),
+        Op::Write => put_form(out, b"write key # edit #", one),
+        Op::Rewire => put_form(out, b"rewire key # to key # edit #", two),
     }
 }
 
@@ -66,7 +68,7 @@ pub fn put_refusal(out: Text, why: Refusal) -> Text {
         b"|: the setup is not the table's\
             |: there is no room for messages\
             |\
-            |: only reads and writes are requested\
+            |: only reads, writes and rewires to a higher key are requested\
             |: all numbers of this copy are used\
             |: there is no such instance\
             |: its ballots are used up\

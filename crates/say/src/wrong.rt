@@ -1,6 +1,7 @@
 // What is wrong with a message that is refused.
 use crate::fields::Begins;
 use crate::fields::field_at;
+use crate::fields::is_for_rewire;
 use crate::fields::row_at;
 use crate::fields::value_in;
 use crate::message::put_kind;
@@ -27,9 +28,18 @@ fn put_unknown_kind(out: Text, b: &[u8]) -> Text {
     put_form(out, b": there is no kind #", [kind_at(b), 0, 0, 0])
 }
 
+// The name of its kind; a rewire's messages are longer than others of that name.
+fn put_full_name(out: Text, b: &[u8]) -> Text {
+    let named = put_kind(out, kind_at(b));
+    if is_for_rewire(b) {
+        return put_bytes(named, b" of a rewire");
+    }
+    named
+}
+
 fn put_wrong_length(out: Text, b: &[u8]) -> Text {
     let k = kind_at(b);
-    let named = put_kind(put_bytes(out, b": "), k);
+    let named = put_full_name(put_bytes(out, b": "), b);
     put_form(
         named,
         b" has # bytes, and this has #",
@@ -83,6 +93,7 @@ fn put_name(out: Text, f: Field) -> Text {
         Field::Status => put_bytes(out, b"status"),
         Field::Op => put_bytes(out, b"op"),
         Field::Key => put_bytes(out, b"key"),
+        Field::Second => put_bytes(out, b"second key"),
         Field::Edit => put_bytes(out, b"edit"),
         Field::Entry(q) => put_form(out, b"entry # of the dependencies", [wide8(q), 0, 0, 0]),
         Field::Joined => put_bytes(out, b"joined"),

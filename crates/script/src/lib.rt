@@ -1,6 +1,6 @@
 // The words of a script. A line is one step:
 //     copies 3, numbers 4                       begins a run of three blank copies with four numbers each
-//     copy 0 requests write key 7 edit 100      or: requests read key 7
+//     copy 0 requests write key 7 edit 100      or: requests read key 7, requests rewire key 7 to key 9 edit 100
 //     deliver 0 to 1 · drop 0 to 1 · repeat 0 to 1      the oldest message on the way from 0 to 1
 //     deliver 0 to 1 at 2                       it goes astray: it arrives at copy 2
 //     damage 0 to 1 byte 15 as 9                it stays on the way; its byte 15, counted from 0, is 9 from now on
@@ -19,10 +19,21 @@ pub mod line;
 
 // An event at a copy; a message's bytes stand beside it.
 pub enum Event {
-    Request { op: usize, key: u32, edit: u64 },
+    Request {
+        op: usize,
+        key: u32,
+        second: u32,
+        edit: u64,
+    },
     Message,
-    Recover { o: usize, j: usize },
-    Nudge { o: usize, j: usize },
+    Recover {
+        o: usize,
+        j: usize,
+    },
+    Nudge {
+        o: usize,
+        j: usize,
+    },
 }
 
 // What a copy is told to do.

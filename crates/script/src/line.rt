@@ -6,20 +6,22 @@ use crate::Moment;
 use crate::Reason;
 use crate::Step;
 use nouns::command::op_number;
+use nouns::logic::both;
 use nouns::setup::INSTANCES;
 use paper::Op;
 use text::bytes::low32;
 use text::forms::which_form;
 use text::put::wide;
 
-// A key is a u32.
-fn request(c: usize, op: Op, key: usize, edit: usize) -> Step {
-    if 4294967295 < key {
+// Keys are u32; the second is 0 where the op has one alone.
+fn request(c: usize, op: Op, key: usize, second: usize, edit: usize) -> Step {
+    if !both(key <= 4294967295, second <= 4294967295) {
         return Step::Bad(Reason::Copy);
     }
     let what = Event::Request {
         op: op_number(op),
         key: low32(key),
+        second: low32(second),
         edit: wide(edit),
     };
     let act = Act::Event(what);
@@ -75,8 +77,8 @@ fn between(form: usize, from: usize, to: usize, a: usize, b: usize) -> Step {
 // A copy is told to do something, by the place of the form below.
 fn at_copy(form: usize, c: usize, a: usize, b: usize) -> Step {
     match form {
-        0 => request(c, Op::Write, a, b),
-        1 => request(c, Op::Read, a, 0),
+        0 => request(c, Op::Write, a, 0, b),
+        1 => request(c, Op::Read, a, 0, 0),
         2 => recover(c, a, b),
         3 => nudge(c, a, b),
         4 => ask(c, a, b),
@@ -119,6 +121,7 @@ fn step(line: &[u8], form: usize, a: usize, b: usize, c: usize, d: usize) -> Ste
         24 => Step::ShowCopy(a),
         25 => Step::Copies { n: a, s: b },
         26 => Step::At(a, Act::Anew),
+        27 => request(a, Op::Rewire, b, c, d),
         _ => Step::Bad(reason_of(line)),
     }
 }
@@ -181,7 +184,8 @@ pub fn step_of(line: &[u8]) -> Step {
             |show\
             |show copy #\
             |copies #, numbers #\
-            |copy # begins its journal anew",
+            |copy # begins its journal anew\
+            |copy # requests rewire key # to key # edit #",
     );
     let v = got.v;
     step(line, got.form, v[0], v[1], v[2], v[3])

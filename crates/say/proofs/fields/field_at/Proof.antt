@@ -4,10 +4,10 @@ use Rattle.say.proofs.fields.field_at.Statement.{statement}
 use Rattle.say.proofs.fields.field_at.Tie as tie
 
 abbrev Inv-loop : tie.InvT-loop
-Inv-loop b offset parts i₀ i = i ≤ 18
+Inv-loop b offset parts i₀ i = i ≤ 19
 
 abbrev μ-loop : tie.MeasureT-loop
-μ-loop b offset parts i₀ i = 18 - i
+μ-loop b offset parts i₀ i = 19 - i
 
 row-at-requires : tie.Need-row-at-requires Inv-loop μ-loop
 row-at-requires c κs = search needs
