@@ -1,6 +1,6 @@
 //! The program brings a table over from before there was a second key.
 
-use pumxaqert::{Command as Edit, Setup, ROOM};
+use pumxaqert::{Command as Edit, EntryKind, Setup, ROOM};
 use std::fs;
 use std::path::{Path, PathBuf};
 use std::process::Command;
@@ -54,7 +54,7 @@ fn tables() -> (Vec<u8>, Vec<u8>) {
         SETUP.request(&mut table, &mut [0; ROOM], command).unwrap();
     }
     let mut old = table[..3].to_vec();
-    for record in table[3..].chunks_exact(295) {
+    for record in table[3..].chunks_exact(EntryKind::Record.entry_len() - 4) {
         let vote = |at: usize| [&record[at..at + 10], &record[at + 14..at + 36]].concat();
         old.extend([&record[..4], &vote(4), &record[40..43]].concat());
         (0..7).for_each(|q| old.extend(vote(43 + 36 * q)));

@@ -1,6 +1,6 @@
 //! Tables kept from before commands had a second key.
 //!
-//! Their votes have 32 bytes, not 36, and their records 263, not 295, so that every call refuses such a table 1.
+//! Each vote was four bytes shorter then, and a record has eight votes, so that every call refuses such a table 1.
 //! [`bring_over`] makes one of today's out of it. Their journals are not read here, and must not be given to
 //! [`Setup::replay`]: it refuses them 43, but a last record with less than 32 bytes behind it is shorter than today's
 //! entries, so that it is answered as a rest. Before going over, begin the journal anew with the library that wrote it. It
@@ -50,8 +50,8 @@ pub fn table_len(setup: Setup) -> Option<usize> {
 ///
 /// # Panics
 ///
-/// If a record is not there, byte for byte, in the end. The proved library cannot lose one: another was linked, or one of
-/// another layout, and no caller can do anything about that but keep the old table.
+/// If in the end a record is not in its place, byte for byte. The proved library does not lose one: another was linked, or
+/// one of a later layout, and all that a caller can do about that is to keep the old table.
 ///
 /// ```
 /// use pumxaqert::{earlier, Setup};
@@ -73,7 +73,7 @@ pub fn bring_over(setup: Setup, table: &mut [u8], old: &[u8]) -> Result<usize, R
     setup.blank(table)?;
     match put_all(setup, table, old) {
         Ok(count) => {
-            nothing_lost(setup, table, old);
+            nothing_lost(table, old);
             Ok(count)
         }
         Err(refusal) => {
@@ -130,16 +130,13 @@ fn entry(at: Instance, old: &[u8]) -> [u8; ENTRY_LEN] {
     entry
 }
 
-/// Goes the other way round, and by itself: whatever went wrong on the way there, in the library or here, shows.
-fn nothing_lost(setup: Setup, table: &[u8], old: &[u8]) {
-    assert!(table[..HEAD_LEN] == old[..HEAD_LEN], "the new table has another head than the old");
-    for (at, record) in records(setup, old) {
-        let (start, length) = setup.part(table, at);
-        let new = table[start..start + length].iter().enumerate();
-        let kept = new.filter(|(i, _)| !is_second(*i)).map(|(_, byte)| byte);
-        let Instance { owner, number } = at;
-        assert!(kept.eq(record), "record {owner}.{number} was lost on the way: keep the old table");
-    }
+/// Goes the other way round, over all bytes and by no instance: whatever went wrong on the way there, in the library or
+/// here, shows.
+fn nothing_lost(table: &[u8], old: &[u8]) {
+    let (head, records) = table.split_at(HEAD_LEN);
+    let kept = records.iter().enumerate().filter(|(i, _)| !is_second(i % NEW_RECORD_LEN));
+    let all = head.iter().chain(kept.map(|(_, byte)| byte));
+    assert!(all.eq(old), "a record was lost on its way into the new table: keep the old one");
 }
 
 /// Whether this byte of today's record is one of a second key.

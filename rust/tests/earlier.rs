@@ -33,6 +33,11 @@ impl Random {
     }
 }
 
+/// Today's records: an entry has four bytes before its record.
+fn records(table: &[u8]) -> impl Iterator<Item = &[u8]> {
+    table[3..].chunks_exact(EntryKind::Record.entry_len() - 4)
+}
+
 /// What the record was before: the four bytes behind each key taken out, vote by vote.
 fn old_record(record: &[u8]) -> Vec<u8> {
     let vote = |at: usize| [&record[at..at + 10], &record[at + 14..at + VOTE]].concat();
@@ -44,7 +49,7 @@ fn old_record(record: &[u8]) -> Vec<u8> {
 
 fn old_table(table: &[u8]) -> Vec<u8> {
     let mut old = table[..3].to_vec();
-    table[3..].chunks_exact(295).for_each(|record| old.extend(old_record(record)));
+    records(table).for_each(|record| old.extend(old_record(record)));
     old
 }
 
@@ -155,7 +160,7 @@ fn runs() -> impl Iterator<Item = (Setup, Vec<u8>, Vec<u8>)> {
 type Seen = (u8, u8, u8, bool);
 
 fn seen(table: &[u8]) -> Vec<Seen> {
-    let records = table[3..].chunks_exact(295).filter(|r| r.iter().any(|&byte| byte != 0));
+    let records = records(table).filter(|r| r.iter().any(|&byte| byte != 0));
     let has_command = |r: &[u8]| r[REPLIES..].chunks_exact(VOTE).any(|vote| vote[5] != 0);
     records.map(|r| (r[PHASE], r[OWN + 5], r[OWN + 4], has_command(r))).collect()
 }
