@@ -1,7 +1,12 @@
-//! Tables of the layout that had no second keys: what is left of one of today's without them, and back.
+//! Tables of the layout that had no second keys: what is left of one of today's without them, and back, by the second
+//! program and by the wrapper.
 
-use pumxaqert::Setup;
+use crate::make;
+use crate::random::Random;
+use crate::UNTOUCHED;
+use pumxaqert::{earlier, Setup};
 use second::old::{OLD_RECORD_LEN, OLD_VOTE_LEN};
+use second::rules::{Command, REWIRE, WRITE};
 use second::table::{HEAD_LEN, MARK_AT, RECORD_LEN, VOTE_LEN};
 use second::{bring_over, table_len, Refusal};
 
@@ -37,12 +42,101 @@ pub fn brought_over(setup: Setup, old: &[u8]) -> Result<Vec<u8>, Refusal> {
     bring_over(&mut table, n, s, copy, old).map(|()| table)
 }
 
+#[derive(Clone, Copy, Debug, Default)]
+pub struct Counts {
+    pub tables: u64,
+    pub brought: u64,
+}
+
+/// The wrapper brings the same tables over, to the last byte, and refuses the others as the second program does; but a head
+/// that does not fit is 1 there, and not 11. A table that is not brought over is blank then, or untouched.
+pub fn compare(setup: Setup, old: &[u8], counts: &mut Counts) -> Result<(), String> {
+    let Setup { n, s, copy } = setup;
+    let ours = brought_over(setup, old);
+    let other_head = !old.iter().map(|&byte| byte as usize).take(HEAD_LEN).eq([n, s, copy]);
+    let number = |refusal: Refusal| if other_head { 1 } else { refusal.number as u32 };
+    let mut table = vec![UNTOUCHED; table_len(n, s)];
+    let theirs = earlier::bring_over(setup, &mut table, old).map_err(|refusal| refusal.number());
+    let (wanted, answer) = match &ours {
+        Ok(ours) => (ours.clone(), Ok(filled(ours))),
+        Err(refusal) => match number(*refusal) {
+            1 => (vec![UNTOUCHED; table.len()], Err(1)),
+            number => (make::blank(setup), Err(number)),
+        },
+    };
+    counts.tables += 1;
+    counts.brought += ours.is_ok() as u64;
+    match theirs == answer && table == wanted {
+        true => Ok(()),
+        false => {
+            let answers = format!("wrapper {theirs:?}, second {answer:?}");
+            Err(format!("an old table brought over: {answers}, with {setup:?}\n  {old:02x?}"))
+        }
+    }
+}
+
+/// How many records are not blank.
+fn filled(table: &[u8]) -> usize {
+    let records = table[HEAD_LEN..].chunks_exact(RECORD_LEN);
+    records.filter(|record| record.iter().any(|&byte| byte != 0)).count()
+}
+
+const VALUES: [u8; 12] = [0, 1, 2, 3, 4, 5, 7, 8, 16, 64, 128, 255];
+
+/// An old table as it is, by other setups, of other lengths, and with some values at every byte.
+pub fn every_byte(setup: Setup, old: &[u8], counts: &mut Counts) -> Result<(), String> {
+    compare(setup, old, counts)?;
+    for other in [3, 5, 7].map(|n| Setup { n, ..setup }) {
+        (0..other.n).try_for_each(|copy| compare(Setup { copy, ..other }, old, counts))?;
+    }
+    let longer = [old, &[0; OLD_RECORD_LEN]].concat();
+    for length in [0, 1, old.len() - 1, old.len() + 1, longer.len()] {
+        compare(setup, &longer[..length], counts)?;
+    }
+    let mut damaged = old.to_vec();
+    for at in 0..old.len() {
+        for value in VALUES {
+            damaged[at] = value;
+            compare(setup, &damaged, counts)?;
+        }
+        damaged[at] = old[at];
+    }
+    Ok(())
+}
+
+/// Old tables of random sizes, sound ones and some that held a rewire, each also damaged.
+pub fn some(random: &mut Random, counts: &mut Counts) -> Result<(), String> {
+    let n = random.pick(&[3, 5, 7]);
+    let setup = Setup { n, s: random.between(1, 9), copy: random.below(n) };
+    let mut table = make::blank(setup);
+    let filled = random.pick(&[5, 20, 90]);
+    make::fill(random, setup, &mut table, filled);
+    if random.chance(80) {
+        without_rewires(&mut table);
+    }
+    let mut old = without_seconds(&table);
+    compare(setup, &old, counts)?;
+    make::damage(random, &mut old);
+    compare(setup, &old, counts)
+}
+
+/// Every rewire becomes a write of its first key.
+pub fn without_rewires(table: &mut [u8]) {
+    for at in (HEAD_LEN..table.len()).step_by(RECORD_LEN) {
+        let mut record = make::get(table, at);
+        for vote in std::iter::once(&mut record.own).chain(&mut record.replies) {
+            if vote.command.op == REWIRE {
+                vote.command = Command { op: WRITE, second: 0, ..vote.command };
+            }
+        }
+        make::put(table, at, &record);
+    }
+}
+
 #[cfg(test)]
 mod tests {
     use super::*;
-    use crate::make;
-    use crate::random::Random;
-    use second::rules::REWIRE;
+    use crate::journals::{Journals, Told};
     use second::table::Record;
 
     fn some_setup(random: &mut Random) -> Setup {
@@ -98,5 +192,34 @@ mod tests {
             }
         }
         assert!(taken > 300, "{taken}");
+    }
+
+    /// An old record with 32 bytes of further entries behind it is never taken for one of today's, whatever it holds:
+    /// the kind of what is behind it stands where the last reply's status is. With fewer it is a rest.
+    #[test]
+    fn old_entries_are_not_misread() {
+        let mut random = Random(7);
+        let mut journals = Journals::default();
+        for _ in 0..20_000 {
+            let setup = some_setup(&mut random);
+            let mut table = make::blank(setup);
+            make::fill(&mut random, setup, &mut table, 50);
+            without_rewires(&mut table);
+            let old = without_seconds(&table);
+            let mut bytes = Vec::new();
+            for (place, record) in old[HEAD_LEN..].chunks_exact(OLD_RECORD_LEN).enumerate() {
+                let (o, j) = (place / setup.s, place % setup.s + 1);
+                bytes.extend([20, o as u8, j as u8, 0]);
+                bytes.extend(record);
+                if random.chance(30) {
+                    bytes.extend([21, o as u8, j as u8, 0]);
+                }
+            }
+            bytes.truncate(random.pick(&[267, 298, 299, bytes.len()]));
+            let number = if bytes.len() < 299 { 0 } else { 43 };
+            let told = journals.replay(setup, &table, &bytes).unwrap();
+            assert_eq!(told, Told { number, value: 0 });
+            assert!(journals.table == table);
+        }
     }
 }

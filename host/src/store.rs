@@ -32,7 +32,7 @@ impl Disk {
 }
 
 /// A name is on the disk once the folder is in which it stands.
-fn sync_folder(folder: &Path) -> Result<()> {
+pub fn sync_folder(folder: &Path) -> Result<()> {
     File::open(folder)?.sync_all()
 }
 
@@ -180,7 +180,15 @@ impl Files {
 }
 
 fn write_whole(path: PathBuf, bytes: &[u8]) -> Result<()> {
-    let mut file = File::create(path)?;
+    write_to(File::create(path)?, bytes)
+}
+
+/// A file that was not there before.
+pub fn write_new(path: &Path, bytes: &[u8]) -> Result<()> {
+    write_to(File::create_new(path)?, bytes)
+}
+
+fn write_to(mut file: File, bytes: &[u8]) -> Result<()> {
     file.write_all(bytes)?;
     file.sync_all()
 }

@@ -4,6 +4,7 @@
 //! What a host must do with it is in docs/HOST.md.
 #![no_std]
 
+pub mod earlier;
 mod journal;
 mod message;
 pub mod raw;

@@ -1,21 +1,26 @@
 //! sweep COUNT [SEED]: so many sound tables, and as many valid messages of each kind; each byte of them takes all 256
 //! values in turn, and each length is tried. Judge, reader, writer and an event must answer as the second program does.
+//! Tables of the layout that had no second keys are brought over, some values at each byte, as the second program does it.
 //! Before that the messages that are chosen for each copy of N = 3, 5, 7 and S = 1, 64.
 
 use compare::both::{Both, Call, Pair};
 use compare::random::Random;
-use compare::{make, reasons, threads, LONGEST};
+use compare::{make, old, reasons, threads, LONGEST};
 use pumxaqert::{Setup, ROOM};
 use second::message::LAST_KIND;
 use second::table::{HEAD_LEN, RECORD_LEN};
 use std::process::ExitCode;
 use std::time::Instant;
 
+/// For each sweep.
+const OLD_TABLES: usize = 500;
+
 #[derive(Default)]
 struct Counts {
     tables: u64,
     sound: u64,
     messages: reasons::Counts,
+    old: old::Counts,
 }
 
 fn main() -> ExitCode {
@@ -62,6 +67,8 @@ fn report(all: &[Counts]) {
     println!("{read:>12}  messages read, {valid} of them valid");
     let [written, taken] = [sum(|c| c.messages.written), sum(|c| c.messages.taken)];
     println!("{written:>12}  messages written, {taken} of them valid");
+    let [tables, brought] = [sum(|c| c.old.tables), sum(|c| c.old.brought)];
+    println!("{tables:>12}  tables of the old layout, {brought} of them brought over");
 }
 
 fn one(random: &mut Random, counts: &mut Counts) -> Result<(), String> {
@@ -75,7 +82,9 @@ fn one(random: &mut Random, counts: &mut Counts) -> Result<(), String> {
         let (bytes, length) = valid(random, setup, &table, kind);
         reasons::every_byte(&mut both, setup, &bytes[..length], &mut counts.messages)?;
     }
-    Ok(())
+    old::without_rewires(&mut table);
+    old::every_byte(setup, &old::without_seconds(&table), &mut counts.old)?;
+    (0..OLD_TABLES).try_for_each(|_| old::some(random, &mut counts.old))
 }
 
 fn sweep_table(
