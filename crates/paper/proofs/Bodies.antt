@@ -70,25 +70,6 @@ commit-is Prepare h = no-commit h
 commit-is (PrepareOk v t k) h = no-commit h
 commit-is (Nack x) h = no-commit h
 
-long-where : (short long : ℕ) (k : Command) → partsOf short .second ≡ false → partsOf long .second ≡ true → partsOf (kindBy short long k) .second ≡ isRewire k
-long-where short long k p q = go (isRewire k)
-  where
-    go : (t : Bool) → partsOf (cond t long short) .second ≡ t
-    go true = q
-    go false = p
-
--- a body has a second key in its bytes exactly where its command is a rewire
-pub second-is : (b : Body) → partsIn b .second ≡ isRewire (commandIn b)
-unfolding rowOf
-second-is (PreAccept k) = long-where 1 9 k refl refl
-second-is PreAcceptOk = refl
-second-is (Accept k) = long-where 3 10 k refl refl
-second-is AcceptOk = refl
-second-is (Commit k) = long-where 5 11 k refl refl
-second-is Prepare = refl
-second-is (PrepareOk v t k) = long-where 7 12 k refl refl
-second-is (Nack x) = refl
-
 -- the same row with a second key or without
 withSecond : Bool → Row → Row
 withSecond t r =
@@ -118,6 +99,11 @@ row-said (Commit k) = two-rows 5 11 k refl refl
 row-said Prepare = refl
 row-said (PrepareOk v t k) = two-rows 7 12 k refl refl
 row-said (Nack x) = refl
+
+-- a body has a second key in its bytes exactly where its command is a rewire
+pub second-is : (b : Body) → partsIn b .second ≡ isRewire (commandIn b)
+unfolding withSecond
+second-is b = ap (λ (r : Row). r .parts .second) (row-said b)
 
 module _ (b : Body) where
   pub said-role : rowIn b .role ≡ saidIn b .role
