@@ -2,7 +2,7 @@
 use scene::Scene;
 use script::Reason;
 
-#[derive(Drop)]
+#[derive(Clone, Copy)]
 pub struct Turn {
     pub scene: Scene,
     pub good: bool,

@@ -2,6 +2,7 @@
 // message an arrow from where it left to where it arrived. A lost message ends in a cross; commits are dots, hand-outs
 // squares, cuts red crosses, and a copy's line is dashed while it is down. A script of several runs gives one below the
 // other.
+#![tactic(auto)]
 mod copies;
 mod input;
 mod marks;

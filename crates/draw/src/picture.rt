@@ -3,7 +3,7 @@ use text::put::{empty, finish, put_form};
 
 // The copies of the run that is drawn, the column, where the run begins, and how wide and high all is so far.
 // While it is only measured, nothing is written.
-#[derive(Drop)]
+#[derive(Clone, Copy)]
 pub struct Picture {
     pub n: usize,
     pub x: usize,

@@ -1,9 +1,10 @@
 // What the calls on a journal answer, as types. Entries, what is written and what a replay makes of them are the definitions under
 // specs/; no code stands here.
+#![tactic(auto)]
 use paper::Refusal;
 
 // How many bytes were written; 43 says that a replay would not take the entry.
-#[derive(Drop)]
+#[derive(Clone, Copy)]
 pub enum Entering {
     Entry(usize),
     Refused(Refusal),
@@ -11,14 +12,14 @@ pub enum Entering {
 }
 
 // What is refused before the record is looked at.
-#[derive(Drop)]
+#[derive(Clone, Copy)]
 pub enum Gate {
     Open,
     Shut(Refusal),
 }
 
 // What is wrong with an entry: its kind, its instance, or its record or mark.
-#[derive(Drop)]
+#[derive(Clone, Copy)]
 pub enum Fault {
     Kind,
     Instance,
@@ -26,7 +27,7 @@ pub enum Fault {
 }
 
 // What stands in front: an entry, less than one, or one that is bad.
-#[derive(Drop)]
+#[derive(Clone, Copy)]
 pub enum Front {
     Whole,
     Rest,
@@ -34,14 +35,14 @@ pub enum Front {
 }
 
 // Where the walk over a journal ends, and what stands there.
-#[derive(Drop)]
+#[derive(Clone, Copy)]
 pub struct Ended {
     pub front: Front,
     pub at: usize,
 }
 
 // Where a shorter rest begins, or the journal ends; or what is wrong, and with the entry at which offset.
-#[derive(Drop)]
+#[derive(Clone, Copy)]
 pub enum Replaying {
     Upto(usize),
     Bad { why: Fault, offset: usize },

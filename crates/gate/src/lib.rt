@@ -1,11 +1,12 @@
 // What the public calls for events share: the gate, what an event does last, and sending.
+#![tactic(auto)]
 use paper::Refusal;
 
 pub mod act;
 pub mod entrance;
 pub mod send;
 
-#[derive(Drop)]
+#[derive(Clone, Copy)]
 pub enum Answer {
     Event {
         owner: usize,
@@ -16,7 +17,7 @@ pub enum Answer {
 }
 
 // Whether a call's table and room are taken.
-#[derive(Drop)]
+#[derive(Clone, Copy)]
 pub enum Gate {
     Open,
     Shut(Refusal),

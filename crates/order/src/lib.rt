@@ -1,4 +1,5 @@
 // The settled question and the hand-out, as public calls.
+#![tactic(auto)]
 use paper::{Command, Refusal};
 
 pub mod codes;
@@ -7,7 +8,7 @@ pub mod settled;
 pub mod states;
 
 // What the settled question answers: the command, or the uncommitted instance that comes first.
-#[derive(Drop)]
+#[derive(Clone, Copy)]
 pub enum Settling {
     Settled(Command),
     Waits { owner: usize, number: usize },
@@ -15,7 +16,7 @@ pub enum Settling {
 }
 
 // How many codes a hand-out listed.
-#[derive(Drop)]
+#[derive(Clone, Copy)]
 pub enum Handing {
     Codes(usize),
     Refused(Refusal),

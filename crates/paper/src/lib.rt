@@ -1,7 +1,8 @@
 // The paper's nouns as types. Their rules are the definitions under specs/; no code stands here.
+#![tactic(auto)]
 
 // What a command does.
-#[derive(Drop)]
+#[derive(Clone, Copy)]
 pub enum Op {
     Noop,
     Read,
@@ -10,7 +11,7 @@ pub enum Op {
 }
 
 // A rewire is on two objects; any other command has no second key, which is then zero.
-#[derive(Drop)]
+#[derive(Clone, Copy)]
 pub struct Command {
     pub op: Op,
     pub key: u32,
@@ -20,7 +21,7 @@ pub struct Command {
 
 // What a copy voted for: the ballot it voted in, its status there, the command and its dependencies.
 // A record holds its copy's own vote; a collected reply is another copy's.
-#[derive(Drop)]
+#[derive(Clone, Copy)]
 pub struct Vote {
     pub voted: u32,
     pub status: u8,
@@ -29,7 +30,7 @@ pub struct Vote {
 }
 
 // The record of one instance.
-#[derive(Drop)]
+#[derive(Clone, Copy)]
 pub struct Record {
     pub joined: u32,
     pub vote: Vote,
@@ -40,7 +41,7 @@ pub struct Record {
 }
 
 // What messages say. A body that carries a command has two kinds: a long one for a rewire, a short one for all else.
-#[derive(Drop)]
+#[derive(Clone, Copy)]
 pub enum Body {
     PreAccept(Command),
     PreAcceptOk,
@@ -57,7 +58,7 @@ pub enum Body {
 }
 
 // A message. The dependencies stand beside the body, zero where the body carries none.
-#[derive(Drop)]
+#[derive(Clone, Copy)]
 pub struct Message {
     pub from: u8,
     pub to: u8,
@@ -69,7 +70,7 @@ pub struct Message {
 }
 
 // What a body carries; zero, and a no-op, where it carries none.
-#[derive(Drop)]
+#[derive(Clone, Copy)]
 pub struct Carried {
     pub voted: u32,
     pub status: u8,
@@ -78,7 +79,7 @@ pub struct Carried {
 }
 
 // Who says it: the ballot's lead, one who answers the lead, or any copy.
-#[derive(Drop)]
+#[derive(Clone, Copy)]
 pub enum Role {
     Lead,
     Reply,
@@ -86,7 +87,7 @@ pub enum Role {
 }
 
 // At which ballots it is said: at any; at any, but of no no-op at ballot 0; in recovery alone, from ballot 8 on.
-#[derive(Drop)]
+#[derive(Clone, Copy)]
 pub enum Ballots {
     Any,
     Fresh,
@@ -95,7 +96,7 @@ pub enum Ballots {
 
 // What stands in the bytes after the head, in this order: voted ballot and status, command, dependencies, joined ballot.
 // Whether the command has its second key is said apart.
-#[derive(Drop)]
+#[derive(Clone, Copy)]
 pub struct Parts {
     pub told: bool,
     pub command: bool,
@@ -105,7 +106,7 @@ pub struct Parts {
 }
 
 // A row of the table of bodies.
-#[derive(Drop)]
+#[derive(Clone, Copy)]
 pub struct Row {
     pub known: bool,
     pub role: Role,
@@ -114,7 +115,7 @@ pub struct Row {
 }
 
 // The fields of a message after its kind, in the order of the bytes; each entry of the dependencies is one.
-#[derive(Drop)]
+#[derive(Clone, Copy)]
 pub enum Field {
     From,
     To,
@@ -132,7 +133,7 @@ pub enum Field {
 }
 
 // What is wrong with bytes that are no valid message.
-#[derive(Drop)]
+#[derive(Clone, Copy)]
 pub enum Blame {
     Kind,
     Length,
@@ -142,14 +143,14 @@ pub enum Blame {
 }
 
 // What a message is found to be.
-#[derive(Drop)]
+#[derive(Clone, Copy)]
 pub enum Verdict {
     Valid,
     Blamed(Blame),
 }
 
 // Why a call is refused, in the order in which the reasons are tried. A bad field comes with the offset of its first byte.
-#[derive(Drop)]
+#[derive(Clone, Copy)]
 pub enum Refusal {
     Setup,
     Unsound,

@@ -1,1 +1,2 @@
 // What an instance reaches: theorems alone, under specs/ and proofs/.
+#![tactic(auto)]

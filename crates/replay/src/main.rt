@@ -7,6 +7,7 @@
 //     C blank LEN
 //     C part LEN O J
 // Empty lines and lines that begin with '=' are passed over.
+#![tactic(auto)]
 mod messages;
 mod play;
 mod tables;

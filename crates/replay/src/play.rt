@@ -6,7 +6,7 @@ use text::lines::{before_first, is_passed_over, next_line};
 use text::put::{Text, bad_line, finish};
 
 // The setup of the calls that follow, and the copy of a call.
-#[derive(Drop)]
+#[derive(Clone, Copy)]
 pub struct Setup {
     pub n: usize,
     pub s: usize,

@@ -1,3 +1,4 @@
 // "Request", as a public call.
+#![tactic(auto)]
 pub mod ask;
 pub mod lowest;

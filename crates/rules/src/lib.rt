@@ -1,9 +1,10 @@
 // What an event does, as a type. The rules are the definitions under specs/; no code stands here.
+#![tactic(auto)]
 use paper::{Message, Record};
 
 // The record after the event, and one message for each copy in the set `to`, by rising number:
 // `message` with that copy as its destination.
-#[derive(Drop)]
+#[derive(Clone, Copy)]
 pub struct Step {
     pub entry: Record,
     pub to: u8,
@@ -11,7 +12,7 @@ pub struct Step {
 }
 
 // The instance that comes first among those looked for, if there is one.
-#[derive(Drop)]
+#[derive(Clone, Copy)]
 pub enum First {
     At { owner: usize, number: usize },
     Nowhere,

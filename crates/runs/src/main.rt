@@ -13,6 +13,7 @@
 //     watch          each answer ends with a checksum of the table and one of the room, after the call
 //     C poke AT BYTES     sets bytes of copy C's table
 // Empty lines and lines that begin with '=' are passed over.
+#![tactic(auto)]
 mod asked;
 mod event;
 mod kept;

@@ -8,7 +8,7 @@ use text::put::Text;
 // whether answers end with checksums. Beside that the stream: how long its buffer is, and the place in it. And the journals:
 // where that of each copy ends, the copy of the last call, where its journal ended before it, and how much of an entry the
 // next cut leaves.
-#[derive(Drop)]
+#[derive(Clone, Copy)]
 pub struct Told {
     pub n: usize,
     pub s: usize,
@@ -26,7 +26,7 @@ pub struct Told {
 }
 
 // An answer, and how the calls after it are made.
-#[derive(Drop)]
+#[derive(Clone, Copy)]
 pub struct Outcome {
     pub text: Text,
     pub told: Told,

@@ -1,1 +1,2 @@
 // Theorems about the rules; no code stands here.
+#![tactic(auto)]

@@ -6,7 +6,7 @@ use text::bytes::{byte_at, part};
 use wire::{kind_at, offset_of, width_of};
 
 // What begins at a place of a message.
-#[derive(Drop)]
+#[derive(Clone, Copy)]
 pub enum Begins {
     Field(Field),
     Nothing,

@@ -1,4 +1,5 @@
 // What is in messages, records, refusals and scenes, in words.
+#![tactic(auto)]
 pub mod fields;
 pub mod held;
 pub mod message;

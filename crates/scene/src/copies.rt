@@ -106,7 +106,7 @@ pub fn bytes_saved(w: Scene, c: usize) -> usize {
 }
 
 // How many marks a hand-out saves before the copy is cut off, how many bytes of the next, and whether it is cut off.
-#[derive(Drop)]
+#[derive(Clone, Copy)]
 pub struct Marks {
     pub count: usize,
     pub bytes: usize,

@@ -75,7 +75,7 @@ pub fn save(all: &mut [u8], w: Scene, c: usize, entry: Entry) -> Scene {
 }
 
 // The table that a replay of a copy's disk makes, and what the replay answers.
-#[derive(Drop)]
+#[derive(Clone, Copy)]
 pub struct Replayed {
     pub table: [u8; LONGEST],
     pub answer: Replaying,

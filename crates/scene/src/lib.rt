@@ -1,5 +1,6 @@
 // The copies of a run, each with the table that it works on and a disk, and the messages on the way between them. Their bytes
 // are lent: the way first, then the tables of seven copies, then their disks.
+#![tactic(auto)]
 pub mod copies;
 pub mod disks;
 pub mod tables;
@@ -7,7 +8,7 @@ pub mod way;
 
 // The setup, the messages on the way and all that ever left; for each copy whether it is down, which cut awaits it, after how
 // many marks and at which byte, and where its journal ends.
-#[derive(Drop)]
+#[derive(Clone, Copy)]
 pub struct Scene {
     pub n: usize,
     pub s: usize,

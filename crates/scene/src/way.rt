@@ -17,14 +17,14 @@ const FRONT: usize = 5;
 // All places.
 pub const WAY: usize = MOST * PLACE;
 
-#[derive(Drop)]
+#[derive(Clone, Copy)]
 pub enum Found {
     At(usize),
     Nothing,
 }
 
 // A message in its bytes, the number by which the run knows it, and the copy that it goes to.
-#[derive(Drop)]
+#[derive(Clone, Copy)]
 pub struct Parcel {
     pub number: usize,
     pub to: usize,

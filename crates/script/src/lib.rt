@@ -15,10 +15,11 @@
 //     copy 1 begins its journal anew            with the table that it has now
 //     show · show copy 1
 // A line that begins with # is the story's text.
+#![tactic(auto)]
 pub mod line;
 
 // An event at a copy; a message's bytes stand beside it.
-#[derive(Drop)]
+#[derive(Clone, Copy)]
 pub enum Event {
     Request {
         op: usize,
@@ -38,7 +39,7 @@ pub enum Event {
 }
 
 // What a copy is told to do.
-#[derive(Drop)]
+#[derive(Clone, Copy)]
 pub enum Act {
     Event(Event),
     Ask { o: usize, j: usize },
@@ -47,7 +48,7 @@ pub enum Act {
 }
 
 // What becomes of a message.
-#[derive(Drop)]
+#[derive(Clone, Copy)]
 pub enum Fate {
     Deliver,
     Stray(usize),
@@ -59,7 +60,7 @@ pub enum Fate {
 
 // When a copy is cut off: at once, or in its next step. `Entry`: so many bytes of an event's entry are saved; `Marks`: so many
 // marks of a hand-out, and bytes of the next one.
-#[derive(Drop)]
+#[derive(Clone, Copy)]
 pub enum Moment {
     Now,
     Saving,
@@ -69,7 +70,7 @@ pub enum Moment {
 }
 
 // Why a step is not taken.
-#[derive(Drop)]
+#[derive(Clone, Copy)]
 pub enum Reason {
     Word,
     Copies,
@@ -92,7 +93,7 @@ pub enum Reason {
     Restless,
 }
 
-#[derive(Drop)]
+#[derive(Clone, Copy)]
 pub enum Step {
     Text,
     Copies { n: usize, s: usize },

@@ -6,7 +6,7 @@ use nouns::command::is_rewire;
 use paper::{Command, Op};
 
 // Two objects, one of them twice where the command is on one, and the least op that interferes with it there.
-#[derive(Drop)]
+#[derive(Clone, Copy)]
 pub struct Sought {
     pub first: u32,
     pub second: u32,

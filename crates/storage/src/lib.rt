@@ -1,4 +1,5 @@
 // A copy's disk, for the programs that play: the table that its journal was begun with, and behind that the journal.
+#![tactic(auto)]
 ghost use Rattle.std.specs.Prelude.{◌+◌, ◌≤◌, length};
 
 use entries::{Entering, Replaying};
@@ -23,7 +24,7 @@ const MOST: usize = INSTANCES * HEAD;
 pub const DISK: usize = LONGEST + ROOM;
 
 // An entry before it is on the disk. It has no bytes where the library refuses to write it.
-#[derive(Drop)]
+#[derive(Clone, Copy)]
 pub struct Entry {
     pub length: usize,
     pub bytes: [u8; ENTRY],
@@ -107,7 +108,7 @@ fn whole_at(b: &[u8], at: usize) -> usize
 }
 
 // Whole entries from an offset on: how many, where they end, and how long the next one is, 0 where none stands.
-#[derive(Drop)]
+#[derive(Clone, Copy)]
 pub struct Walked {
     pub count: usize,
     pub at: usize,

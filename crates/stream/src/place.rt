@@ -11,20 +11,20 @@ pub const LEAST: usize = 64;
 pub const LONGEST: usize = 18446744073709551615;
 
 // What is held stands from `at` to `end`; `offset` is where in the stream the byte at `at` stands.
-#[derive(Drop)]
+#[derive(Clone, Copy)]
 pub struct Place {
     pub at: usize,
     pub end: usize,
     pub offset: usize,
 }
 
-#[derive(Drop)]
+#[derive(Clone, Copy)]
 pub enum Begun {
     At(Place),
     Refused(Refusal),
 }
 
-#[derive(Drop)]
+#[derive(Clone, Copy)]
 pub enum Gate {
     Open,
     Shut(Refusal),

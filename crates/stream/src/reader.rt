@@ -9,7 +9,7 @@ use crate::place::Place;
 use crate::yielding;
 use crate::yielding::Found;
 
-#[derive(Drop)]
+#[derive(Clone, Copy)]
 pub struct Reader<'a> {
     pub buf: &'a [u8],
     pub place: Place,

@@ -9,14 +9,14 @@ use crate::yielding::is_stopped;
 use paper::Refusal;
 
 // How many bytes were taken; or where in the stream it stands still.
-#[derive(Drop)]
+#[derive(Clone, Copy)]
 pub enum Took {
     Bytes(usize),
     Stopped(usize),
     Refused(Refusal),
 }
 
-#[derive(Drop)]
+#[derive(Clone, Copy)]
 pub struct Taken {
     pub answer: Took,
     pub place: Place,

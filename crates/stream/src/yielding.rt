@@ -10,7 +10,7 @@ use paper::Refusal;
 use wire::length_of;
 
 // The length of a message that is yielded; where in the stream it stands still.
-#[derive(Drop)]
+#[derive(Clone, Copy)]
 pub enum Found {
     Message(usize),
     Nothing,
@@ -18,7 +18,7 @@ pub enum Found {
     Refused(Refusal),
 }
 
-#[derive(Drop)]
+#[derive(Clone, Copy)]
 pub struct Yielded {
     pub answer: Found,
     pub place: Place,

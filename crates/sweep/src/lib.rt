@@ -1,6 +1,7 @@
 // What every instance reaches, found for all at once. A beginning of an owner's row reaches what its instances reach: a row of
 // marks for each. A sweep up and a sweep down over all instances raise these rows. Then the row of each instance begins with
 // its entries and takes in the beginnings that it names, until nothing changes.
+#![tactic(auto)]
 ghost use Rattle.std.specs.Prelude.{◌≡◌, ◌≤◌, ◌<◌, length};
 ghost use Rattle.seen.specs.Records.{records_in};
 ghost use Rattle.reach.specs.High.{Inst};

@@ -1,4 +1,5 @@
 // The table: lent bytes, a head and one record for each instance.
+#![tactic(auto)]
 ghost use Rattle.std.specs.Prelude.{◌≡◌, ◌&&◌, ◌+◌, ◌*◌, ◌≤◌, ◌<◌, length, replicate};
 ghost use Rattle.paper.specs.Instance.{instance_ok};
 ghost use Rattle.paper.specs.Logic.{all_below};
@@ -28,13 +29,13 @@ pub const HEAD: usize = COPY + 1;
 // The longest table.
 pub const LONGEST: usize = HEAD + LENGTH * nouns::setup::INSTANCES;
 
-#[derive(Drop)]
+#[derive(Clone, Copy)]
 pub enum Blanking {
     Blank,
     Refused(Refusal),
 }
 
-#[derive(Drop)]
+#[derive(Clone, Copy)]
 pub enum Judging {
     Sound,
     Refused(Refusal),

@@ -12,7 +12,7 @@ pub const BYTES: usize = 300;
 
 // Which of the forms a line is, how far it is read and whether it fits so far; what it has for the marks, and where what
 // follows a '*' begins.
-#[derive(Drop)]
+#[derive(Clone, Copy)]
 pub struct Read {
     pub form: usize,
     pub next: usize,
@@ -65,7 +65,7 @@ fn digit(b: u8) -> usize
     }
 }
 
-#[derive(Drop)]
+#[derive(Clone, Copy)]
 struct Number {
     value: usize,
     next: usize,

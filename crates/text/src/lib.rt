@@ -1,4 +1,5 @@
 // What the programs share: lines of the input, read by forms; answers put together; lent bytes.
+#![tactic(auto)]
 pub mod bytes;
 pub mod forms;
 pub mod lines;

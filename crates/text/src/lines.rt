@@ -6,7 +6,7 @@ use nouns::logic::either;
 
 // The line between two places of the part, and where the next begins; how much is held of the input, whether that is its
 // last part, and whether there is a line at all.
-#[derive(Drop)]
+#[derive(Clone, Copy)]
 pub struct Line {
     pub from: usize,
     pub end: usize,

@@ -6,7 +6,7 @@ use paper::Refusal;
 
 const ROOM: usize = 4096;
 
-#[derive(Drop)]
+#[derive(Clone, Copy)]
 pub struct Text {
     pub length: usize,
     pub bytes: [u8; ROOM],

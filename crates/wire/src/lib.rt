@@ -1,4 +1,5 @@
 // Messages in bytes: the reader of any bytes and the writer into lent room.
+#![tactic(auto)]
 ghost use Rattle.std.specs.Prelude.{◌≡◌, ◌+◌, ◌≤◌, ◌<◌, cond, length};
 ghost use Rattle.numbers.specs.Num.{num_at, splice};
 ghost use Rattle.numbers.specs.Fields.{size_of};
@@ -29,20 +30,20 @@ const DEPS: usize = 14;
 
 const JOINED: usize = 4;
 
-#[derive(Drop)]
+#[derive(Clone, Copy)]
 pub enum Reading {
     Valid,
     Refused(Refusal),
 }
 
 // The message is the blank one where the answer is a refusal.
-#[derive(Drop)]
+#[derive(Clone, Copy)]
 pub struct Received {
     pub answer: Reading,
     pub message: Message,
 }
 
-#[derive(Drop)]
+#[derive(Clone, Copy)]
 pub enum Writing {
     Bytes(usize),
     Refused(Refusal),
