@@ -1,0 +1,4 @@
+use Rattle.gate.proofs.send.addressed.Goals as goal
+
+pub returns : goal.returns
+returns c = cc

@@ -1,0 +1,23 @@
+use mathlib.Core.Path.{sym, ◌∙◌}
+use borrow.Author.Tests.{eq-eqb, ne_eqb}
+use Rattle.entries.specs.Entry.{kind_in}
+use Rattle.entries.proofs.Lengths.{fit-head, fit-part, fit-slot}
+use Rattle.journal.proofs.judging.entry_ok.Goals as goal
+
+pub owner_in-o-requires : goal.owner_in-o-requires
+owner_in-o-requires c = fit-head _ _ _ c.requires.1
+
+pub part_in-requires : goal.part_in-requires
+part_in-requires c = fit-part _ _ _ c.requires.1 (eq-eqb (kind_in c.args.b.now) 20 (sym c.kind_in.ensures ∙ c.if-kind_in-eq-RECORD.true))
+
+pub returns-then-kind_in-eq-RECORD : goal.returns-then-kind_in-eq-RECORD
+returns-then-kind_in-eq-RECORD c = rw (c.part_sound.ensures, c.part_in.ensures.0, c.owner_in-o.ensures, eq-eqb (kind_in c.args.b.now) 20 (sym c.kind_in.ensures ∙ c.if-kind_in-eq-RECORD.true))
+
+pub number_in-requires : goal.number_in-requires
+number_in-requires c = fit-head _ _ _ c.requires.1
+
+pub slot_of-x-requires : goal.slot_of-x-requires
+slot_of-x-requires c = fit-slot _ _ _ c.requires.1 c.owner_in-o.ensures c.number_in.ensures
+
+pub returns : goal.returns
+returns c = rw (c.slot_of-x.ensures.0, c.number_in.ensures, c.owner_in-o.ensures, ne_eqb (kind_in c.args.b.now) 20 (λ e. c.if-kind_in-eq-RECORD.false (c.kind_in.ensures ∙ e)))

@@ -1,0 +1,44 @@
+use mathlib.Core.Path.{◌≡◌, refl}
+use mathlib.Core.Logic.{⊎_elim}
+use Prim.Native.Nat.{◌*◌, ◌-◌, ◌≤◌}
+use native.Mathlib.Omega.{arith}
+use Rattle.next.proofs.Held.{freed-start, freed-more}
+use Rattle.next.proofs.free_row.Goals as goal
+
+pub overflow_mul-base : goal.overflow_mul-base
+overflow_mul-base c = omega arith
+
+pub loop-i-init : goal.loop-i-init
+loop-i-init c = (omega arith, refl, freed-start _ _ _ _ _)
+
+pub overflow_add-y : goal.overflow_add-y
+overflow_add-y c = omega arith
+
+pub bounds-st-y : goal.bounds-st-y
+bounds-st-y c = omega arith
+
+pub offset_bounds-know-y : goal.offset_bounds-know-y
+offset_bounds-know-y c = omega arith
+
+pub bounds-know-y : goal.bounds-know-y
+bounds-know-y c = omega (arith, c.loop-i.invariant.2.long)
+
+pub overflow_step-i : goal.overflow_step-i
+overflow_step-i c = omega arith
+
+pub loop-i-smaller : goal.loop-i-smaller
+loop-i-smaller c = omega arith
+
+pub loop-i-preserved : goal.loop-i-preserved
+loop-i-preserved c =
+    let l = c in
+    ⊎_elim
+    (λ w. (omega (arith, l.loop-i.invariant.0), l.loop-i.invariant.1, rw w.1 (freed-more _ _ _ _ _ _ _ _ l.loop-i.invariant.2 l.loop-i.invariant.0 c.loop-i-test.true (omega (arith, l.loop-i.invariant.1)) w.0.taken (omega arith))))
+    (λ w. (omega (arith, l.loop-i.invariant.0), l.loop-i.invariant.1, rw w.1 l.loop-i.invariant.2))
+    c.if-st-y-ne2.branch
+
+pub shape_of-know : goal.shape_of-know
+shape_of-know c = c.loop-i.invariant.2.long
+
+pub returns : goal.returns
+returns c = c.loop-i.invariant.2

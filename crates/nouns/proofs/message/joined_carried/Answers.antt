@@ -1,0 +1,4 @@
+use Rattle.nouns.proofs.message.joined_carried.Goals as goal
+
+pub returns : goal.returns
+returns c = cc

@@ -1,0 +1,4 @@
+use Rattle.nouns.proofs.vote.no_vote.Goals as goal
+
+pub returns : goal.returns
+returns c = cc

@@ -1,0 +1,62 @@
+use mathlib.Core.Path.{sym, ◌∙◌}
+use Prim.Native.Nat.{◌-◌}
+use native.Mathlib.Omega.{arith}
+use Rattle.order.proofs.Listed.{listed_start, listed-full}
+use Rattle.order.proofs.hand_out.list_all.Goals as goal
+
+pub loop-count-init : goal.loop-count-init
+loop-count-init c = listed_start _ _ _ _ _ _ _ _ c.requires
+
+pub next_in-found-requires : goal.next_in-found-requires
+next_in-found-requires c = c.loop-count.invariant.listing.going
+
+pub shape_of-t-in_default : goal.shape_of-t-in_default
+shape_of-t-in_default c = let l = c in l.loop-count.invariant.listing.long ∙ sym l.requires.long
+
+pub shape_of-st-in_default : goal.shape_of-st-in_default
+shape_of-st-in_default c = let l = c in l.loop-count.invariant.listing.stated.long ∙ sym l.requires.stated.long
+
+pub shape_of-know-in_default : goal.shape_of-know-in_default
+shape_of-know-in_default c = let l = c in c.next_in-found.ensures.1.long ∙ sym l.requires.going.long
+
+pub shape_of-past-in_default : goal.shape_of-past-in_default
+shape_of-past-in_default c = let l = c in c.next_in-found.ensures.1.passed.long ∙ sym l.requires.going.passed.long
+
+pub shape_of-list-in_default : goal.shape_of-list-in_default
+shape_of-list-in_default c = c.loop-count.invariant.long
+
+pub bounds-st-x : goal.bounds-st-x
+bounds-st-x c = omega (arith, c.slot_of-x.ensures.1, c.loop-count.invariant.listing.stated.long)
+
+pub offset_bounds-list-count : goal.offset_bounds-list-count
+offset_bounds-list-count c =
+    let l = c in
+    let g = l.well-formed.1.1.1.1.1.1.1.0 in
+    omega (arith, c.loop-count-test.true, l.loop-count.invariant.long, g.0, g.1)
+
+pub bounds-list-count : goal.bounds-list-count
+bounds-list-count c = omega (arith, c.loop-count-test.true)
+
+pub overflow_add-count : goal.overflow_add-count
+overflow_add-count c = let l = c in omega (arith, c.loop-count-test.true, l.loop-count.invariant.long, l.well-formed.1.1.1.1.1.1.1.0.0)
+
+pub loop-count-smaller : goal.loop-count-smaller
+loop-count-smaller c = omega (arith, c.loop-count-test.true, c.loop-count.invariant.long)
+
+pub shape_of-t : goal.shape_of-t
+shape_of-t c = let l = c in l.loop-count.invariant.listing.long ∙ sym l.requires.long
+
+pub shape_of-st : goal.shape_of-st
+shape_of-st c = let l = c in l.loop-count.invariant.listing.stated.long ∙ sym l.requires.stated.long
+
+pub shape_of-know : goal.shape_of-know
+shape_of-know c = let l = c in l.loop-count.invariant.listing.going.long ∙ sym l.requires.going.long
+
+pub shape_of-past : goal.shape_of-past
+shape_of-past c = let l = c in l.loop-count.invariant.listing.going.passed.long ∙ sym l.requires.going.passed.long
+
+pub shape_of-list : goal.shape_of-list
+shape_of-list c = c.loop-count.invariant.long
+
+pub returns : goal.returns
+returns c = listed-full _ _ _ _ _ _ _ _ _ _ _ c.loop-count.invariant c.loop-count-test.false

@@ -1,0 +1,40 @@
+use mathlib.Core.Path.{◌≡◌, sym, ◌∙◌}
+use mathlib.Core.Bool.{true}
+use Prim.Native.Nat.{◌-◌, ◌≤◌}
+use native.Mathlib.Omega.{arith}
+use borrow.Author.Tests.{not-true, not-false}
+use Rattle.seen.specs.Records.{records_in}
+use Rattle.order.proofs.Stated.{sized-has, all_more, prefix_here, prefix-whole}
+use Rattle.order.proofs.states.prefix_of.Goals as goal
+
+pub loop-j-init : goal.loop-j-init
+loop-j-init c = (omega arith, λ i a b. absurd (omega arith))
+
+pub overflow_add-j : goal.overflow_add-j
+overflow_add-j c = let g = c.requires in omega (arith, g.0.numbers, c.loop-j-test.true)
+
+pub committed_of-requires : goal.committed_of-requires
+committed_of-requires c = let g = c.requires in sized-has _ _ _ g.0 _ _ (record { owner = g.1; first = omega arith; last = omega (arith, c.loop-j-test.true) })
+
+pub returns-then-not-committed_of : goal.returns-then-not-committed_of
+returns-then-not-committed_of c =
+    let d = c in
+    let l = d in
+    let a = l.args in
+    prefix_here _ (records_in a.s a.t.now) a.q _ d.loop-j-test.true l.loop-j.invariant.1 (sym d.committed_of.ensures ∙ not-true _ c.if-not-committed_of.true)
+
+pub overflow_add-j-in-loop-j : goal.overflow_add-j-in-loop-j
+overflow_add-j-in-loop-j c = omega arith
+
+pub loop-j-smaller : goal.loop-j-smaller
+loop-j-smaller c = omega arith
+
+pub loop-j-preserved : goal.loop-j-preserved
+loop-j-preserved c =
+    let d = c in
+    let l = d in
+    let a = l.args in
+    (omega (arith, d.loop-j-test.true), all_more a.s (records_in a.s a.t.now) a.q _ l.loop-j.invariant.1 (sym d.committed_of.ensures ∙ not-false _ c.if-not-committed_of.false))
+
+pub returns : goal.returns
+returns c = let l = c in let a = l.args in prefix-whole _ (records_in a.s a.t.now) a.q _ l.loop-j.invariant.0 c.loop-j-test.false l.loop-j.invariant.1

@@ -1,0 +1,9 @@
+use mathlib.Core.Path.{ap, ◌∙◌}
+use Rattle.entries.specs.Writing.{entering_number, entering_length}
+use Rattle.pumxaqert.proofs.journals.pumxaqert_mark_entry.Goals as goal
+
+pub returns : goal.returns
+returns c =
+    let g = c.give_entered.ensures in
+    let x = c.mark_entry.ensures in
+    (g.0 ∙ ap entering_number x.0, (g.1 ∙ ap entering_length x.0, x.1))

@@ -1,0 +1,26 @@
+use mathlib.Core.Path.{sym, ◌∙◌}
+use Rattle.paper.specs.declared.Refusal.TheVariants as why
+use Rattle.table.proofs.Laws.{sizes}
+use Rattle.gate.proofs.Calls.{met, refused, acted-is}
+use Rattle.receive.proofs.Laws.{named, heard-10, heard-ok, message-step}
+use Rattle.receive.proofs.message.hear.Goals as goal
+
+pub load-r-requires : goal.load-r-requires
+load-r-requires c =
+    let z = c in
+    let sz = sizes _ _ _ _ z.requires.passed.setup in
+    record { names = rw (c.wide8-o.ensures, c.wide16-j.ensures) (named _ _ _ _ _ _ z.requires); long = sz.long }
+
+pub returns-then-refused10 : goal.returns-then-refused10
+returns-then-refused10 c = let z = c in
+    let a = z.args in
+    let t = a.t.now in
+    met (heard-10 a.n a.s a.c t a.out.now a.m c.wide8-o.ensures c.wide16-j.ensures c.load-r.ensures (sym c.refused10.ensures ∙ c.if-refused10.true)) (refused why.OtherCommit _ _)
+
+pub returns : goal.returns
+returns c = let z = c in
+    let a = z.args in
+    let t = a.t.now in
+    let x = message-step a.n a.s a.c t a.out.now a.m c.wide8-o.ensures c.wide16-j.ensures c.load-r.ensures c.receive-x.ensures in
+    let w = c.act.ensures in
+    met (heard-ok a.n a.s a.c t a.out.now a.m c.wide8-o.ensures c.wide16-j.ensures c.load-r.ensures (sym c.refused10.ensures ∙ c.if-refused10.false)) (acted-is a.s t a.out.now _ _ x w.0 w.1.0 w.1.1)

@@ -1,0 +1,6 @@
+use Rattle.record.specs.Layout.{record_at}
+use Rattle.record.proofs.fields.mark_in.Goals as goal
+
+pub returns : goal.returns
+unfolding record_at
+returns c = c.get_u8.ensures

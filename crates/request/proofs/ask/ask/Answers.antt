@@ -1,0 +1,25 @@
+use Prim.Native.Nat.{◌-◌}
+use Rattle.paper.specs.declared.Refusal.TheVariants as why
+use Rattle.table.proofs.Laws.{sizes}
+use Rattle.gate.proofs.Calls.{met, refused, acted-is}
+use Rattle.gate.proofs.Outcomes.{asked-5, asked-ok}
+use Rattle.request.proofs.ask.ask.Goals as goal
+
+pub returns-then-s-j : goal.returns-then-s-j
+returns-then-s-j c = let z = c in
+    let a = z.args in
+    let t = a.t.now in
+    met (asked-5 a.n a.s a.c t a.out.now a.k c.request_number-j.ensures.0 c.if-s-j.true) (refused why.NoBlank _ _)
+
+pub on_request-x-requires : goal.on_request-x-requires
+on_request-x-requires c = let z = c in
+    let a = z.args in
+    let t = a.t.now in
+    (sizes _ _ _ _ z.requires.passed.setup, c.if-s-j.false, c.request_number-j.ensures.0)
+
+pub returns : goal.returns
+returns c = let z = c in
+    let a = z.args in
+    let t = a.t.now in
+    let w = c.act.ensures in
+    met (asked-ok a.n a.s a.c t a.out.now a.k c.request_number-j.ensures.0 c.if-s-j.false) (acted-is a.s t a.out.now _ _ c.on_request-x.ensures w.0 w.1.0 w.1.1)

@@ -1,0 +1,10 @@
+use Prim.Native.Nat.{◌-◌, ◌≤◌}
+use mathlib.Core.Path.{◌≡◌}
+use lib.ListN.{length}
+use Rattle.runs.proofs.play.blank_all.Given as goal
+
+abbrev pub invariant-loop-c : goal.invariant-loop-c
+invariant-loop-c l = (length l.all ≡ length l.initial.all) × (l.c ≤ 7)
+
+abbrev pub decreases-loop-c : goal.decreases-loop-c
+decreases-loop-c l = 7 - l.c

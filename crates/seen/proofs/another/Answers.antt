@@ -1,0 +1,4 @@
+use Rattle.seen.proofs.another.Goals as goal
+
+pub returns : goal.returns
+returns c = cc

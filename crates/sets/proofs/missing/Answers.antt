@@ -1,0 +1,4 @@
+use Rattle.sets.proofs.missing.Goals as goal
+
+pub returns : goal.returns
+returns c = cc

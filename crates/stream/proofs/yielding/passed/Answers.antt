@@ -1,0 +1,4 @@
+use Rattle.stream.proofs.yielding.passed.Goals as goal
+
+pub returns : goal.returns
+returns c = cc

@@ -1,0 +1,4 @@
+use Rattle.valid.proofs.all_carried.Goals as goal
+
+pub returns : goal.returns
+returns c = cc

@@ -1,0 +1,4 @@
+use Rattle.valid.proofs.fresh_op.Goals as goal
+
+pub returns : goal.returns
+returns c = cc

@@ -1,0 +1,4 @@
+use Rattle.valid.proofs.to_here.Goals as goal
+
+pub returns : goal.returns
+returns c = cc
