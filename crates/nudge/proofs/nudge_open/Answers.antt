@@ -10,14 +10,14 @@ use Rattle.nudge.proofs.Laws.{nudge-step}
 use Rattle.nudge.proofs.nudge_open.Goals as goal
 
 pub returns-then-not-instance_ok : goal.returns-then-not-instance_ok
-returns-then-not-instance_ok c = met (nudge-6 _ _ _ _ _ _ _ (sym c.instance_ok.ensures ∙ not-true _ c.if-not-instance_ok.true)) (refused why.Instance _ _)
+returns-then-not-instance_ok c = met (nudge-6 _ _ _ _ _ _ _ (sym c.instance_ok.ensures ∙ c.if-not-instance_ok.true)) (refused why.Instance _ _)
 
 pub load-r-requires : goal.load-r-requires
 load-r-requires c =
     let z = c in
     let a = z.args in
     let t = a.t.now in
-    let i = sym c.instance_ok.ensures ∙ not-false _ c.if-not-instance_ok.false in
+    let i = sym c.instance_ok.ensures ∙ c.if-not-instance_ok.false in
     let nm = names a.n a.s a.c t a.o a.j z.requires.setup i in
     let sz = sizes a.n a.s a.c t z.requires.setup in
     record { names = nm; long = sz.long }
@@ -27,7 +27,7 @@ returns-then-both c =
     let z = c in
     let a = z.args in
     let t = a.t.now in
-    let i = sym c.instance_ok.ensures ∙ not-false _ c.if-not-instance_ok.false in
+    let i = sym c.instance_ok.ensures ∙ c.if-not-instance_ok.false in
     let nm = names a.n a.s a.c t a.o a.j z.requires.setup i in
     let sz = sizes a.n a.s a.c t z.requires.setup in
     let rr = c.load-r.ensures in
@@ -41,7 +41,7 @@ byte-requires c =
     let z = c in
     let a = z.args in
     let t = a.t.now in
-    let i = sym c.instance_ok.ensures ∙ not-false _ c.if-not-instance_ok.false in
+    let i = sym c.instance_ok.ensures ∙ c.if-not-instance_ok.false in
     let nm = names a.n a.s a.c t a.o a.j z.requires.setup i in
     let sz = sizes a.n a.s a.c t z.requires.setup in
     omega (arith, sz.copy, sz.copies)
@@ -51,7 +51,7 @@ byte-requires-2 c =
     let z = c in
     let a = z.args in
     let t = a.t.now in
-    let i = sym c.instance_ok.ensures ∙ not-false _ c.if-not-instance_ok.false in
+    let i = sym c.instance_ok.ensures ∙ c.if-not-instance_ok.false in
     let nm = names a.n a.s a.c t a.o a.j z.requires.setup i in
     let sz = sizes a.n a.s a.c t z.requires.setup in
     omega (arith, nm.owner, nm.copies)
@@ -61,7 +61,7 @@ short-requires c =
     let z = c in
     let a = z.args in
     let t = a.t.now in
-    let i = sym c.instance_ok.ensures ∙ not-false _ c.if-not-instance_ok.false in
+    let i = sym c.instance_ok.ensures ∙ c.if-not-instance_ok.false in
     let nm = names a.n a.s a.c t a.o a.j z.requires.setup i in
     let sz = sizes a.n a.s a.c t z.requires.setup in
     omega (arith, nm.last, nm.numbers)
@@ -71,7 +71,7 @@ nudge-x-requires c =
     let z = c in
     let a = z.args in
     let t = a.t.now in
-    let i = sym c.instance_ok.ensures ∙ not-false _ c.if-not-instance_ok.false in
+    let i = sym c.instance_ok.ensures ∙ c.if-not-instance_ok.false in
     let nm = names a.n a.s a.c t a.o a.j z.requires.setup i in
     let sz = sizes a.n a.s a.c t z.requires.setup in
     three a.n a.s a.c t z.requires.setup
@@ -81,7 +81,7 @@ returns c =
     let z = c in
     let a = z.args in
     let t = a.t.now in
-    let i = sym c.instance_ok.ensures ∙ not-false _ c.if-not-instance_ok.false in
+    let i = sym c.instance_ok.ensures ∙ c.if-not-instance_ok.false in
     let nm = names a.n a.s a.c t a.o a.j z.requires.setup i in
     let sz = sizes a.n a.s a.c t z.requires.setup in
     let rr = c.load-r.ensures in

@@ -11,14 +11,14 @@ use Rattle.recover.proofs.Laws.{recover-step}
 use Rattle.recover.proofs.recover_open.Goals as goal
 
 pub returns-then-not-instance_ok : goal.returns-then-not-instance_ok
-returns-then-not-instance_ok c = met (recover-6 _ _ _ _ _ _ _ (sym c.instance_ok.ensures ∙ not-true _ c.if-not-instance_ok.true)) (refused why.Instance _ _)
+returns-then-not-instance_ok c = met (recover-6 _ _ _ _ _ _ _ (sym c.instance_ok.ensures ∙ c.if-not-instance_ok.true)) (refused why.Instance _ _)
 
 pub load-r-requires : goal.load-r-requires
 load-r-requires c =
     let z = c in
     let a = z.args in
     let t = a.t.now in
-    let i = sym c.instance_ok.ensures ∙ not-false _ c.if-not-instance_ok.false in
+    let i = sym c.instance_ok.ensures ∙ c.if-not-instance_ok.false in
     let nm = names a.n a.s a.c t a.o a.j z.requires.setup i in
     let sz = sizes a.n a.s a.c t z.requires.setup in
     record { names = nm; long = sz.long }
@@ -28,7 +28,7 @@ returns-then-is_committed c =
     let z = c in
     let a = z.args in
     let t = a.t.now in
-    let i = sym c.instance_ok.ensures ∙ not-false _ c.if-not-instance_ok.false in
+    let i = sym c.instance_ok.ensures ∙ c.if-not-instance_ok.false in
     let nm = names a.n a.s a.c t a.o a.j z.requires.setup i in
     let sz = sizes a.n a.s a.c t z.requires.setup in
     let rr = c.load-r.ensures in
@@ -40,7 +40,7 @@ returns-then-r-ge4294967288 c =
     let z = c in
     let a = z.args in
     let t = a.t.now in
-    let i = sym c.instance_ok.ensures ∙ not-false _ c.if-not-instance_ok.false in
+    let i = sym c.instance_ok.ensures ∙ c.if-not-instance_ok.false in
     let nm = names a.n a.s a.c t a.o a.j z.requires.setup i in
     let sz = sizes a.n a.s a.c t z.requires.setup in
     let rr = c.load-r.ensures in
@@ -53,7 +53,7 @@ byte-requires c =
     let z = c in
     let a = z.args in
     let t = a.t.now in
-    let i = sym c.instance_ok.ensures ∙ not-false _ c.if-not-instance_ok.false in
+    let i = sym c.instance_ok.ensures ∙ c.if-not-instance_ok.false in
     let nm = names a.n a.s a.c t a.o a.j z.requires.setup i in
     let sz = sizes a.n a.s a.c t z.requires.setup in
     omega (arith, sz.copy, sz.copies)
@@ -63,7 +63,7 @@ byte-requires-2 c =
     let z = c in
     let a = z.args in
     let t = a.t.now in
-    let i = sym c.instance_ok.ensures ∙ not-false _ c.if-not-instance_ok.false in
+    let i = sym c.instance_ok.ensures ∙ c.if-not-instance_ok.false in
     let nm = names a.n a.s a.c t a.o a.j z.requires.setup i in
     let sz = sizes a.n a.s a.c t z.requires.setup in
     omega (arith, nm.owner, nm.copies)
@@ -73,7 +73,7 @@ short-requires c =
     let z = c in
     let a = z.args in
     let t = a.t.now in
-    let i = sym c.instance_ok.ensures ∙ not-false _ c.if-not-instance_ok.false in
+    let i = sym c.instance_ok.ensures ∙ c.if-not-instance_ok.false in
     let nm = names a.n a.s a.c t a.o a.j z.requires.setup i in
     let sz = sizes a.n a.s a.c t z.requires.setup in
     omega (arith, nm.last, nm.numbers)
@@ -83,7 +83,7 @@ recover-x-requires c =
     let z = c in
     let a = z.args in
     let t = a.t.now in
-    let i = sym c.instance_ok.ensures ∙ not-false _ c.if-not-instance_ok.false in
+    let i = sym c.instance_ok.ensures ∙ c.if-not-instance_ok.false in
     let nm = names a.n a.s a.c t a.o a.j z.requires.setup i in
     let sz = sizes a.n a.s a.c t z.requires.setup in
     (c.if-r-ge4294967288.false, omega (arith, sz.copy, sz.copies, c.byte.ensures))
@@ -93,7 +93,7 @@ returns c =
     let z = c in
     let a = z.args in
     let t = a.t.now in
-    let i = sym c.instance_ok.ensures ∙ not-false _ c.if-not-instance_ok.false in
+    let i = sym c.instance_ok.ensures ∙ c.if-not-instance_ok.false in
     let nm = names a.n a.s a.c t a.o a.j z.requires.setup i in
     let sz = sizes a.n a.s a.c t z.requires.setup in
     let rr = c.load-r.ensures in

@@ -6,10 +6,10 @@ use Rattle.gate.proofs.send.send_one.Goals as goal
 
 pub returns-then-not-member : goal.returns-then-not-member
 returns-then-not-member c =
-    let e = sym c.member.ensures ∙ not-true _ c.if-not-member.true in
+    let e = sym c.member.ensures ∙ c.if-not-member.true in
     (rw e, rw e)
 
 pub message_bytes-requires : goal.message_bytes-requires
 message_bytes-requires c =
-    let f = c.requires.fits (sym c.member.ensures ∙ not-false _ c.if-not-member.false) in
+    let f = c.requires.fits (sym c.member.ensures ∙ c.if-not-member.false) in
     rw c.addressed.ensures (f.1, omega (arith, f.0))

@@ -12,15 +12,15 @@ returns-then-same_fields c =
 
 pub returns-then-not-setup_ok : goal.returns-then-not-setup_ok
 returns-then-not-setup_ok c =
-    let e = fields-1 _ _ _ _ _ _ c.message_from-m.ensures c.fields_of-g.ensures (sym c.same_fields.ensures ∙ c.if-same_fields.false) (sym c.setup_ok.ensures ∙ not-true _ c.if-not-setup_ok.true) in
+    let e = fields-1 _ _ _ _ _ _ c.message_from-m.ensures c.fields_of-g.ensures (sym c.same_fields.ensures ∙ c.if-same_fields.false) (sym c.setup_ok.ensures ∙ c.if-not-setup_ok.true) in
     (ap (λ (x : Wrote). x.answer) e, ap (λ (x : Wrote). x.out) e)
 
 pub returns-then-out-lt256 : goal.returns-then-out-lt256
 returns-then-out-lt256 c =
-    let e = fields-2 _ _ _ _ _ _ c.message_from-m.ensures c.fields_of-g.ensures (sym c.same_fields.ensures ∙ c.if-same_fields.false) (sym c.setup_ok.ensures ∙ not-false _ c.if-not-setup_ok.false) c.if-out-lt256.true in
+    let e = fields-2 _ _ _ _ _ _ c.message_from-m.ensures c.fields_of-g.ensures (sym c.same_fields.ensures ∙ c.if-same_fields.false) (sym c.setup_ok.ensures ∙ c.if-not-setup_ok.false) c.if-out-lt256.true in
     (ap (λ (x : Wrote). x.answer) e, ap (λ (x : Wrote). x.out) e)
 
 pub returns : goal.returns
 returns c =
-    let e = fields-misfit _ _ _ _ _ _ c.message_from-m.ensures c.fields_of-g.ensures (sym c.same_fields.ensures ∙ c.if-same_fields.false) (sym c.setup_ok.ensures ∙ not-false _ c.if-not-setup_ok.false) c.if-out-lt256.false c.misfit.ensures in
+    let e = fields-misfit _ _ _ _ _ _ c.message_from-m.ensures c.fields_of-g.ensures (sym c.same_fields.ensures ∙ c.if-same_fields.false) (sym c.setup_ok.ensures ∙ c.if-not-setup_ok.false) c.if-out-lt256.false c.misfit.ensures in
     (ap (λ (x : Wrote). x.answer) e, ap (λ (x : Wrote). x.out) e)
