@@ -11,11 +11,11 @@ loop-k-preserved c =
     let lp = c1 in
     let e = lp in
     let i = lp.loop-k.invariant in
-    (omega arith, votes-step e.args.b.now e.args.at e.args.t3 lp.loop-k.k _ i.1 c1.write_vote.ensures (omega arith) (omega arith), omega arith, i.3, i.4)
+    (omega arith, votes-step e.args.b.now e.args.at e.args.vs lp.loop-k.k _ i.1 c1.write_vote.ensures (omega arith) (omega arith), omega arith, i.3, i.4)
 
 pub returns : goal.returns
 returns c =
     let e = c in
     let i = c.loop-k.invariant in
     let k : c.loop-k.k ≡ 7 = omega arith in
-    (rw (i.1, take_all c.loop-k.k e.args.t3 (omega arith)), i.4)
+    (rw (i.1, take_all c.loop-k.k e.args.vs (omega arith)), i.4)
