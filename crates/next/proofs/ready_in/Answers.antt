@@ -5,7 +5,7 @@ use Rattle.next.proofs.ready_in.Goals as goal
 pub returns-then-st-x-ne1 : goal.returns-then-st-x-ne1
 returns-then-st-x-ne1 c =
     let f = c in
-    (ready-not _ _ _ _ _ _ _ f.slot_of-x.ensures.0 c.if-st-x-ne1.true, f.requires.going)
+    record { says = ready-not _ _ _ _ _ _ _ f.slot_of-x.ensures.0 c.if-st-x-ne1.true; kept = f.requires.going }
 
 pub returns-then-seen-eq1 : goal.returns-then-seen-eq1
 returns-then-seen-eq1 c =
@@ -13,7 +13,7 @@ returns-then-seen-eq1 c =
     let f = w in
     let g = f.requires in
     let u = known_at _ _ _ _ _ _ g.going _ _ g.inst f.slot_of-x.ensures.0 w.wide16-seen.ensures in
-    (ready-is _ _ _ _ _ _ _ f.slot_of-x.ensures.0 w.if-st-x-ne1.false (sym (u.ready c.if-seen-eq1.true)), g.going)
+    record { says = ready-is _ _ _ _ _ _ _ f.slot_of-x.ensures.0 w.if-st-x-ne1.false (sym (u.ready c.if-seen-eq1.true)); kept = g.going }
 
 pub is_held-requires : goal.is_held-requires
 is_held-requires c =
@@ -28,4 +28,4 @@ returns c =
     let a = c in
     let w = a in
     let f = w in
-    (ready-is _ _ _ _ _ _ _ f.slot_of-x.ensures.0 w.if-st-x-ne1.false a.ask.ensures.0, a.ask.ensures.1)
+    record { says = ready-is _ _ _ _ _ _ _ f.slot_of-x.ensures.0 w.if-st-x-ne1.false a.ask.ensures.answers; kept = a.ask.ensures.table }

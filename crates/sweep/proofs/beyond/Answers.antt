@@ -32,4 +32,4 @@ pub returns : goal.returns
 returns c =
     let l = c in
     let e = l in
-    (beyond-last e.args.n e.args.g.now _ l.loop-q.q l.loop-q.invariant.0 c.loop-q-test.false l.loop-q.invariant.2, l.loop-q.invariant.1)
+    record { row = beyond-last e.args.n e.args.g.now _ l.loop-q.q l.loop-q.invariant.0 c.loop-q-test.false l.loop-q.invariant.2; wrote = l.loop-q.invariant.1 }

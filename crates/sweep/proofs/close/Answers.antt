@@ -29,7 +29,7 @@ pub marks_at-requires : goal.marks_at-requires
 marks_at-requires c =
     let l = c in
     let e = l in
-    rw l.loop-changed.invariant.1 (close-place e.args.n e.args.s e.args.t.now e.args.g.now e.args.h.now e.args.p e.args.k e.requires.0 _ c.beyond.ensures.1.long)
+    rw l.loop-changed.invariant.1 (close-place e.args.n e.args.s e.args.t.now e.args.g.now e.args.h.now e.args.p e.args.k e.requires.0 _ c.beyond.ensures.wrote.long)
 
 pub same_deps-changed-requires : goal.same_deps-changed-requires
 same_deps-changed-requires c = tt
@@ -42,4 +42,4 @@ returns c =
     let l = c in
     let e = l in
     let v = rw c.loop-changed-test.false at l.loop-changed.invariant.0 in
-    (turn_last e.args.n e.args.s e.args.t.now e.args.g.now e.args.h.now e.args.p e.args.k e.requires.0 _ v, v.wrote)
+    record { closed = turn_last e.args.n e.args.s e.args.t.now e.args.g.now e.args.h.now e.args.p e.args.k e.requires.0 _ v; wrote = v.wrote }

@@ -37,4 +37,4 @@ pub shape_of-h : goal.shape_of-h
 shape_of-h c = c.loop-i.invariant.1 ∙ sym c.requires.0.long
 
 pub returns : goal.returns
-returns c = (c.loop-i.invariant.1, owners-all _ _ _ _ _ _ _ _ c.loop-i-test.false c.loop-i.invariant.0)
+returns c = record { long = c.loop-i.invariant.1; raised = owners-all _ _ _ _ _ _ _ _ c.loop-i-test.false c.loop-i.invariant.0 }

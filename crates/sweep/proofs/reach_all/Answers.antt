@@ -10,7 +10,7 @@ sweep-requires c = rows-blank _ _ _ _ _ c.requires
 pub reach_each-requires : goal.reach_each-requires
 reach_each-requires c =
     let v = c.sweep-2.ensures in
-    let w = c.sweep.ensures.1 in
+    let w = c.sweep.ensures.raised in
     let e = c in
     record {
       sized = e.requires.sized;

@@ -8,7 +8,7 @@ pub returns-then-not-fits_setup : goal.returns-then-not-fits_setup
 unfolding blanked blanked_table
 returns-then-not-fits_setup c =
     let p = sym c.fits_setup.ensures ∙ c.if-not-fits_setup.true in
-    (rw p, rw p)
+    record { answers = rw p; table = rw p }
 
 pub put_blank-requires : goal.put_blank-requires
 unfolding blanked blanked_table
@@ -18,4 +18,4 @@ pub returns : goal.returns
 unfolding blanked blanked_table
 returns c =
     let p = sym c.fits_setup.ensures ∙ c.if-not-fits_setup.false in
-    (rw p, rw p c.put_blank.ensures)
+    record { answers = rw p; table = rw p c.put_blank.ensures }

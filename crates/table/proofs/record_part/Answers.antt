@@ -13,4 +13,4 @@ part-requires c = has _ _ _ _ _ _ (sym c.has_part.ensures ∙ c.if-not-has_part.
 
 pub returns : goal.returns
 unfolding part_of
-returns c = rw (sym c.has_part.ensures ∙ c.if-not-has_part.false, c.part.ensures.0)
+returns c = rw (sym c.has_part.ensures ∙ c.if-not-has_part.false, c.part.ensures.part)

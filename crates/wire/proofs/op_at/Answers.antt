@@ -11,7 +11,7 @@ unfolding op_at
 returns-then-not-p c = rw (not-true c.args.p.command c.if-not-p.true)
 
 pub get_u8-requires : goal.get_u8-requires
-get_u8-requires c = let s = c in omega (arith, s.requires, c.command_start-at.ensures, command-room s.args.p 10 (c.if-not-p.false), sent-least s.args.p.second)
+get_u8-requires c = let s = c in omega (arith, s.requires, c.command_start-at.ensures, command-room s.args.p 10 (not-false _ c.if-not-p.false), sent-least s.args.p.second)
 
 pub returns : goal.returns
 unfolding op_at

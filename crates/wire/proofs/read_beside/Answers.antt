@@ -11,7 +11,7 @@ unfolding beside_at
 returns-then-not-p c = rw (not-true c.args.p.deps c.if-not-p.true) c.no_deps.ensures
 
 pub read_deps-requires : goal.read_deps-requires
-read_deps-requires c = let s = c in omega (arith, s.requires, c.deps_start-at.ensures, deps-room s.args.p 10 (c.if-not-p.false))
+read_deps-requires c = let s = c in omega (arith, s.requires, c.deps_start-at.ensures, deps-room s.args.p 10 (not-false _ c.if-not-p.false))
 
 pub returns : goal.returns
 unfolding beside_at

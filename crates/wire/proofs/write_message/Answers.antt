@@ -11,12 +11,12 @@ use Rattle.wire.proofs.write_message.Goals as goal
 pub returns-then-not-setup_ok : goal.returns-then-not-setup_ok
 returns-then-not-setup_ok c =
     let e = wrote-1 _ _ _ _ _ (sym c.setup_ok.ensures ∙ c.if-not-setup_ok.true) in
-    (ap (λ (w : Wrote). w.answer) e, ap (λ (w : Wrote). w.out) e)
+    record { answers = ap (λ (w : Wrote). w.answer) e; room = ap (λ (w : Wrote). w.out) e }
 
 pub returns-then-out-lt256 : goal.returns-then-out-lt256
 returns-then-out-lt256 c =
     let e = wrote-2 _ _ _ _ _ (sym c.setup_ok.ensures ∙ c.if-not-setup_ok.false) c.if-out-lt256.true in
-    (ap (λ (w : Wrote). w.answer) e, ap (λ (w : Wrote). w.out) e)
+    record { answers = ap (λ (w : Wrote). w.answer) e; room = ap (λ (w : Wrote). w.out) e }
 
 pub verdict_on-requires : goal.verdict_on-requires
 verdict_on-requires c = c.row_in-row.ensures

@@ -26,4 +26,4 @@ shape_of-out c = c.loop-q.invariant.long
 pub returns : goal.returns
 returns c =
     let e = ended _ _ _ _ _ _ c.loop-q.invariant (omega (arith, c.loop-q.invariant.copies)) in
-    (e.0, e.1)
+    record { answers = e.0; room = e.1 }

@@ -7,7 +7,7 @@ use Rattle.gate.proofs.send.send_one.Goals as goal
 pub returns-then-not-member : goal.returns-then-not-member
 returns-then-not-member c =
     let e = sym c.member.ensures ∙ c.if-not-member.true in
-    (rw e, rw e)
+    record { answers = rw e; room = rw e }
 
 pub message_bytes-requires : goal.message_bytes-requires
 message_bytes-requires c =

@@ -17,10 +17,10 @@ pub shape_of-st-in_default : goal.shape_of-st-in_default
 shape_of-st-in_default c = let l = c in l.loop-count.invariant.listing.stated.long ∙ sym l.requires.stated.long
 
 pub shape_of-know-in_default : goal.shape_of-know-in_default
-shape_of-know-in_default c = let l = c in c.next_in-found.ensures.1.long ∙ sym l.requires.going.long
+shape_of-know-in_default c = let l = c in c.next_in-found.ensures.kept.long ∙ sym l.requires.going.long
 
 pub shape_of-past-in_default : goal.shape_of-past-in_default
-shape_of-past-in_default c = let l = c in c.next_in-found.ensures.1.passed.long ∙ sym l.requires.going.passed.long
+shape_of-past-in_default c = let l = c in c.next_in-found.ensures.kept.passed.long ∙ sym l.requires.going.passed.long
 
 pub shape_of-list-in_default : goal.shape_of-list-in_default
 shape_of-list-in_default c = c.loop-count.invariant.long
@@ -31,14 +31,14 @@ bounds-st-x c = omega (arith, c.slot_of-x.ensures.1, c.loop-count.invariant.list
 pub offset_bounds-list-count : goal.offset_bounds-list-count
 offset_bounds-list-count c =
     let l = c in
-    let g = l.well-formed.1.1.1.1.1.1.1.0 in
+    let g = l.well_formed.1.1.1.1.1.1.1.0 in
     omega (arith, c.loop-count-test.true, l.loop-count.invariant.long, g.0, g.1)
 
 pub bounds-list-count : goal.bounds-list-count
 bounds-list-count c = omega (arith, c.loop-count-test.true)
 
 pub overflow_add-count : goal.overflow_add-count
-overflow_add-count c = let l = c in omega (arith, c.loop-count-test.true, l.loop-count.invariant.long, l.well-formed.1.1.1.1.1.1.1.0.0)
+overflow_add-count c = let l = c in omega (arith, c.loop-count-test.true, l.loop-count.invariant.long, l.well_formed.1.1.1.1.1.1.1.0.0)
 
 pub loop-count-smaller : goal.loop-count-smaller
 loop-count-smaller c = omega (arith, c.loop-count-test.true, c.loop-count.invariant.long)

@@ -9,7 +9,7 @@ pub returns-then-not-row : goal.returns-then-not-row
 returns-then-not-row c = whole-unknown _ _ c.requires c.if-at-p.false c.wide8-k.ensures c.row_of-row.ensures c.if-not-row.true
 
 pub returns-then-p-at : goal.returns-then-p-at
-returns-then-p-at c = whole-short _ _ c.requires c.if-at-p.false c.wide8-k.ensures c.row_of-row.ensures (c.if-not-row.false) c.length_of-n.ensures c.if-p-at.true
+returns-then-p-at c = whole-short _ _ c.requires c.if-at-p.false c.wide8-k.ensures c.row_of-row.ensures (not-false _ c.if-not-row.false) c.length_of-n.ensures c.if-p-at.true
 
 pub returns : goal.returns
-returns c = whole_is _ _ c.requires c.if-at-p.false c.wide8-k.ensures c.row_of-row.ensures (c.if-not-row.false) c.length_of-n.ensures c.if-p-at.false
+returns c = whole_is _ _ c.requires c.if-at-p.false c.wide8-k.ensures c.row_of-row.ensures (not-false _ c.if-not-row.false) c.length_of-n.ensures c.if-p-at.false
