@@ -6,8 +6,26 @@ use Rattle.table.proofs.Laws.{sizes, names}
 use Rattle.rules.specs.Nudge.{nothing_to_nudge}
 use Rattle.gate.proofs.Calls.{three, met, refused, acted-is}
 use Rattle.gate.proofs.Outcomes.{nudge-6, nudge-9, nudge-ok}
-use Rattle.nudge.proofs.Laws.{nudge-step}
+use Rattle.nudge.proofs.Laws.{nudge-step, nudge-room}
+use Rattle.numbers.specs.Num.{Bytes}
+use borrow.Author.Rules.{rules}
 use Rattle.nudge.proofs.nudge_open.Goals as goal
+
+pub act-requires : goal.act-requires
+act-requires c =
+    let z = c in
+    let a = z.args in
+    let t = a.t.now in
+    let i = sym c.instance_ok.ensures ∙ c.if-not-instance_ok.false in
+    let nm = names a.n a.s a.c t a.o a.j z.requires.setup i in
+    let sz = sizes a.n a.s a.c t z.requires.setup in
+    let rr = c.load-r.ensures in
+    let r = c.load-r.result in
+    let e : nothing_to_nudge r ≡ c.both.result = sym (c.both.ensures ∙ rw (c.equal.ensures, c.wide8.ensures, c.is_committed.ensures)) in
+    let q = ap nothing_to_nudge (sym rr) ∙ e ∙ c.if-both.false in
+    let x = nudge-step a.n a.s a.c t a.out.now a.o a.j c.byte.ensures c.byte-2.ensures c.short.ensures c.load-r.ensures c.nudge-x.ensures in
+    let bt : Bytes t = λ i. omega (arith, c.type_inv.t i) in
+    (record { names = nm; long = sz.long }, z.requires.long, rw x (nudge-room a.n a.s a.c t a.out.now a.o a.j bt z.requires i q))
 
 pub returns-then-not-instance_ok : goal.returns-then-not-instance_ok
 returns-then-not-instance_ok c = met (nudge-6 _ _ _ _ _ _ _ (sym c.instance_ok.ensures ∙ c.if-not-instance_ok.true)) (refused why.Instance _ _)

@@ -2,8 +2,15 @@ use mathlib.Core.Path.{sym, ◌∙◌}
 use borrow.Author.Tests.{not-true, not-false}
 use Rattle.table.proofs.Laws.{names}
 use Rattle.order.proofs.Judged.{passed-long}
-use Rattle.order.proofs.Asked.{searching, searched, settled-6}
+use Rattle.order.proofs.Asked.{searching, searched, settled-6, settled-waits, settled-gives}
+use borrow.Author.Rules.{rules}
 use Rattle.order.proofs.settled.settled_open.Goals as goal
+
+pub returns-in-At : goal.returns-in-At
+returns-in-At c = settled-waits _ _ c.args.c _ _ _ _ _ (sym c.instance_ok.ensures ∙ c.if-not-instance_ok.false) (sym c.in-At.is ∙ c.first_open-found.ensures)
+
+pub returns : goal.returns
+returns c = settled-gives _ _ c.args.c _ _ _ (sym c.instance_ok.ensures ∙ c.if-not-instance_ok.false) (sym c.in_default.is ∙ c.first_open-found.ensures) c.load-r.ensures
 
 pub returns-then-not-instance_ok : goal.returns-then-not-instance_ok
 returns-then-not-instance_ok c = settled-6 _ _ c.args.c _ _ _ (sym c.instance_ok.ensures ∙ c.if-not-instance_ok.true)
