@@ -19,7 +19,7 @@ ask-requires c =
     let f = w in
     let g = f.requires in
     let u = known_at _ _ _ _ _ _ g.going _ _ g.inst f.slot_of-x.ensures.0 w.wide16-seen.ensures in
-    record { asking = g; below = rw c.IsPlace-in.ensures u.below }
+    record { asking = g; below = rw c.place_in.ensures u.below }
 
 pub returns-then-st-x-ne1 : goal.returns-then-st-x-ne1
 returns-then-st-x-ne1 c =
@@ -47,4 +47,4 @@ returns c =
     let a = c in
     let w = a in
     let f = w in
-    record { says = ready-is _ _ _ _ _ _ _ f.slot_of-x.ensures.0 w.if-st-x-ne1.false a.ask.ensures.answers; kept = a.ask.ensures.table }
+    record { says = ready-is _ _ _ _ _ _ _ f.slot_of-x.ensures.0 w.if-st-x-ne1.false a.ask.ensures.says; kept = a.ask.ensures.kept }
