@@ -108,4 +108,4 @@ returns c =
     let q = ap nothing_to_nudge (sym rr) ∙ e ∙ c.if-both.false in
     let x = nudge-step a.n a.s a.c t a.out.now a.o a.j c.byte.ensures c.byte-2.ensures c.short.ensures c.load-r.ensures c.nudge-x.ensures in
     let w = c.act.ensures in
-    met (nudge-ok a.n a.s a.c t a.out.now a.o a.j i q) (acted-is a.s t a.out.now a.o a.j x w.0 w.1.0 w.1.1)
+    met (nudge-ok a.n a.s a.c t a.out.now a.o a.j i q) (acted-is a.s t a.out.now a.o a.j x w.answers w.table w.room)

@@ -118,4 +118,4 @@ returns c =
     let l = ap out_of_ballots (sym rr) ∙ lt-leb _ _ c.if-r-ge4294967288.false in
     let x = recover-step a.n a.s a.c t a.out.now a.o a.j c.byte.ensures c.byte-2.ensures c.short.ensures c.load-r.ensures c.recover-x.ensures in
     let w = c.act.ensures in
-    met (recover-ok a.n a.s a.c t a.out.now a.o a.j i q l) (acted-is a.s t a.out.now a.o a.j x w.0 w.1.0 w.1.1)
+    met (recover-ok a.n a.s a.c t a.out.now a.o a.j i q l) (acted-is a.s t a.out.now a.o a.j x w.answers w.table w.room)

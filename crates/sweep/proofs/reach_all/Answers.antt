@@ -14,6 +14,6 @@ reach_each-requires c =
     let e = c in
     record {
       sized = e.requires.sized;
-      found = record { rows = v.1.rows; holds = found-kept e.args.n e.args.s (records_in e.args.s e.args.t.now) _ _ (w.holds refl) v.1.kept };
-      long = v.0;
+      found = record { rows = v.raised.rows; holds = found-kept e.args.n e.args.s (records_in e.args.s e.args.t.now) _ _ (w.holds refl) v.raised.kept };
+      long = v.long;
     }

@@ -8,7 +8,7 @@ pub returns-then-same_fields : goal.returns-then-same_fields
 returns-then-same_fields c =
     let e = fields-message _ _ _ _ _ _ c.message_from-m.ensures c.fields_of-g.ensures (sym c.same_fields.ensures ∙ c.if-same_fields.true) in
     let w = c.write_message.ensures in
-    record { answers = w.0 ∙ ap (λ (x : Wrote). x.answer) e; room = w.1 ∙ ap (λ (x : Wrote). x.out) e }
+    record { answers = w.answers ∙ ap (λ (x : Wrote). x.answer) e; room = w.room ∙ ap (λ (x : Wrote). x.out) e }
 
 pub returns-then-not-setup_ok : goal.returns-then-not-setup_ok
 returns-then-not-setup_ok c =

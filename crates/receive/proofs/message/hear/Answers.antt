@@ -45,4 +45,4 @@ returns c = let z = c in
     let t = a.t.now in
     let x = message-step a.n a.s a.c t a.out.now a.m c.wide8-o.ensures c.wide16-j.ensures c.load-r.ensures c.receive-x.ensures in
     let w = c.act.ensures in
-    met (heard-ok a.n a.s a.c t a.out.now a.m c.wide8-o.ensures c.wide16-j.ensures c.load-r.ensures (sym c.refused10.ensures ∙ c.if-refused10.false)) (acted-is a.s t a.out.now _ _ x w.0 w.1.0 w.1.1)
+    met (heard-ok a.n a.s a.c t a.out.now a.m c.wide8-o.ensures c.wide16-j.ensures c.load-r.ensures (sym c.refused10.ensures ∙ c.if-refused10.false)) (acted-is a.s t a.out.now _ _ x w.answers w.table w.room)

@@ -34,4 +34,4 @@ returns c = let z = c in
     let a = z.args in
     let t = a.t.now in
     let w = c.act.ensures in
-    met (asked-ok a.n a.s a.c t a.out.now a.k c.request_number-j.ensures.0 c.if-s-j.false) (acted-is a.s t a.out.now _ _ c.on_request-x.ensures w.0 w.1.0 w.1.1)
+    met (asked-ok a.n a.s a.c t a.out.now a.k c.request_number-j.ensures.0 c.if-s-j.false) (acted-is a.s t a.out.now _ _ c.on_request-x.ensures w.answers w.table w.room)

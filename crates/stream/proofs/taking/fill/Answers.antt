@@ -1,5 +1,5 @@
 use mathlib.Core.Path.{sym}
-use lib.ListN.{length-take-le}
+use lib.Seq.{length-take-le}
 use native.Mathlib.Omega.{arith}
 use Rattle.stream.proofs.Laws.{end_fits, filled, put-ok}
 use Rattle.stream.proofs.taking.fill.Goals as goal
