@@ -48,10 +48,10 @@ pub loop-changed-smaller : goal.loop-changed-smaller
 loop-changed-smaller c =
     let l = c in
     let e = l in
-    rw c.loop-changed-test.true (turn-less e.args.n e.args.s e.args.t.now e.args.g.now e.args.h.now e.args.p e.args.k e.requires.0 _ (rw c.loop-changed-test.true at l.loop-changed.invariant.0) l.loop-changed.invariant.1 c.marks_at-row.ensures c.beyond.ensures.row c.marks_at.ensures c.same_deps-changed.ensures c.beyond.ensures.wrote (λ i. omega (arith, c.type_inv.h i)))
+    rw c.loop-changed-test.true (turn-less e.args.n e.args.s e.args.t.now e.args.g.now e.args.h.now e.args.p e.args.k e.requires.0 _ (rw c.loop-changed-test.true at l.loop-changed.invariant.0) l.loop-changed.invariant.1 c.marks_at-row.ensures c.beyond.ensures.row c.marks_at.ensures c.same_deps-changed.ensures c.beyond.ensures.wrote (λ i. omega (arith, c.slice_known-in-loop-changed-1.given i)))
 
 pub loop-changed-preserved : goal.loop-changed-preserved
 loop-changed-preserved c =
     let l = c in
     let e = l in
-    (turn_on e.args.n e.args.s e.args.t.now e.args.g.now e.args.h.now e.args.p e.args.k e.requires.0 _ (rw c.loop-changed-test.true at l.loop-changed.invariant.0) l.loop-changed.invariant.1 c.marks_at-row.ensures c.beyond.ensures.row c.marks_at.ensures c.same_deps-changed.ensures c.beyond.ensures.wrote (λ i. omega (arith, c.type_inv.h i)), l.loop-changed.invariant.1)
+    (turn_on e.args.n e.args.s e.args.t.now e.args.g.now e.args.h.now e.args.p e.args.k e.requires.0 _ (rw c.loop-changed-test.true at l.loop-changed.invariant.0) l.loop-changed.invariant.1 c.marks_at-row.ensures c.beyond.ensures.row c.marks_at.ensures c.same_deps-changed.ensures c.beyond.ensures.wrote (λ i. omega (arith, c.slice_known-in-loop-changed-1.given i)), l.loop-changed.invariant.1)
