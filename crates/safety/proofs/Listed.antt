@@ -27,6 +27,7 @@ in-old J old (e ∷ l) h = in-old J (code e.0 e.1 ∷ old) l (Memᴰ.tail h)
 in-newest : (o j : ℕ) (old : List ℕ) (l : List Instance) → Memᴰ (o, j) l → Memᴰ (code o j) (newest old l)
 in-newest o j old (e ∷ l) (Memᴰ.head q) = in-old (code o j) (code e.0 e.1 ∷ old) l (Memᴰ.head (ap (λ (i : Instance). code i.0 i.1) q))
 in-newest o j old (e ∷ l) (Memᴰ.tail h) = in-newest o j (code e.0 e.1 ∷ old) l h
+in-newest o j old [] h = elim h [ ]
 
 from-newest : (J : ℕ) (old : List ℕ) (l : List Instance) → Memᴰ J (newest old l) → Memᴰ J old ⊎ ((i : Instance) × Memᴰ i l × (J ≡ code i.0 i.1))
 from-newest J old [] h = inl h

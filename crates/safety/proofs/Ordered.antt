@@ -30,7 +30,7 @@ either_way n (Memᴰ.tail h) (Memᴰ.tail k) = ⊎_elim (λ z. inl (later z)) (�
 
 module _ (C : Case) where
   -- the saved order, as the model's
-  early-keep : {I J : ℕ} {m : List ℕ} (l : List Instance) → Earlier C I J m → Earlier C I J (newest m l)
+  early-keep : {I J : ℕ} (l : List Instance) {m : List ℕ} → Earlier C I J m → Earlier C I J (newest m l)
   early-keep [] h = h
   early-keep (e ∷ l) h = early-keep l (below h)
 

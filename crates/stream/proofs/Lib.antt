@@ -8,4 +8,3 @@ pub mod Written
 pub mod Refused
 pub mod Pins
 pub mod Unique
-pub mod Walk

@@ -158,7 +158,7 @@ module _ {l : ℕ} (big : 64 ≤ l) where
       let n = length-append m (joined ms) in
       let q : a + length m + length (joined ms) ≡ a + length (m ++ joined ms) = omega arith in
       let u : o + length m + length (joined ms) ≡ o + length (m ++ joined ms) = omega arith in
-      rw (q, u) at (all_asked ms r e.1 (asked m (joined ms ++ r) e.0 (rw append_assoc at t)))
+      rw (q, u) at (all_asked {a = a + length m} {o = o + length m} ms r e.1 (asked m (joined ms ++ r) e.0 (rw append_assoc at t)))
 
   -- messages that go through one by one, however many: each is offered and asked for, and an offer of no bytes leads back to the front
   gone : {o : ℕ} (ms : List (List ℕ)) → AllExact ms → o + length (joined ms) < 18446744073709551616 → Holding l [] 0 o → Holding l [] 0 (o + length (joined ms))
@@ -168,7 +168,7 @@ module _ {l : ℕ} (big : 64 ≤ l) where
       let k = length-append m [] in
       let w : length m ≤ 46 = rw e.0.exact (long-enough (kind_at m)) in
       let q : o + length m + length (joined ms) ≡ o + length (m ++ joined ms) = omega arith in
-      rw q at (gone ms e.1 (omega arith) (offered [] (omega arith) (omega arith) (asked m [] e.0 (offered (m ++ []) (omega arith) (omega arith) t))))
+      rw q at (gone {o = o + length m} ms e.1 (omega arith) (offered [] (omega arith) (omega arith) (asked m [] e.0 (offered (m ++ []) (omega arith) (omega arith) t))))
 
 pub reached : Reached
 unfolding is_sum

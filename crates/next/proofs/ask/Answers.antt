@@ -9,7 +9,7 @@ returns-then-ahead-lt448 c =
     let g = f.requires.asking in
     let w = f.holder-ahead.ensures.some (omega (arith, c.if-ahead-lt448.true)) in
     let u = known-ahead _ _ _ _ _ _ g.going _ _ g.inst _ w.0 w.1 in
-    (sym w.2, known_more _ _ _ _ _ _ g.going _ _ _ _ g.inst c.slot_of-x.ensures.0 u)
+    record { says = sym w.2; kept = known_more _ _ _ _ _ _ g.going _ _ _ _ g.inst c.slot_of-x.ensures.0 u }
 
 pub free-requires : goal.free-requires
 free-requires c =
@@ -19,4 +19,4 @@ free-requires c =
 pub returns : goal.returns
 returns c =
     let f = c in
-    (sym (f.holder-ahead.ensures.none (omega (arith, c.if-ahead-lt448.false))), c.free.ensures)
+    record { says = sym (f.holder-ahead.ensures.none (omega (arith, c.if-ahead-lt448.false))); kept = c.free.ensures }

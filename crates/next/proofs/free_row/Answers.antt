@@ -1,9 +1,9 @@
 use mathlib.Core.Path.{◌≡◌, refl}
-use mathlib.Core.Logic.{⊎_elim}
 use Prim.Native.Nat.{◌*◌, ◌-◌, ◌≤◌}
 use native.Mathlib.Omega.{arith}
 use Rattle.next.proofs.Held.{freed-start, freed-more}
 use Rattle.next.proofs.free_row.Goals as goal
+use Rattle.next.proofs.free_row.Goals.{then-st-y-ne2, else-st-y-ne2}
 
 pub overflow_mul-base : goal.overflow_mul-base
 overflow_mul-base c = omega arith
@@ -31,11 +31,11 @@ loop-i-smaller c = omega arith
 
 pub loop-i-preserved : goal.loop-i-preserved
 loop-i-preserved c =
-    let l = c in
-    ⊎_elim
-    (λ w. (omega (arith, l.loop-i.invariant.0), l.loop-i.invariant.1, rw w.1 (freed-more _ _ _ _ _ _ _ _ l.loop-i.invariant.2 l.loop-i.invariant.0 c.loop-i-test.true (omega (arith, l.loop-i.invariant.1)) w.0.taken (omega arith))))
-    (λ w. (omega (arith, l.loop-i.invariant.0), l.loop-i.invariant.1, rw w.1 l.loop-i.invariant.2))
-    c.if-st-y-ne2.branch
+    let l = c.loop-i.invariant in
+    elim c.if-st-y-ne2.branch [
+      then-st-y-ne2 w ↦ (omega (arith, l.0), l.1, rw w.know-is (freed-more _ _ _ _ _ _ _ _ l.2 l.0 c.loop-i-test.true (omega (arith, l.1)) w.if-st-y-ne2.true (omega arith)))
+    | else-st-y-ne2 w ↦ (omega (arith, l.0), l.1, rw w.know-is l.2)
+    ]
 
 pub shape_of-know : goal.shape_of-know
 shape_of-know c = c.loop-i.invariant.2.long

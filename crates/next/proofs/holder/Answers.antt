@@ -37,7 +37,7 @@ returns-then-y-lt448 c =
     let l = d in
     let g = l.requires in
     held-some _ _ _ _ _ _ _ _ g _ _ _ _ _ _ d.loop-q-test.true l.slot_of-x.ensures.0
-    d.mark_at.ensures d.wide8.ensures d.start_of_lem.ensures d.row_holder-y.ensures l.loop-q.invariant c.if-y-lt448.true
+    d.mark_at.ensures d.wide8.ensures d.start_of-start.ensures d.row_holder-y.ensures l.loop-q.invariant c.if-y-lt448.true
 
 pub overflow_step-q : goal.overflow_step-q
 overflow_step-q c = omega arith
@@ -51,7 +51,7 @@ loop-q-preserved c =
     let l = d in
     let g = l.requires in
     lets-more _ _ _ _ _ _ _ _ g _ _ _ _ _ _ d.loop-q-test.true l.slot_of-x.ensures.0
-    d.mark_at.ensures d.wide8.ensures d.start_of_lem.ensures d.row_holder-y.ensures c.if-y-lt448.false l.loop-q.invariant
+    d.mark_at.ensures d.wide8.ensures d.start_of-start.ensures d.row_holder-y.ensures c.if-y-lt448.false l.loop-q.invariant
 
 pub returns : goal.returns
 returns c = held_none _ _ _ _ _ _ _ _ c.requires _ c.loop-q.invariant c.loop-q-test.false

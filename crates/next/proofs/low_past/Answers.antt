@@ -24,7 +24,7 @@ pub loop-j-smaller : goal.loop-j-smaller
 loop-j-smaller c = omega arith
 
 pub loop-j-preserved : goal.loop-j-preserved
-loop-j-preserved c = low-more _ _ _ _ c.loop-j.invariant c.loop-j-test.true (sym c.none_at.ensures ∙ not-false _ c.if-not-none_at.false)
+loop-j-preserved c = low-more _ _ _ _ c.loop-j.invariant c.loop-j-test.true (sym c.none_at.ensures ∙ c.if-not-none_at.false)
 
 pub returns : goal.returns
 returns c = c.loop-j.invariant

@@ -10,13 +10,13 @@ pub pass_all-first-requires : goal.pass_all-first-requires
 pass_all-first-requires c = c.requires.passed
 
 pub overflow_add-first : goal.overflow_add-first
-overflow_add-first c = let f = c in omega (arith, f.pass_all-first.ensures.1.few, f.pass_all-first.ensures.0.numbers)
+overflow_add-first c = let f = c in omega (arith, f.pass_all-first.ensures.low.few, f.pass_all-first.ensures.kept.numbers)
 
 pub walk-init : goal.walk-init
 walk-init c =
     let f = c in
     let g = f.requires in
-    (refl, walk-low _ _ _ _ _ f.pass_all-first.ensures.1, record { lists = g.lists; long = g.long; known = g.known; passed = f.pass_all-first.ensures.0 })
+    (refl, walk-low _ _ _ _ _ f.pass_all-first.ensures.low, record { lists = g.lists; long = g.long; known = g.known; passed = f.pass_all-first.ensures.kept })
 
 pub loop-o-init : goal.loop-o-init
 loop-o-init c = let w = c.walk.invariant in (w.0, row-start _ _ _ _ w.1 c.walk-test.true, w.2)
@@ -34,7 +34,7 @@ pub loop-o-preserved : goal.loop-o-preserved
 loop-o-preserved c =
     let a = c in
     let l = a in
-    (l.loop-o.invariant.0, row_on _ _ _ _ _ _ l.loop-o.invariant.1 a.loop-o-test.true refl (sym a.ready_in.ensures.0 ∙ c.if-ready_in.false), a.ready_in.ensures.1)
+    (l.loop-o.invariant.0, row_on _ _ _ _ _ _ l.loop-o.invariant.1 a.loop-o-test.true refl (sym a.ready_in.ensures.says ∙ c.if-ready_in.false), a.ready_in.ensures.kept)
 
 pub overflow_step-j : goal.overflow_step-j
 overflow_step-j c = omega arith
@@ -53,26 +53,26 @@ shape_of-past c = let w = c in w.walk.invariant.2.passed.long ∙ sym w.requires
 
 pub returns : goal.returns
 unfolding next_in
-returns c = let w = c.walk.invariant in (w.0 ∙ walk_none _ _ _ _ w.1 c.walk-test.false, w.2)
+returns c = let w = c.walk.invariant in record { says = w.0 ∙ walk_none _ _ _ _ w.1 c.walk-test.false; kept = w.2 }
 
 pub shape_of-know-then-ready_in : goal.shape_of-know-then-ready_in
 shape_of-know-then-ready_in c =
     let a = c in
     let w = a in
-    a.ready_in.ensures.1.long ∙ sym w.requires.long
+    a.ready_in.ensures.kept.long ∙ sym w.requires.long
 
 pub shape_of-past-then-ready_in : goal.shape_of-past-then-ready_in
 shape_of-past-then-ready_in c =
     let a = c in
     let w = a in
-    a.ready_in.ensures.1.passed.long ∙ sym w.requires.passed.long
+    a.ready_in.ensures.kept.passed.long ∙ sym w.requires.passed.long
 
 pub returns-then-ready_in : goal.returns-then-ready_in
 unfolding next_in
 returns-then-ready_in c =
     let a = c in
     let l = a in
-    (row-hit _ _ _ _ _ l.loop-o.invariant.1 a.loop-o-test.true (sym a.ready_in.ensures.0 ∙ c.if-ready_in.true), a.ready_in.ensures.1)
+    record { says = row-hit _ _ _ _ _ l.loop-o.invariant.1 a.loop-o-test.true (sym a.ready_in.ensures.says ∙ c.if-ready_in.true); kept = a.ready_in.ensures.kept }
 
 pub shape_of-know-2 : goal.shape_of-know-2
 shape_of-know-2 c =
@@ -88,4 +88,4 @@ shape_of-past-2 c =
 
 pub returns-2 : goal.returns-2
 unfolding next_in
-returns-2 c = let l = c in (l.loop-o.invariant.0 ∙ row-none _ _ _ _ _ l.loop-o.invariant.1 c.loop-o-test.false (omega arith), l.loop-o.invariant.2)
+returns-2 c = let l = c in record { says = l.loop-o.invariant.0 ∙ row-none _ _ _ _ _ l.loop-o.invariant.1 c.loop-o-test.false (omega arith); kept = l.loop-o.invariant.2 }

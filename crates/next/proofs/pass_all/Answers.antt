@@ -5,4 +5,4 @@ pub low_past-z-requires : goal.low_past-z-requires
 low_past-z-requires c = let g = c.pass_rows.ensures in (g.copies, g.numbers, g.states, rw c.wide8.ensures g.low)
 
 pub returns : goal.returns
-returns c = (past-low _ _ _ _ c.pass_rows.ensures _ c.low_past-z.ensures, c.low_past-z.ensures)
+returns c = record { kept = past-low _ _ _ _ c.pass_rows.ensures _ c.low_past-z.ensures; low = c.low_past-z.ensures }

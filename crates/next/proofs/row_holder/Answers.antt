@@ -22,7 +22,7 @@ passes_at-requires c = let g = c.requires in (g.marks, g.states, g.owner, omega 
 pub returns-then-not-passes_at : goal.returns-then-not-passes_at
 returns-then-not-passes_at c =
     let l = c in
-    sought-some _ _ _ _ _ _ _ l.loop-i.i _ l.requires l.loop-i.invariant.0 c.loop-i-test.true l.loop-i.invariant.2 (omega (arith, l.loop-i.invariant.1)) (sym c.passes_at.ensures ∙ not-true _ c.if-not-passes_at.true)
+    sought-some _ _ _ _ _ _ _ l.loop-i.i _ l.requires l.loop-i.invariant.0 c.loop-i-test.true l.loop-i.invariant.2 (omega (arith, l.loop-i.invariant.1)) (sym c.passes_at.ensures ∙ c.if-not-passes_at.true)
 
 pub overflow_add-i : goal.overflow_add-i
 overflow_add-i c = omega arith
@@ -33,7 +33,7 @@ loop-i-smaller c = omega arith
 pub loop-i-preserved : goal.loop-i-preserved
 loop-i-preserved c =
     let l = c in
-    (omega (arith, l.loop-i.invariant.0), l.loop-i.invariant.1, pass-more _ _ _ _ _ _ _ _ l.loop-i.invariant.2 (omega (arith, l.loop-i.invariant.1)) (sym c.passes_at.ensures ∙ not-false _ c.if-not-passes_at.false))
+    (omega (arith, l.loop-i.invariant.0), l.loop-i.invariant.1, pass-more _ _ _ _ _ _ _ _ l.loop-i.invariant.2 (omega (arith, l.loop-i.invariant.1)) (sym c.passes_at.ensures ∙ c.if-not-passes_at.false))
 
 pub returns : goal.returns
 returns c = sought-none _ _ _ _ _ _ _ _ c.loop-i.invariant.2 c.loop-i-test.false

@@ -6,18 +6,36 @@ use Rattle.table.proofs.Laws.{sizes, names}
 use Rattle.rules.specs.Nudge.{nothing_to_nudge}
 use Rattle.gate.proofs.Calls.{three, met, refused, acted-is}
 use Rattle.gate.proofs.Outcomes.{nudge-6, nudge-9, nudge-ok}
-use Rattle.nudge.proofs.Laws.{nudge-step}
+use Rattle.nudge.proofs.Laws.{nudge-step, nudge-room}
+use Rattle.numbers.specs.Num.{Bytes}
+use borrow.Author.Rules.{rules}
 use Rattle.nudge.proofs.nudge_open.Goals as goal
 
+pub act-requires : goal.act-requires
+act-requires c =
+    let z = c in
+    let a = z.args in
+    let t = a.t.now in
+    let i = sym c.instance_ok.ensures ∙ c.if-not-instance_ok.false in
+    let nm = names a.n a.s a.c t a.o a.j z.requires.setup i in
+    let sz = sizes a.n a.s a.c t z.requires.setup in
+    let rr = c.load-r.ensures in
+    let r = c.load-r.result in
+    let e : nothing_to_nudge r ≡ c.both.result = sym (c.both.ensures ∙ rw (c.equal.ensures, c.wide8.ensures, c.is_committed.ensures)) in
+    let q = ap nothing_to_nudge (sym rr) ∙ e ∙ c.if-both.false in
+    let x = nudge-step a.n a.s a.c t a.out.now a.o a.j c.byte.ensures c.byte-2.ensures c.short.ensures c.load-r.ensures c.nudge-x.ensures in
+    let bt : Bytes t = λ i. omega (arith, c.type_inv.t i) in
+    (record { names = nm; long = sz.long }, z.requires.long, rw x (nudge-room a.n a.s a.c t a.out.now a.o a.j bt z.requires i q))
+
 pub returns-then-not-instance_ok : goal.returns-then-not-instance_ok
-returns-then-not-instance_ok c = met (nudge-6 _ _ _ _ _ _ _ (sym c.instance_ok.ensures ∙ not-true _ c.if-not-instance_ok.true)) (refused why.Instance _ _)
+returns-then-not-instance_ok c = met (nudge-6 _ _ _ _ _ _ _ (sym c.instance_ok.ensures ∙ c.if-not-instance_ok.true)) (refused why.Instance _ _)
 
 pub load-r-requires : goal.load-r-requires
 load-r-requires c =
     let z = c in
     let a = z.args in
     let t = a.t.now in
-    let i = sym c.instance_ok.ensures ∙ not-false _ c.if-not-instance_ok.false in
+    let i = sym c.instance_ok.ensures ∙ c.if-not-instance_ok.false in
     let nm = names a.n a.s a.c t a.o a.j z.requires.setup i in
     let sz = sizes a.n a.s a.c t z.requires.setup in
     record { names = nm; long = sz.long }
@@ -27,7 +45,7 @@ returns-then-both c =
     let z = c in
     let a = z.args in
     let t = a.t.now in
-    let i = sym c.instance_ok.ensures ∙ not-false _ c.if-not-instance_ok.false in
+    let i = sym c.instance_ok.ensures ∙ c.if-not-instance_ok.false in
     let nm = names a.n a.s a.c t a.o a.j z.requires.setup i in
     let sz = sizes a.n a.s a.c t z.requires.setup in
     let rr = c.load-r.ensures in
@@ -41,7 +59,7 @@ byte-requires c =
     let z = c in
     let a = z.args in
     let t = a.t.now in
-    let i = sym c.instance_ok.ensures ∙ not-false _ c.if-not-instance_ok.false in
+    let i = sym c.instance_ok.ensures ∙ c.if-not-instance_ok.false in
     let nm = names a.n a.s a.c t a.o a.j z.requires.setup i in
     let sz = sizes a.n a.s a.c t z.requires.setup in
     omega (arith, sz.copy, sz.copies)
@@ -51,7 +69,7 @@ byte-requires-2 c =
     let z = c in
     let a = z.args in
     let t = a.t.now in
-    let i = sym c.instance_ok.ensures ∙ not-false _ c.if-not-instance_ok.false in
+    let i = sym c.instance_ok.ensures ∙ c.if-not-instance_ok.false in
     let nm = names a.n a.s a.c t a.o a.j z.requires.setup i in
     let sz = sizes a.n a.s a.c t z.requires.setup in
     omega (arith, nm.owner, nm.copies)
@@ -61,7 +79,7 @@ short-requires c =
     let z = c in
     let a = z.args in
     let t = a.t.now in
-    let i = sym c.instance_ok.ensures ∙ not-false _ c.if-not-instance_ok.false in
+    let i = sym c.instance_ok.ensures ∙ c.if-not-instance_ok.false in
     let nm = names a.n a.s a.c t a.o a.j z.requires.setup i in
     let sz = sizes a.n a.s a.c t z.requires.setup in
     omega (arith, nm.last, nm.numbers)
@@ -71,7 +89,7 @@ nudge-x-requires c =
     let z = c in
     let a = z.args in
     let t = a.t.now in
-    let i = sym c.instance_ok.ensures ∙ not-false _ c.if-not-instance_ok.false in
+    let i = sym c.instance_ok.ensures ∙ c.if-not-instance_ok.false in
     let nm = names a.n a.s a.c t a.o a.j z.requires.setup i in
     let sz = sizes a.n a.s a.c t z.requires.setup in
     three a.n a.s a.c t z.requires.setup
@@ -81,7 +99,7 @@ returns c =
     let z = c in
     let a = z.args in
     let t = a.t.now in
-    let i = sym c.instance_ok.ensures ∙ not-false _ c.if-not-instance_ok.false in
+    let i = sym c.instance_ok.ensures ∙ c.if-not-instance_ok.false in
     let nm = names a.n a.s a.c t a.o a.j z.requires.setup i in
     let sz = sizes a.n a.s a.c t z.requires.setup in
     let rr = c.load-r.ensures in
@@ -90,4 +108,4 @@ returns c =
     let q = ap nothing_to_nudge (sym rr) ∙ e ∙ c.if-both.false in
     let x = nudge-step a.n a.s a.c t a.out.now a.o a.j c.byte.ensures c.byte-2.ensures c.short.ensures c.load-r.ensures c.nudge-x.ensures in
     let w = c.act.ensures in
-    met (nudge-ok a.n a.s a.c t a.out.now a.o a.j i q) (acted-is a.s t a.out.now a.o a.j x w.0 w.1.0 w.1.1)
+    met (nudge-ok a.n a.s a.c t a.out.now a.o a.j i q) (acted-is a.s t a.out.now a.o a.j x w.answers w.table w.room)

@@ -15,13 +15,13 @@ pub reply_part-requires : goal.reply_part-requires
 reply_part-requires c = (c.loop-left.invariant.1, omega (arith, c.loop-left.invariant.0.few))
 
 pub returns-then-not-reply_part : goal.returns-then-not-reply_part
-returns-then-not-reply_part c = bad-reply _ _ _ _ _ c.loop-left-test.true c.loop-left.invariant.0 (sym c.reply_part.ensures ∙ not-true _ c.if-not-reply_part.true)
+returns-then-not-reply_part c = bad-reply _ _ _ _ _ c.loop-left-test.true c.loop-left.invariant.0 (sym c.reply_part.ensures ∙ c.if-not-reply_part.true)
 
 pub loop-left-smaller : goal.loop-left-smaller
 loop-left-smaller c = omega arith
 
 pub loop-left-preserved : goal.loop-left-preserved
-loop-left-preserved c = (judged-next _ _ _ _ _ c.loop-left-test.true c.loop-left.invariant.0 (sym c.reply_part.ensures ∙ not-false _ c.if-not-reply_part.false), c.loop-left.invariant.1)
+loop-left-preserved c = (judged-next _ _ _ _ _ c.loop-left-test.true c.loop-left.invariant.0 (sym c.reply_part.ensures ∙ c.if-not-reply_part.false), c.loop-left.invariant.1)
 
 pub returns : goal.returns
 returns c = judged-all _ _ _ _ _ (omega arith) c.loop-left.invariant.0

@@ -18,6 +18,6 @@ returns c =
     let r = e.args.r in
     let h : length l ≡ 295 = e.requires in
     let n : length (front_bytes r) ≡ 43 = length-front_bytes r in
-    let m : length (votes_bytes r.replies) ≡ 252 = length-votes_bytes r.replies ∙ ap (λ (k : ℕ). 36 * k) c2.write_votes.ensures.1 in
-    splice-step l 0 (front_bytes r) 43 (votes_bytes r.replies) c1.write_front.ensures c2.write_votes.ensures.0 (omega arith) (omega arith)
+    let m : length (votes_bytes r.replies) ≡ 252 = length-votes_bytes r.replies ∙ ap (λ (k : ℕ). 36 * k) c2.write_votes.ensures.sized in
+    splice-step l 0 (front_bytes r) 43 (votes_bytes r.replies) c1.write_front.ensures c2.write_votes.ensures.b_after (omega arith) (omega arith)
     ∙ splice_all l (front_bytes r ++ votes_bytes r.replies) (simp length-append (omega arith))

@@ -7,18 +7,35 @@ use Rattle.table.proofs.Laws.{sizes, names}
 use Rattle.rules.specs.Recover.{out_of_ballots}
 use Rattle.gate.proofs.Calls.{met, refused, acted-is}
 use Rattle.gate.proofs.Outcomes.{recover-6, recover-8, recover-7, recover-ok}
-use Rattle.recover.proofs.Laws.{recover-step}
+use Rattle.recover.proofs.Laws.{recover-step, recover-room}
+use Rattle.numbers.specs.Num.{Bytes}
+use borrow.Author.Rules.{rules}
 use Rattle.recover.proofs.recover_open.Goals as goal
 
+pub act-requires : goal.act-requires
+act-requires c =
+    let z = c in
+    let a = z.args in
+    let t = a.t.now in
+    let i = sym c.instance_ok.ensures ∙ c.if-not-instance_ok.false in
+    let nm = names a.n a.s a.c t a.o a.j z.requires.setup i in
+    let sz = sizes a.n a.s a.c t z.requires.setup in
+    let rr = c.load-r.ensures in
+    let q = ap is_committed (sym rr) ∙ sym c.is_committed.ensures ∙ c.if-is_committed.false in
+    let l = ap out_of_ballots (sym rr) ∙ lt-leb _ _ c.if-r-ge4294967288.false in
+    let x = recover-step a.n a.s a.c t a.out.now a.o a.j c.byte.ensures c.byte-2.ensures c.short.ensures c.load-r.ensures c.recover-x.ensures in
+    let bt : Bytes t = λ i. omega (arith, c.type_inv.t i) in
+    (record { names = nm; long = sz.long }, z.requires.long, rw x (recover-room a.n a.s a.c t a.out.now a.o a.j bt z.requires i q l))
+
 pub returns-then-not-instance_ok : goal.returns-then-not-instance_ok
-returns-then-not-instance_ok c = met (recover-6 _ _ _ _ _ _ _ (sym c.instance_ok.ensures ∙ not-true _ c.if-not-instance_ok.true)) (refused why.Instance _ _)
+returns-then-not-instance_ok c = met (recover-6 _ _ _ _ _ _ _ (sym c.instance_ok.ensures ∙ c.if-not-instance_ok.true)) (refused why.Instance _ _)
 
 pub load-r-requires : goal.load-r-requires
 load-r-requires c =
     let z = c in
     let a = z.args in
     let t = a.t.now in
-    let i = sym c.instance_ok.ensures ∙ not-false _ c.if-not-instance_ok.false in
+    let i = sym c.instance_ok.ensures ∙ c.if-not-instance_ok.false in
     let nm = names a.n a.s a.c t a.o a.j z.requires.setup i in
     let sz = sizes a.n a.s a.c t z.requires.setup in
     record { names = nm; long = sz.long }
@@ -28,7 +45,7 @@ returns-then-is_committed c =
     let z = c in
     let a = z.args in
     let t = a.t.now in
-    let i = sym c.instance_ok.ensures ∙ not-false _ c.if-not-instance_ok.false in
+    let i = sym c.instance_ok.ensures ∙ c.if-not-instance_ok.false in
     let nm = names a.n a.s a.c t a.o a.j z.requires.setup i in
     let sz = sizes a.n a.s a.c t z.requires.setup in
     let rr = c.load-r.ensures in
@@ -40,7 +57,7 @@ returns-then-r-ge4294967288 c =
     let z = c in
     let a = z.args in
     let t = a.t.now in
-    let i = sym c.instance_ok.ensures ∙ not-false _ c.if-not-instance_ok.false in
+    let i = sym c.instance_ok.ensures ∙ c.if-not-instance_ok.false in
     let nm = names a.n a.s a.c t a.o a.j z.requires.setup i in
     let sz = sizes a.n a.s a.c t z.requires.setup in
     let rr = c.load-r.ensures in
@@ -53,7 +70,7 @@ byte-requires c =
     let z = c in
     let a = z.args in
     let t = a.t.now in
-    let i = sym c.instance_ok.ensures ∙ not-false _ c.if-not-instance_ok.false in
+    let i = sym c.instance_ok.ensures ∙ c.if-not-instance_ok.false in
     let nm = names a.n a.s a.c t a.o a.j z.requires.setup i in
     let sz = sizes a.n a.s a.c t z.requires.setup in
     omega (arith, sz.copy, sz.copies)
@@ -63,7 +80,7 @@ byte-requires-2 c =
     let z = c in
     let a = z.args in
     let t = a.t.now in
-    let i = sym c.instance_ok.ensures ∙ not-false _ c.if-not-instance_ok.false in
+    let i = sym c.instance_ok.ensures ∙ c.if-not-instance_ok.false in
     let nm = names a.n a.s a.c t a.o a.j z.requires.setup i in
     let sz = sizes a.n a.s a.c t z.requires.setup in
     omega (arith, nm.owner, nm.copies)
@@ -73,7 +90,7 @@ short-requires c =
     let z = c in
     let a = z.args in
     let t = a.t.now in
-    let i = sym c.instance_ok.ensures ∙ not-false _ c.if-not-instance_ok.false in
+    let i = sym c.instance_ok.ensures ∙ c.if-not-instance_ok.false in
     let nm = names a.n a.s a.c t a.o a.j z.requires.setup i in
     let sz = sizes a.n a.s a.c t z.requires.setup in
     omega (arith, nm.last, nm.numbers)
@@ -83,7 +100,7 @@ recover-x-requires c =
     let z = c in
     let a = z.args in
     let t = a.t.now in
-    let i = sym c.instance_ok.ensures ∙ not-false _ c.if-not-instance_ok.false in
+    let i = sym c.instance_ok.ensures ∙ c.if-not-instance_ok.false in
     let nm = names a.n a.s a.c t a.o a.j z.requires.setup i in
     let sz = sizes a.n a.s a.c t z.requires.setup in
     (c.if-r-ge4294967288.false, omega (arith, sz.copy, sz.copies, c.byte.ensures))
@@ -93,7 +110,7 @@ returns c =
     let z = c in
     let a = z.args in
     let t = a.t.now in
-    let i = sym c.instance_ok.ensures ∙ not-false _ c.if-not-instance_ok.false in
+    let i = sym c.instance_ok.ensures ∙ c.if-not-instance_ok.false in
     let nm = names a.n a.s a.c t a.o a.j z.requires.setup i in
     let sz = sizes a.n a.s a.c t z.requires.setup in
     let rr = c.load-r.ensures in
@@ -101,4 +118,4 @@ returns c =
     let l = ap out_of_ballots (sym rr) ∙ lt-leb _ _ c.if-r-ge4294967288.false in
     let x = recover-step a.n a.s a.c t a.out.now a.o a.j c.byte.ensures c.byte-2.ensures c.short.ensures c.load-r.ensures c.recover-x.ensures in
     let w = c.act.ensures in
-    met (recover-ok a.n a.s a.c t a.out.now a.o a.j i q l) (acted-is a.s t a.out.now a.o a.j x w.0 w.1.0 w.1.1)
+    met (recover-ok a.n a.s a.c t a.out.now a.o a.j i q l) (acted-is a.s t a.out.now a.o a.j x w.answers w.table w.room)

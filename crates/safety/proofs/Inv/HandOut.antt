@@ -181,6 +181,7 @@ module _ (C : Case) where
   earlier : (G : ℕ → Sys) (I J : ℕ) {m : List ℕ} → Marks G m → Before I J m → (n : List ℕ) × Mark G I n × (Mem J n → ⊥)
   earlier G I J (cons a r) (top k) = let (n, b, c) = mark_of G I r k in (n, b, λ h. a.once (c J h))
   earlier G I J (cons a r) (below k) = earlier G I J r k
+  earlier G I J nil k = elim k [ ]
 
   -- no instance is marked twice
   pub never-twice : {G : ℕ → Sys} {M : ℕ → List ℕ} → MReach G M → (p I : ℕ) → Before I I (M p) → ⊥
@@ -189,6 +190,7 @@ module _ (C : Case) where
       go : {m : List ℕ} → Marks G m → Before I I m → ⊥
       go (cons a r) (top k) = a.once k
       go (cons a r) (below k) = go r k
+      go nil k = elim k [ ]
 
   -- copies mark interfering commands in the same order
   pub same-order : {G : ℕ → Sys} {M : ℕ → List ℕ} → MReach G M → (p q I J : ℕ) → (I ≡ J → ⊥) → (v w : Value) → Committed G I v → Committed G J w → Interf (cmd v) (cmd w)

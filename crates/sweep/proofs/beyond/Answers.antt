@@ -23,7 +23,7 @@ pub loop-q-preserved : goal.loop-q-preserved
 loop-q-preserved c =
     let l = c in
     let w = c.take_named.ensures in
-    (beyond-next _ _ _ _ l.loop-q.invariant.0 w.0, wrote_on _ _ _ _ l.loop-q.invariant.1 w.1, omega (arith, c.loop-q-test.true))
+    (beyond-next _ _ _ _ l.loop-q.invariant.0 w.row, wrote_on _ _ _ _ l.loop-q.invariant.1 w.wrote, omega (arith, c.loop-q-test.true))
 
 pub shape_of-h : goal.shape_of-h
 shape_of-h c = c.loop-q.invariant.1.long ∙ sym c.requires.1.long
@@ -32,4 +32,4 @@ pub returns : goal.returns
 returns c =
     let l = c in
     let e = l in
-    (beyond-last e.args.n e.args.g.now _ l.loop-q.q l.loop-q.invariant.0 c.loop-q-test.false l.loop-q.invariant.2, l.loop-q.invariant.1)
+    record { row = beyond-last e.args.n e.args.g.now _ l.loop-q.q l.loop-q.invariant.0 c.loop-q-test.false l.loop-q.invariant.2; wrote = l.loop-q.invariant.1 }

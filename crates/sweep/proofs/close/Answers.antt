@@ -1,6 +1,6 @@
 use mathlib.Core.Path.{◌≡◌, sym, ◌∙◌}
 use native.Mathlib.Omega.{arith}
-use Rattle.sweep.proofs.Closes.{close-place, turn-first, turn-taking, turn_last}
+use Rattle.sweep.proofs.Closes.{close-place, turn-first, turn-taking, turn_on, turn-less, turn_last}
 use Rattle.sweep.proofs.close.Goals as goal
 
 pub slot_of-x-requires : goal.slot_of-x-requires
@@ -29,7 +29,7 @@ pub marks_at-requires : goal.marks_at-requires
 marks_at-requires c =
     let l = c in
     let e = l in
-    rw l.loop-changed.invariant.1 (close-place e.args.n e.args.s e.args.t.now e.args.g.now e.args.h.now e.args.p e.args.k e.requires.0 _ c.beyond.ensures.1.long)
+    rw l.loop-changed.invariant.1 (close-place e.args.n e.args.s e.args.t.now e.args.g.now e.args.h.now e.args.p e.args.k e.requires.0 _ c.beyond.ensures.wrote.long)
 
 pub same_deps-changed-requires : goal.same_deps-changed-requires
 same_deps-changed-requires c = tt
@@ -42,4 +42,16 @@ returns c =
     let l = c in
     let e = l in
     let v = rw c.loop-changed-test.false at l.loop-changed.invariant.0 in
-    (turn_last e.args.n e.args.s e.args.t.now e.args.g.now e.args.h.now e.args.p e.args.k e.requires.0 _ v, v.wrote)
+    record { closed = turn_last e.args.n e.args.s e.args.t.now e.args.g.now e.args.h.now e.args.p e.args.k e.requires.0 _ v; wrote = v.wrote }
+
+pub loop-changed-smaller : goal.loop-changed-smaller
+loop-changed-smaller c =
+    let l = c in
+    let e = l in
+    rw c.loop-changed-test.true (turn-less e.args.n e.args.s e.args.t.now e.args.g.now e.args.h.now e.args.p e.args.k e.requires.0 _ (rw c.loop-changed-test.true at l.loop-changed.invariant.0) l.loop-changed.invariant.1 c.marks_at-row.ensures c.beyond.ensures.row c.marks_at.ensures c.same_deps-changed.ensures c.beyond.ensures.wrote (λ i. omega (arith, c.type_inv.h i)))
+
+pub loop-changed-preserved : goal.loop-changed-preserved
+loop-changed-preserved c =
+    let l = c in
+    let e = l in
+    (turn_on e.args.n e.args.s e.args.t.now e.args.g.now e.args.h.now e.args.p e.args.k e.requires.0 _ (rw c.loop-changed-test.true at l.loop-changed.invariant.0) l.loop-changed.invariant.1 c.marks_at-row.ensures c.beyond.ensures.row c.marks_at.ensures c.same_deps-changed.ensures c.beyond.ensures.wrote (λ i. omega (arith, c.type_inv.h i)), l.loop-changed.invariant.1)

@@ -28,7 +28,7 @@ pub loop-i-preserved : goal.loop-i-preserved
 loop-i-preserved c =
     let l = c in
     let r = c.raise.ensures in
-    (owners-more _ _ _ _ _ _ _ _ _ _ l.requires.2 c.loop-i-test.true c.turned.ensures l.loop-i.invariant.0 r.1, r.0)
+    (owners-more _ _ _ _ _ _ _ _ _ _ l.requires.2 c.loop-i-test.true c.turned.ensures l.loop-i.invariant.0 r.raised, r.long)
 
 pub shape_of-g : goal.shape_of-g
 shape_of-g c = c.loop-i.invariant.0.rows.long ∙ sym c.requires.0.rows.long
@@ -37,4 +37,4 @@ pub shape_of-h : goal.shape_of-h
 shape_of-h c = c.loop-i.invariant.1 ∙ sym c.requires.0.long
 
 pub returns : goal.returns
-returns c = (c.loop-i.invariant.1, owners-all _ _ _ _ _ _ _ _ c.loop-i-test.false c.loop-i.invariant.0)
+returns c = record { long = c.loop-i.invariant.1; raised = owners-all _ _ _ _ _ _ _ _ c.loop-i-test.false c.loop-i.invariant.0 }

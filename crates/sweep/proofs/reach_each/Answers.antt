@@ -1,9 +1,9 @@
 use Prim.Native.Nat.{◌*◌, ◌-◌, ◌<◌}
 use mathlib.Core.Path.{◌≡◌, refl, sym, ◌∙◌}
-use mathlib.Core.Logic.{⊎_elim}
 use native.Mathlib.Omega.{arith}
 use Rattle.sweep.proofs.Charts.{charts-start, charts-skip, charts-ask, charts-more, charts-all}
 use Rattle.sweep.proofs.reach_each.Goals as goal
+use Rattle.sweep.proofs.reach_each.Goals.{then-j-s, else-j-s}
 
 pub overflow_mul-last : goal.overflow_mul-last
 overflow_mul-last c = omega (arith, c.requires.sized.copies)
@@ -31,10 +31,10 @@ loop-z-preserved c =
     let l = c in
     let e = l in
     let z : l.loop-z.z < 64 * e.args.n = omega (arith, c.loop-z-test.true, l.loop-z.invariant.1) in
-    ⊎_elim
-    (λ w. (rw w.5 (charts-more _ _ _ _ _ _ e.requires.sized l.loop-z.invariant.0 z _ w.2.ensures.0 w.2.ensures.1), l.loop-z.invariant.1))
-    (λ w. (rw w.1 (charts-skip _ _ _ _ _ _ e.requires.sized l.loop-z.invariant.0 z w.0.left), l.loop-z.invariant.1))
-    c.if-j-s.branch
+    elim c.if-j-s.branch [
+      then-j-s w ↦ (rw w.h-is (charts-more _ _ _ _ _ _ e.requires.sized l.loop-z.invariant.0 z _ w.reach_one.ensures.closed w.reach_one.ensures.wrote), l.loop-z.invariant.1)
+    | else-j-s w ↦ (rw w.h-is (charts-skip _ _ _ _ _ _ e.requires.sized l.loop-z.invariant.0 z w.if-j-s.false), l.loop-z.invariant.1)
+    ]
 
 pub shape_of-h : goal.shape_of-h
 shape_of-h c = c.loop-z.invariant.0.long ∙ sym c.requires.long

@@ -35,7 +35,7 @@ pub loop-i-preserved : goal.loop-i-preserved
 loop-i-preserved c =
     let l = c in
     let r = c.raise_number.ensures in
-    (numbers_more _ _ _ _ _ _ _ _ _ c.loop-i-test.true c.turned.ensures l.loop-i.invariant.0 r.1, r.0)
+    (numbers_more _ _ _ _ _ _ _ _ _ c.loop-i-test.true c.turned.ensures l.loop-i.invariant.0 r.raised, r.long)
 
 pub shape_of-g : goal.shape_of-g
 shape_of-g c = c.loop-i.invariant.0.rows.long ∙ sym c.requires.rows.long
@@ -44,4 +44,4 @@ pub shape_of-h : goal.shape_of-h
 shape_of-h c = c.loop-i.invariant.1 ∙ sym c.requires.long
 
 pub returns : goal.returns
-returns c = (c.loop-i.invariant.1, numbers-all _ _ _ _ _ _ _ c.loop-i-test.false c.loop-i.invariant.0)
+returns c = record { long = c.loop-i.invariant.1; raised = numbers-all _ _ _ _ _ _ _ c.loop-i-test.false c.loop-i.invariant.0 }

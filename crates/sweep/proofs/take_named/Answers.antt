@@ -6,7 +6,7 @@ pub returns-then-entry-eq0 : goal.returns-then-entry-eq0
 returns-then-entry-eq0 c =
     let m = c in
     let e = m in
-    (named_none e.args.n e.args.g.now e.args.q _ _ m.mark_at-entry.ensures c.if-entry-eq0.true, wrote-same _ _ e.requires.1.long)
+    record { row = named_none e.args.n e.args.g.now e.args.q _ _ m.mark_at-entry.ensures c.if-entry-eq0.true; wrote = wrote-same _ _ e.requires.1.long }
 
 pub returns : goal.returns
 returns c =
@@ -14,4 +14,4 @@ returns c =
     let l = t in
     let m = l in
     let e = m in
-    (named-taken e.args.n e.args.g.now e.args.q _ _ e.requires.0.owner m.mark_at-entry.ensures (omega (arith, l.if-entry-eq0.false)) t.slot_of.ensures.0 t.take_row.ensures.0, t.take_row.ensures.1)
+    record { row = named-taken e.args.n e.args.g.now e.args.q _ _ e.requires.0.owner m.mark_at-entry.ensures (omega (arith, l.if-entry-eq0.false)) t.slot_of.ensures.0 t.take_row.ensures.row; wrote = t.take_row.ensures.wrote }

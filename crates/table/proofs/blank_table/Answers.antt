@@ -7,15 +7,15 @@ use Rattle.table.proofs.blank_table.Goals as goal
 pub returns-then-not-fits_setup : goal.returns-then-not-fits_setup
 unfolding blanked blanked_table
 returns-then-not-fits_setup c =
-    let p = sym c.fits_setup.ensures ∙ not-true _ c.if-not-fits_setup.true in
-    (rw p, rw p)
+    let p = sym c.fits_setup.ensures ∙ c.if-not-fits_setup.true in
+    record { answers = rw p; table = rw p }
 
 pub put_blank-requires : goal.put_blank-requires
 unfolding blanked blanked_table
-put_blank-requires c = sizes _ _ _ _ (sym c.fits_setup.ensures ∙ not-false _ c.if-not-fits_setup.false)
+put_blank-requires c = sizes _ _ _ _ (sym c.fits_setup.ensures ∙ c.if-not-fits_setup.false)
 
 pub returns : goal.returns
 unfolding blanked blanked_table
 returns c =
-    let p = sym c.fits_setup.ensures ∙ not-false _ c.if-not-fits_setup.false in
-    (rw p, rw p c.put_blank.ensures)
+    let p = sym c.fits_setup.ensures ∙ c.if-not-fits_setup.false in
+    record { answers = rw p; table = rw p c.put_blank.ensures }

@@ -7,4 +7,4 @@ pub returns : goal.returns
 returns c =
     let p = c.place_of-at.ensures in
     let h = c.requires in
-    (rw (add-sub_cancel_left, p.0), simp (add-sub_cancel_left, length-take, length-drop) (omega (arith, p.1, h.long)))
+    record { part = rw (add-sub_cancel_left, p.0); long = simp (add-sub_cancel_left, length-take, length-drop) (omega (arith, p.1, h.long)) }

@@ -33,7 +33,7 @@ idle_ok-requires c =
     simp (length-take, length-drop) (omega (arith, b.0, b.1, b.2))
 
 pub returns-then-not-idle_ok : goal.returns-then-not-idle_ok
-returns-then-not-idle_ok c = past_stop _ _ _ _ _ _ _ c.loop-left.invariant c.loop-left-test.true (sym c.idle_ok.ensures ∙ not-true _ c.if-not-idle_ok.true)
+returns-then-not-idle_ok c = past_stop _ _ _ _ _ _ _ c.loop-left.invariant c.loop-left-test.true (sym c.idle_ok.ensures ∙ c.if-not-idle_ok.true)
 
 pub overflow_sub-left : goal.overflow_sub-left
 overflow_sub-left c = omega arith
@@ -42,7 +42,7 @@ pub loop-left-smaller : goal.loop-left-smaller
 loop-left-smaller c = omega arith
 
 pub loop-left-preserved : goal.loop-left-preserved
-loop-left-preserved c = past_next _ _ _ _ _ _ _ c.loop-left.invariant c.loop-left-test.true (sym c.idle_ok.ensures ∙ not-false _ c.if-not-idle_ok.false)
+loop-left-preserved c = past_next _ _ _ _ _ _ _ c.loop-left.invariant c.loop-left-test.true (sym c.idle_ok.ensures ∙ c.if-not-idle_ok.false)
 
 pub returns : goal.returns
 returns c = past-none _ _ _ _ _ _ _ c.loop-left.invariant (omega arith)

@@ -6,11 +6,11 @@ use Rattle.table.proofs.record_part.Goals as goal
 
 pub returns-then-not-has_part : goal.returns-then-not-has_part
 unfolding part_of
-returns-then-not-has_part c = rw (sym c.has_part.ensures ∙ not-true _ c.if-not-has_part.true)
+returns-then-not-has_part c = rw (sym c.has_part.ensures ∙ c.if-not-has_part.true)
 
 pub part-requires : goal.part-requires
-part-requires c = has _ _ _ _ _ _ (sym c.has_part.ensures ∙ not-false _ c.if-not-has_part.false)
+part-requires c = has _ _ _ _ _ _ (sym c.has_part.ensures ∙ c.if-not-has_part.false)
 
 pub returns : goal.returns
 unfolding part_of
-returns c = rw (sym c.has_part.ensures ∙ not-false _ c.if-not-has_part.false, c.part.ensures.0)
+returns c = rw (sym c.has_part.ensures ∙ c.if-not-has_part.false, c.part.ensures.part)

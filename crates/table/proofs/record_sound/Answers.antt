@@ -5,4 +5,4 @@ use Rattle.table.proofs.record_sound.Goals as goal
 pub returns : goal.returns
 returns c =
     let a = c.args in
-    c.sound_part.ensures ∙ ap (sound_part a.n a.s a.c a.o) c.part.ensures.0
+    c.sound_part.ensures ∙ ap (sound_part a.n a.s a.c a.o) c.part.ensures.part

@@ -1,5 +1,5 @@
-use mathlib.Core.Path.{◌≡◌, refl, ◌∙◌}
-use mathlib.Core.Bool.{◌&&◌}
+use mathlib.Core.Path.{ap, ◌≡◌, refl, ◌∙◌}
+use mathlib.Core.Bool.{not, ◌&&◌}
 use Rattle.paper.specs.Logic.{implies}
 use Rattle.paper.specs.Vote.{none_op}
 use Rattle.paper.specs.Valid.{fresh_op}
@@ -18,32 +18,32 @@ unfolding command_verdict
 returns-then-not-both c =
     let a = c.args in
     let op : c.both.result ≡ (fresh_op a.w a.m a.v && implies a.w.parts.told (none_op a.v)) = cc in
-    c.of.ensures ∙ present c.args.w.parts.command c.if-not-parts.false (failed op (blame.Of field.Op) _ c.if-not-both.true)
+    c.of.ensures ∙ present c.args.w.parts.command c.if-not-parts.false (failed op (blame.Of field.Op) _ (ap not c.if-not-both.true))
 
 pub returns-then-not-key_ok : goal.returns-then-not-key_ok
 unfolding command_verdict
 returns-then-not-key_ok c =
     let a = c.args in
     let op : c.both.result ≡ (fresh_op a.w a.m a.v && implies a.w.parts.told (none_op a.v)) = cc in
-    c.of-then-not-key_ok.ensures ∙ present c.args.w.parts.command c.if-not-parts.false (held op (blame.Of field.Op) _ c.if-not-both.false (failed c.key_ok.ensures (blame.Of field.Key) _ c.if-not-key_ok.true))
+    c.of-then-not-key_ok.ensures ∙ present c.args.w.parts.command c.if-not-parts.false (held op (blame.Of field.Op) _ (ap not c.if-not-both.false) (failed c.key_ok.ensures (blame.Of field.Key) _ (ap not c.if-not-key_ok.true)))
 
 pub returns-then-not-second_ok : goal.returns-then-not-second_ok
 unfolding command_verdict
 returns-then-not-second_ok c =
     let a = c.args in
     let op : c.both.result ≡ (fresh_op a.w a.m a.v && implies a.w.parts.told (none_op a.v)) = cc in
-    c.of-then-not-second_ok.ensures ∙ present c.args.w.parts.command c.if-not-parts.false (held op (blame.Of field.Op) _ c.if-not-both.false (held c.key_ok.ensures (blame.Of field.Key) _ c.if-not-key_ok.false (failed c.second_ok.ensures (blame.Of field.Second) _ c.if-not-second_ok.true)))
+    c.of-then-not-second_ok.ensures ∙ present c.args.w.parts.command c.if-not-parts.false (held op (blame.Of field.Op) _ (ap not c.if-not-both.false) (held c.key_ok.ensures (blame.Of field.Key) _ (ap not c.if-not-key_ok.false) (failed c.second_ok.ensures (blame.Of field.Second) _ (ap not c.if-not-second_ok.true))))
 
 pub returns-then-not-edit_ok : goal.returns-then-not-edit_ok
 unfolding command_verdict
 returns-then-not-edit_ok c =
     let a = c.args in
     let op : c.both.result ≡ (fresh_op a.w a.m a.v && implies a.w.parts.told (none_op a.v)) = cc in
-    c.of-then-not-edit_ok.ensures ∙ present c.args.w.parts.command c.if-not-parts.false (held op (blame.Of field.Op) _ c.if-not-both.false (held c.key_ok.ensures (blame.Of field.Key) _ c.if-not-key_ok.false (held c.second_ok.ensures (blame.Of field.Second) _ c.if-not-second_ok.false (failed c.edit_ok.ensures (blame.Of field.Edit) _ c.if-not-edit_ok.true))))
+    c.of-then-not-edit_ok.ensures ∙ present c.args.w.parts.command c.if-not-parts.false (held op (blame.Of field.Op) _ (ap not c.if-not-both.false) (held c.key_ok.ensures (blame.Of field.Key) _ (ap not c.if-not-key_ok.false) (held c.second_ok.ensures (blame.Of field.Second) _ (ap not c.if-not-second_ok.false) (failed c.edit_ok.ensures (blame.Of field.Edit) _ (ap not c.if-not-edit_ok.true)))))
 
 pub returns : goal.returns
 unfolding command_verdict
 returns c =
     let a = c.args in
     let op : c.both.result ≡ (fresh_op a.w a.m a.v && implies a.w.parts.told (none_op a.v)) = cc in
-    present c.args.w.parts.command c.if-not-parts.false (held op (blame.Of field.Op) _ c.if-not-both.false (held c.key_ok.ensures (blame.Of field.Key) _ c.if-not-key_ok.false (held c.second_ok.ensures (blame.Of field.Second) _ c.if-not-second_ok.false (held c.edit_ok.ensures (blame.Of field.Edit) _ c.if-not-edit_ok.false refl))))
+    present c.args.w.parts.command c.if-not-parts.false (held op (blame.Of field.Op) _ (ap not c.if-not-both.false) (held c.key_ok.ensures (blame.Of field.Key) _ (ap not c.if-not-key_ok.false) (held c.second_ok.ensures (blame.Of field.Second) _ (ap not c.if-not-second_ok.false) (held c.edit_ok.ensures (blame.Of field.Edit) _ (ap not c.if-not-edit_ok.false) refl))))

@@ -1,5 +1,6 @@
+use mathlib.Core.Bool.{not}
 use Prim.Native.Nat.{◌-◌}
-use mathlib.Core.Path.{sym, ◌∙◌}
+use mathlib.Core.Path.{ap, sym, ◌∙◌}
 use native.Mathlib.Omega.{arith}
 use Rattle.valid.proofs.Laws.{all_fit, all_left, bad, good, none_left}
 use Rattle.valid.proofs.entries_verdict.Goals as goal
@@ -13,14 +14,14 @@ loop-i-init c = all_left _ _ _
 pub returns-then-not-entry_ok : goal.returns-then-not-entry_ok
 returns-then-not-entry_ok c =
     c.of.ensures
-    ∙ bad _ _ _ _ c.loop-i.invariant c.loop-i-test.true c.wide8-q.ensures c.entry_ok.ensures c.if-not-entry_ok.true
+    ∙ bad _ _ _ _ c.loop-i.invariant c.loop-i-test.true c.wide8-q.ensures c.entry_ok.ensures (ap not c.if-not-entry_ok.true)
 
 pub loop-i-smaller : goal.loop-i-smaller
 loop-i-smaller c = omega arith
 
 pub loop-i-preserved : goal.loop-i-preserved
 loop-i-preserved c =
-    good _ _ _ _ c.loop-i.invariant c.loop-i-test.true c.wide8-q.ensures c.entry_ok.ensures c.if-not-entry_ok.false
+    good _ _ _ _ c.loop-i.invariant c.loop-i-test.true c.wide8-q.ensures c.entry_ok.ensures (ap not c.if-not-entry_ok.false)
 
 pub returns : goal.returns
 returns c = none_left _ _ _ _ c.loop-i.invariant (omega arith)

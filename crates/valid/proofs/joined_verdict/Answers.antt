@@ -1,5 +1,5 @@
-use mathlib.Core.Path.{◌≡◌, refl, ◌∙◌}
-use mathlib.Core.Bool.{◌&&◌}
+use mathlib.Core.Path.{ap, ◌≡◌, refl, ◌∙◌}
+use mathlib.Core.Bool.{not, ◌&&◌}
 use lib.Dec.{ltb}
 use Rattle.paper.specs.Valid.{joined_range}
 use Rattle.paper.specs.declared.Field.TheVariants as field
@@ -17,11 +17,11 @@ unfolding joined_verdict
 returns-then-not-both c =
     let a = c.args in
     let joined : c.both.result ≡ (joined_range a.n a.j && ltb a.m.ballot a.j) = cc in
-    c.of.ensures ∙ present c.args.w.parts.joined c.if-not-parts.false (failed joined (blame.Of field.Joined) _ c.if-not-both.true)
+    c.of.ensures ∙ present c.args.w.parts.joined c.if-not-parts.false (failed joined (blame.Of field.Joined) _ (ap not c.if-not-both.true))
 
 pub returns : goal.returns
 unfolding joined_verdict
 returns c =
     let a = c.args in
     let joined : c.both.result ≡ (joined_range a.n a.j && ltb a.m.ballot a.j) = cc in
-    present c.args.w.parts.joined c.if-not-parts.false (held joined (blame.Of field.Joined) _ c.if-not-both.false refl)
+    present c.args.w.parts.joined c.if-not-parts.false (held joined (blame.Of field.Joined) _ (ap not c.if-not-both.false) refl)

@@ -18,7 +18,7 @@ loop-q-smaller c = omega arith
 pub loop-q-preserved : goal.loop-q-preserved
 loop-q-preserved c =
     let x = c.send_one-at in
-    turned _ _ _ _ _ _ c.loop-q.invariant c.loop-q-test.true x.ensures.0 x.ensures.1 x.auto.0
+    turned _ _ _ _ _ _ c.loop-q.invariant c.loop-q-test.true x.ensures.answers x.ensures.room x.auto.out
 
 pub shape_of-out : goal.shape_of-out
 shape_of-out c = c.loop-q.invariant.long
@@ -26,4 +26,4 @@ shape_of-out c = c.loop-q.invariant.long
 pub returns : goal.returns
 returns c =
     let e = ended _ _ _ _ _ _ c.loop-q.invariant (omega (arith, c.loop-q.invariant.copies)) in
-    (e.0, e.1)
+    record { answers = e.0; room = e.1 }

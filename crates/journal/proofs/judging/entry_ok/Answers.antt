@@ -11,7 +11,7 @@ pub part_in-requires : goal.part_in-requires
 part_in-requires c = fit-part _ _ _ c.requires.1 (eq-eqb (kind_in c.args.b.now) 20 (sym c.kind_in.ensures ∙ c.if-kind_in-eq-RECORD.true))
 
 pub returns-then-kind_in-eq-RECORD : goal.returns-then-kind_in-eq-RECORD
-returns-then-kind_in-eq-RECORD c = rw (c.part_sound.ensures, c.part_in.ensures.0, c.owner_in-o.ensures, eq-eqb (kind_in c.args.b.now) 20 (sym c.kind_in.ensures ∙ c.if-kind_in-eq-RECORD.true))
+returns-then-kind_in-eq-RECORD c = rw (c.part_sound.ensures, c.part_in.ensures.part, c.owner_in-o.ensures, eq-eqb (kind_in c.args.b.now) 20 (sym c.kind_in.ensures ∙ c.if-kind_in-eq-RECORD.true))
 
 pub number_in-requires : goal.number_in-requires
 number_in-requires c = fit-head _ _ _ c.requires.1

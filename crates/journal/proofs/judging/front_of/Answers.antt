@@ -26,13 +26,13 @@ pub returns-then-not-instance_ok : goal.returns-then-not-instance_ok
 returns-then-not-instance_ok c =
     let z = sym (c.entry_length-size.ensures ∙ ap entry_length c.kind_in.ensures) in
     let r = in-range _ _ c.args.b.now c.owner_in.ensures c.number_in.ensures c.instance_ok.ensures in
-    front-range _ _ _ _ _ c.if-b-eq0.false (λ e. c.if-size-eq0.false (sym z ∙ e)) (omega (arith, z, c.if-b-size.false)) (sym r ∙ not-true _ c.if-not-instance_ok.true)
+    front-range _ _ _ _ _ c.if-b-eq0.false (λ e. c.if-size-eq0.false (sym z ∙ e)) (omega (arith, z, c.if-b-size.false)) (sym r ∙ c.if-not-instance_ok.true)
 
 pub entry_ok-requires : goal.entry_ok-requires
-entry_ok-requires c = (c.requires, fits_in _ _ _ c.owner_in.ensures c.number_in.ensures c.instance_ok.ensures c.requires.copies c.requires.numbers (c.entry_length-size.ensures ∙ ap entry_length c.kind_in.ensures) c.if-size-eq0.false c.if-b-size.false (not-false _ c.if-not-instance_ok.false))
+entry_ok-requires c = (c.requires, fits_in _ _ _ c.owner_in.ensures c.number_in.ensures c.instance_ok.ensures c.requires.copies c.requires.numbers (c.entry_length-size.ensures ∙ ap entry_length c.kind_in.ensures) c.if-size-eq0.false c.if-b-size.false (c.if-not-instance_ok.false))
 
 pub returns-then-not-entry_ok : goal.returns-then-not-entry_ok
-returns-then-not-entry_ok c = front-unsound _ _ _ _ _ (fits_in _ _ _ c.owner_in.ensures c.number_in.ensures c.instance_ok.ensures c.requires.copies c.requires.numbers (c.entry_length-size.ensures ∙ ap entry_length c.kind_in.ensures) c.if-size-eq0.false c.if-b-size.false (not-false _ c.if-not-instance_ok.false)) (sym c.entry_ok.ensures ∙ not-true _ c.if-not-entry_ok.true)
+returns-then-not-entry_ok c = front-unsound _ _ _ _ _ (fits_in _ _ _ c.owner_in.ensures c.number_in.ensures c.instance_ok.ensures c.requires.copies c.requires.numbers (c.entry_length-size.ensures ∙ ap entry_length c.kind_in.ensures) c.if-size-eq0.false c.if-b-size.false (c.if-not-instance_ok.false)) (sym c.entry_ok.ensures ∙ c.if-not-entry_ok.true)
 
 pub returns : goal.returns
-returns c = front-whole _ _ _ _ _ (fits_in _ _ _ c.owner_in.ensures c.number_in.ensures c.instance_ok.ensures c.requires.copies c.requires.numbers (c.entry_length-size.ensures ∙ ap entry_length c.kind_in.ensures) c.if-size-eq0.false c.if-b-size.false (not-false _ c.if-not-instance_ok.false)) (sym c.entry_ok.ensures ∙ not-false _ c.if-not-entry_ok.false)
+returns c = front-whole _ _ _ _ _ (fits_in _ _ _ c.owner_in.ensures c.number_in.ensures c.instance_ok.ensures c.requires.copies c.requires.numbers (c.entry_length-size.ensures ∙ ap entry_length c.kind_in.ensures) c.if-size-eq0.false c.if-b-size.false (c.if-not-instance_ok.false)) (sym c.entry_ok.ensures ∙ c.if-not-entry_ok.false)

@@ -23,4 +23,4 @@ pub returns : goal.returns
 returns c =
     let a = c.args in
     let e = eq-eqb (kind_in a.b.now) 20 (sym c.kind_in.ensures ∙ c.if-kind_in-ne-RECORD.false) in
-    rw (c.status_in.ensures, c.part_in.ensures.0, c.slot_of-x.ensures.0, c.number_in.ensures, c.owner_in.ensures, e)
+    rw (c.status_in.ensures, c.part_in.ensures.part, c.slot_of-x.ensures.0, c.number_in.ensures, c.owner_in.ensures, e)

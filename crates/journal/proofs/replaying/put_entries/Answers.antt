@@ -1,10 +1,17 @@
 use mathlib.Core.Path.{sym, ap, ◌∙◌}
 use Prim.Native.Nat.{◌-◌}
 use native.Mathlib.Omega.{arith}
-use lib.ListN.{length-take, length-drop}
+use lib.ListN.{length-take, length-drop, length}
 use Rattle.entries.specs.Entry.{entry_length}
-use Rattle.journal.proofs.Put.{put-start, put-end, put_fit, put-room}
+use Rattle.journal.proofs.Put.{put-start, put-end, put_fit, put-room, Putting, put_on}
+use borrow.Author.Rules.{rules}
 use Rattle.journal.proofs.replaying.put_entries.Goals as goal
+
+pub overflow_add-at : goal.overflow_add-at
+overflow_add-at c = let r = put-room _ _ _ _ _ _ c.loop-at.invariant c.loop-at-test.true (c.entry_length-at.ensures ∙ ap entry_length c.kind_in.ensures) in omega (arith, r.1, c.well-formed.1.1.1.0.0)
+
+pub loop-at-preserved : goal.loop-at-preserved
+loop-at-preserved c = put_on _ _ _ _ _ _ c.loop-at.invariant c.loop-at-test.true (λ i. omega (arith, c.type_inv.b i)) c.put_entry.ensures (c.entry_length-at.ensures ∙ ap entry_length c.kind_in.ensures)
 
 pub loop-at-init : goal.loop-at-init
 loop-at-init c = put-start _ _ _ _ c.requires

@@ -15,10 +15,10 @@ pub part_in-requires : goal.part_in-requires
 part_in-requires c = fit-part _ _ _ c.requires.fit (eq-eqb (kind_in c.args.b.now) 20 (sym c.kind_in.ensures ∙ c.if-kind_in-eq-RECORD.true))
 
 pub put_part-requires : goal.put_part-requires
-put_part-requires c = (put_has _ _ _ c.args.b.now c.owner_in-o.ensures c.number_in-j.ensures c.requires, c.part_in.ensures.1)
+put_part-requires c = (put_has _ _ _ c.args.b.now c.owner_in-o.ensures c.number_in-j.ensures c.requires, c.part_in.ensures.long)
 
 pub returns-then-kind_in-eq-RECORD : goal.returns-then-kind_in-eq-RECORD
-returns-then-kind_in-eq-RECORD c = record-applied c.args.n _ _ _ c.owner_in-o.ensures c.number_in-j.ensures (eq-eqb (kind_in c.args.b.now) 20 (sym c.kind_in.ensures ∙ c.if-kind_in-eq-RECORD.true)) c.part_in.ensures.0 c.put_part.ensures
+returns-then-kind_in-eq-RECORD c = record-applied c.args.n _ _ _ c.owner_in-o.ensures c.number_in-j.ensures (eq-eqb (kind_in c.args.b.now) 20 (sym c.kind_in.ensures ∙ c.if-kind_in-eq-RECORD.true)) c.part_in.ensures.part c.put_part.ensures
 
 pub put_mark-requires : goal.put_mark-requires
 put_mark-requires c = (put_has _ _ _ c.args.b.now c.owner_in-o.ensures c.number_in-j.ensures c.requires, put_whole _ _ _ c.args.b.now c.owner_in-o.ensures c.number_in-j.ensures c.requires)

@@ -12,7 +12,7 @@ part_sound-requires c =
     (record-size _ _ _ _ _ _ _ a c.record_part-part.ensures, z.least, z.copies, omega (arith, z.copies, z.copy))
 
 pub returns-then-not-part_sound : goal.returns-then-not-part_sound
-returns-then-not-part_sound c = record-unsound _ _ _ _ _ _ _ c.record_part-part.ensures (sym c.part_sound.ensures ∙ not-true _ c.if-not-part_sound.true)
+returns-then-not-part_sound c = record-unsound _ _ _ _ _ _ _ c.record_part-part.ensures (sym c.part_sound.ensures ∙ c.if-not-part_sound.true)
 
 pub write_head-requires : goal.write_head-requires
 write_head-requires c = let a = enters-small _ _ _ _ _ _ _ _ c.requires in (omega (arith, c.requires.room), omega arith, a.0, a.1)
@@ -22,5 +22,5 @@ put_bytes-requires c = record-room _ _ _ _ _ _ _ c.requires c.record_part-part.e
 
 pub returns : goal.returns
 returns c =
-    record-put _ _ _ _ _ _ _ c.requires c.record_part-part.ensures (sym c.part_sound.ensures ∙ not-false _ c.if-not-part_sound.false) c.write_head.ensures
+    record-put _ _ _ _ _ _ _ c.requires c.record_part-part.ensures (sym c.part_sound.ensures ∙ c.if-not-part_sound.false) c.write_head.ensures
     c.put_bytes.ensures

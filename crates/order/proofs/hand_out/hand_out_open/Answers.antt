@@ -1,6 +1,13 @@
 use mathlib.Core.Path.{refl}
-use Rattle.order.proofs.Handed.{charting, stating, handed-gives}
+use Rattle.order.proofs.Handed.{charting, stating, handed-gives, listing}
+use borrow.Author.Rules.{rules}
+use native.Mathlib.Omega.{arith}
 use Rattle.order.proofs.hand_out.hand_out_open.Goals as goal
+
+pub list_all-count-requires : goal.list_all-count-requires
+list_all-count-requires c =
+    let a = c in
+    listing _ _ _ _ a.requires (λ i. omega (arith, a.type_inv.t i)) 448 8 refl refl _ _ c.reach_all.ensures c.settle_all.ensures
 
 pub reach_all-requires : goal.reach_all-requires
 reach_all-requires c = charting _ _ _ _ c.requires 6272 6272 refl refl

@@ -1,8 +1,43 @@
 use mathlib.Core.Path.{sym, ◌∙◌}
 use Prim.Native.Nat.{◌-◌}
 use native.Mathlib.Omega.{arith}
-use Rattle.order.proofs.Listed.{listed_start, listed-full}
+use Rattle.order.proofs.Listed.{listed_start, listed-full, Listed, found-inst, listed-on, listed-none}
+use borrow.Author.Rules.{rules}
+use lib.ListN.{length}
 use Rattle.order.proofs.hand_out.list_all.Goals as goal
+
+pub returns-in_default : goal.returns-in_default
+returns-in_default c = listed-none _ _ _ _ _ _ _ _ _ _ _ c.loop-count.invariant (sym c.in_default.is ∙ c.next_in-found.ensures.says)
+
+pub slot_of-x-requires : goal.slot_of-x-requires
+slot_of-x-requires c =
+    let l = c.loop-count.invariant in
+    let i = found-inst _ _ _ _ _ _ _ _ _ _ _ l _ _ (sym c.in-At.is ∙ c.next_in-found.ensures.says) in
+    (omega (arith, i.owner, l.listing.going.lists.copies), i.first, omega (arith, i.last, l.listing.going.lists.numbers))
+
+pub marked_in-requires : goal.marked_in-requires
+marked_in-requires c =
+    let l = c.loop-count.invariant in
+    let i = found-inst _ _ _ _ _ _ _ _ _ _ _ l _ _ (sym c.in-At.is ∙ c.next_in-found.ensures.says) in
+    record {
+      has = record {
+        names = record { copies = l.listing.going.lists.copies; numbers = l.listing.going.lists.numbers; owner = i.owner; first = i.first; last = i.last };
+        long = l.listing.long;
+      };
+      whole = l.listing.whole _ _ i;
+    }
+
+pub code_of-requires : goal.code_of-requires
+code_of-requires c =
+    let l = c.loop-count.invariant in
+    let i = found-inst _ _ _ _ _ _ _ _ _ _ _ l _ _ (sym c.in-At.is ∙ c.next_in-found.ensures.says) in
+    (omega (arith, i.owner, l.listing.going.lists.copies), omega (arith, i.last, l.listing.going.lists.numbers))
+
+pub loop-count-preserved : goal.loop-count-preserved
+loop-count-preserved c =
+    let d = c in
+    let e = sym c.in-At.is ∙ d.next_in-found.ensures.says in
+    listed-on _ _ _ _ _ _ _ _ _ _ _ c.loop-count.invariant _ _ _ _ _ _ _ e c.loop-count-test.true c.slot_of-x.ensures.0 d.next_in-found.ensures.kept c.marked_in.ensures c.code_of.ensures
 
 pub loop-count-init : goal.loop-count-init
 loop-count-init c = listed_start _ _ _ _ _ _ _ _ c.requires
@@ -17,10 +52,10 @@ pub shape_of-st-in_default : goal.shape_of-st-in_default
 shape_of-st-in_default c = let l = c in l.loop-count.invariant.listing.stated.long ∙ sym l.requires.stated.long
 
 pub shape_of-know-in_default : goal.shape_of-know-in_default
-shape_of-know-in_default c = let l = c in c.next_in-found.ensures.1.long ∙ sym l.requires.going.long
+shape_of-know-in_default c = let l = c in c.next_in-found.ensures.kept.long ∙ sym l.requires.going.long
 
 pub shape_of-past-in_default : goal.shape_of-past-in_default
-shape_of-past-in_default c = let l = c in c.next_in-found.ensures.1.passed.long ∙ sym l.requires.going.passed.long
+shape_of-past-in_default c = let l = c in c.next_in-found.ensures.kept.passed.long ∙ sym l.requires.going.passed.long
 
 pub shape_of-list-in_default : goal.shape_of-list-in_default
 shape_of-list-in_default c = c.loop-count.invariant.long
@@ -31,14 +66,14 @@ bounds-st-x c = omega (arith, c.slot_of-x.ensures.1, c.loop-count.invariant.list
 pub offset_bounds-list-count : goal.offset_bounds-list-count
 offset_bounds-list-count c =
     let l = c in
-    let g = l.well-formed.1.1.1.1.1.1.1.0 in
+    let g = l.well_formed.1.1.1.1.1.1.1.0 in
     omega (arith, c.loop-count-test.true, l.loop-count.invariant.long, g.0, g.1)
 
 pub bounds-list-count : goal.bounds-list-count
 bounds-list-count c = omega (arith, c.loop-count-test.true)
 
 pub overflow_add-count : goal.overflow_add-count
-overflow_add-count c = let l = c in omega (arith, c.loop-count-test.true, l.loop-count.invariant.long, l.well-formed.1.1.1.1.1.1.1.0.0)
+overflow_add-count c = let l = c in omega (arith, c.loop-count-test.true, l.loop-count.invariant.long, l.well_formed.1.1.1.1.1.1.1.0.0)
 
 pub loop-count-smaller : goal.loop-count-smaller
 loop-count-smaller c = omega (arith, c.loop-count-test.true, c.loop-count.invariant.long)

@@ -2,14 +2,21 @@ use mathlib.Core.Path.{sym, ◌∙◌}
 use borrow.Author.Tests.{not-true, not-false}
 use Rattle.table.proofs.Laws.{names}
 use Rattle.order.proofs.Judged.{passed-long}
-use Rattle.order.proofs.Asked.{searching, searched, settled-6}
+use Rattle.order.proofs.Asked.{searching, searched, settled-6, settled-waits, settled-gives}
+use borrow.Author.Rules.{rules}
 use Rattle.order.proofs.settled.settled_open.Goals as goal
 
+pub returns-in-At : goal.returns-in-At
+returns-in-At c = settled-waits _ _ c.args.c _ _ _ _ _ (sym c.instance_ok.ensures ∙ c.if-not-instance_ok.false) (sym c.in-At.is ∙ c.first_open-found.ensures)
+
+pub returns : goal.returns
+returns c = settled-gives _ _ c.args.c _ _ _ (sym c.instance_ok.ensures ∙ c.if-not-instance_ok.false) (sym c.in_default.is ∙ c.first_open-found.ensures) c.load-r.ensures
+
 pub returns-then-not-instance_ok : goal.returns-then-not-instance_ok
-returns-then-not-instance_ok c = settled-6 _ _ c.args.c _ _ _ (sym c.instance_ok.ensures ∙ not-true _ c.if-not-instance_ok.true)
+returns-then-not-instance_ok c = settled-6 _ _ c.args.c _ _ _ (sym c.instance_ok.ensures ∙ c.if-not-instance_ok.true)
 
 pub explore-requires : goal.explore-requires
-explore-requires c = searching _ _ _ _ _ _ c.requires (sym c.instance_ok.ensures ∙ not-false _ c.if-not-instance_ok.false)
+explore-requires c = searching _ _ _ _ _ _ c.requires (sym c.instance_ok.ensures ∙ c.if-not-instance_ok.false)
 
 pub first_open-found-requires : goal.first_open-found-requires
 first_open-found-requires c = searched _ _ _ _ _ _ c.requires _ c.explore.ensures
@@ -17,5 +24,5 @@ first_open-found-requires c = searched _ _ _ _ _ _ c.requires _ c.explore.ensure
 pub load-r-requires : goal.load-r-requires
 load-r-requires c =
     let g = c.requires in
-    let i = sym c.instance_ok.ensures ∙ not-false _ c.if-not-instance_ok.false in
+    let i = sym c.instance_ok.ensures ∙ c.if-not-instance_ok.false in
     record { names = names _ _ _ _ _ _ g.setup i; long = passed-long _ _ _ _ g }

@@ -21,7 +21,7 @@ returns-then-not-committed_of c =
     let d = c in
     let l = d in
     let a = l.args in
-    prefix_here _ (records_in a.s a.t.now) a.q _ d.loop-j-test.true l.loop-j.invariant.1 (sym d.committed_of.ensures ∙ not-true _ c.if-not-committed_of.true)
+    prefix_here _ (records_in a.s a.t.now) a.q _ d.loop-j-test.true l.loop-j.invariant.1 (sym d.committed_of.ensures ∙ c.if-not-committed_of.true)
 
 pub overflow_add-j-in-loop-j : goal.overflow_add-j-in-loop-j
 overflow_add-j-in-loop-j c = omega arith
@@ -34,7 +34,7 @@ loop-j-preserved c =
     let d = c in
     let l = d in
     let a = l.args in
-    (omega (arith, d.loop-j-test.true), all_more a.s (records_in a.s a.t.now) a.q _ l.loop-j.invariant.1 (sym d.committed_of.ensures ∙ not-false _ c.if-not-committed_of.false))
+    (omega (arith, d.loop-j-test.true), all_more a.s (records_in a.s a.t.now) a.q _ l.loop-j.invariant.1 (sym d.committed_of.ensures ∙ c.if-not-committed_of.false))
 
 pub returns : goal.returns
 returns c = let l = c in let a = l.args in prefix-whole _ (records_in a.s a.t.now) a.q _ l.loop-j.invariant.0 c.loop-j-test.false l.loop-j.invariant.1

@@ -14,14 +14,14 @@ returns-then-not-committed_of c =
     let a = c in
     let m = c.marked_of.ensures in
     let d = c.committed_of.ensures in
-    state-open _ _ _ _ _ _ _ a.requires (sym m ∙ c.if-marked_of.false) (sym d ∙ not-true _ c.if-not-committed_of.true)
+    state-open _ _ _ _ _ _ _ a.requires (sym m ∙ c.if-marked_of.false) (sym d ∙ c.if-not-committed_of.true)
 
 pub returns-then-behind_none : goal.returns-then-behind_none
 returns-then-behind_none c =
     let a = c in
     let m = c.marked_of.ensures in
     let d = c.committed_of.ensures in
-    state-settled _ _ _ _ _ _ _ a.requires _ c.slot_of.ensures.0 (sym m ∙ c.if-marked_of.false) (sym d ∙ not-false _ c.if-not-committed_of.false) (sym c.behind_none.ensures ∙ c.if-behind_none.true)
+    state-settled _ _ _ _ _ _ _ a.requires _ c.slot_of.ensures.0 (sym m ∙ c.if-marked_of.false) (sym d ∙ c.if-not-committed_of.false) (sym c.behind_none.ensures ∙ c.if-behind_none.true)
 
 pub returns : goal.returns
 returns c =

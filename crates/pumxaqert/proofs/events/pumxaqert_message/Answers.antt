@@ -6,4 +6,4 @@ use Rattle.pumxaqert.proofs.events.pumxaqert_message.Goals as goal
 pub returns : goal.returns
 returns c = let g = c.give.ensures in
     let x = c.message.ensures in
-    (g.0 ∙ ap answer_number x.0, (g.1 ∙ ap answer_values x.0, (x.1.0, x.1.1)))
+    record { number = g.number ∙ ap answer_number x.answers; values = g.values ∙ ap answer_values x.answers; table = x.table; room = x.room }

@@ -18,13 +18,13 @@ pub carried_or_zero-requires : goal.carried_or_zero-requires
 carried_or_zero-requires c = omega (arith, c.loop-left.invariant.1)
 
 pub returns-then-not-carried_or_zero : goal.returns-then-not-carried_or_zero
-returns-then-not-carried_or_zero c = left_false _ _ c.loop-left.invariant.0 c.loop-left-test.true (sym c.carried_or_zero.ensures ∙ not-true _ c.if-not-carried_or_zero.true)
+returns-then-not-carried_or_zero c = left_false _ _ c.loop-left.invariant.0 c.loop-left-test.true (sym c.carried_or_zero.ensures ∙ c.if-not-carried_or_zero.true)
 
 pub loop-left-smaller : goal.loop-left-smaller
 loop-left-smaller c = omega arith
 
 pub loop-left-preserved : goal.loop-left-preserved
-loop-left-preserved c = (left-true _ _ c.loop-left.invariant.0 c.loop-left-test.true (sym c.carried_or_zero.ensures ∙ not-false _ c.if-not-carried_or_zero.false), omega (arith, c.loop-left.invariant.1))
+loop-left-preserved c = (left-true _ _ c.loop-left.invariant.0 c.loop-left-test.true (sym c.carried_or_zero.ensures ∙ c.if-not-carried_or_zero.false), omega (arith, c.loop-left.invariant.1))
 
 pub returns : goal.returns
 returns c = left-none _ _ c.loop-left.invariant.0 (omega arith)

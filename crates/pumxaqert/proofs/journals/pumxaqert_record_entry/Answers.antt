@@ -6,4 +6,4 @@ pub returns : goal.returns
 returns c =
     let g = c.give_entered.ensures in
     let x = c.record_entry.ensures in
-    (g.0 ∙ ap entering_number x.0, (g.1 ∙ ap entering_length x.0, x.1))
+    record { number = g.number ∙ ap entering_number x.answers; count = g.count ∙ ap entering_length x.answers; room = x.out }

@@ -6,4 +6,4 @@ pub returns : goal.returns
 returns c =
     let g = c.give_replayed.ensures in
     let x = c.replay.ensures in
-    (g.0 ∙ ap replaying_number x.0, (g.1 ∙ ap replaying_offset x.0, x.1))
+    record { number = g.number ∙ ap replaying_number x.answers; offset = g.offset ∙ ap replaying_offset x.answers; table = x.table }

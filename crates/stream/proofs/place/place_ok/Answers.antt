@@ -19,9 +19,9 @@ returns-then-p-3 c = uncounted _ _ c.if-p.false c.if-length-p.false c.if-p-2.fal
 pub returns-then-not-is_sum : goal.returns-then-not-is_sum
 returns-then-not-is_sum c =
     let e = counted-ok _ _ c.if-p.false c.if-length-p.false c.if-p-2.false (omega arith) in
-    sym (e ∙ rw (sym c.is_sum.ensures ∙ not-true _ c.if-not-is_sum.true))
+    sym (e ∙ rw (sym c.is_sum.ensures ∙ c.if-not-is_sum.true))
 
 pub returns : goal.returns
 returns c =
     let e = counted-ok _ _ c.if-p.false c.if-length-p.false c.if-p-2.false (omega arith) in
-    sym (e ∙ rw (sym c.is_sum.ensures ∙ not-false _ c.if-not-is_sum.false) (sym c.is_sum-2.ensures))
+    sym (e ∙ rw (sym c.is_sum.ensures ∙ c.if-not-is_sum.false) (sym c.is_sum-2.ensures))

@@ -7,4 +7,4 @@ use Rattle.table.proofs.records.deps_of.Goals as goal
 
 pub returns : goal.returns
 unfolding record_in
-returns c = c.deps_in.ensures ∙ ap (λ (b : List ℕ). (record_at b).vote.deps) c.part.ensures.0
+returns c = c.deps_in.ensures ∙ ap (λ (b : List ℕ). (record_at b).vote.deps) c.part.ensures.part

@@ -7,4 +7,4 @@ use Rattle.table.proofs.records.joined_of.Goals as goal
 
 pub returns : goal.returns
 unfolding record_in
-returns c = c.joined_in.ensures ∙ ap (λ (b : List ℕ). (record_at b).joined) c.part.ensures.0
+returns c = c.joined_in.ensures ∙ ap (λ (b : List ℕ). (record_at b).joined) c.part.ensures.part

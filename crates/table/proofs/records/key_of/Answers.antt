@@ -7,4 +7,4 @@ use Rattle.table.proofs.records.key_of.Goals as goal
 
 pub returns : goal.returns
 unfolding record_in
-returns c = c.key_in.ensures ∙ ap (λ (b : List ℕ). (record_at b).vote.command.key) c.part.ensures.0
+returns c = c.key_in.ensures ∙ ap (λ (b : List ℕ). (record_at b).vote.command.key) c.part.ensures.part

@@ -5,4 +5,4 @@ use Rattle.table.proofs.records.load.Goals as goal
 
 pub returns : goal.returns
 unfolding record_in
-returns c = c.read_record.ensures ∙ ap record_at c.part.ensures.0
+returns c = c.read_record.ensures ∙ ap record_at c.part.ensures.part

@@ -7,4 +7,4 @@ use Rattle.table.proofs.records.mark_of.Goals as goal
 
 pub returns : goal.returns
 unfolding record_in
-returns c = c.mark_in.ensures ∙ ap (λ (b : List ℕ). (record_at b).mark) c.part.ensures.0
+returns c = c.mark_in.ensures ∙ ap (λ (b : List ℕ). (record_at b).mark) c.part.ensures.part

@@ -7,4 +7,4 @@ use Rattle.table.proofs.records.op_of.Goals as goal
 
 pub returns : goal.returns
 unfolding record_in
-returns c = c.op_in.ensures ∙ ap (λ (b : List ℕ). (record_at b).vote.command.op) c.part.ensures.0
+returns c = c.op_in.ensures ∙ ap (λ (b : List ℕ). (record_at b).vote.command.op) c.part.ensures.part

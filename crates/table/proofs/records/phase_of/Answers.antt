@@ -7,4 +7,4 @@ use Rattle.table.proofs.records.phase_of.Goals as goal
 
 pub returns : goal.returns
 unfolding record_in
-returns c = c.phase_in.ensures ∙ ap (λ (b : List ℕ). (record_at b).phase) c.part.ensures.0
+returns c = c.phase_in.ensures ∙ ap (λ (b : List ℕ). (record_at b).phase) c.part.ensures.part

@@ -7,4 +7,4 @@ use Rattle.table.proofs.records.status_of.Goals as goal
 
 pub returns : goal.returns
 unfolding record_in
-returns c = c.status_in.ensures ∙ ap (λ (b : List ℕ). (record_at b).vote.status) c.part.ensures.0
+returns c = c.status_in.ensures ∙ ap (λ (b : List ℕ). (record_at b).vote.status) c.part.ensures.part

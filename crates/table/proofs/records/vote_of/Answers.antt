@@ -7,4 +7,4 @@ use Rattle.table.proofs.records.vote_of.Goals as goal
 
 pub returns : goal.returns
 unfolding record_in
-returns c = c.vote_in.ensures ∙ ap (λ (b : List ℕ). (record_at b).vote) c.part.ensures.0
+returns c = c.vote_in.ensures ∙ ap (λ (b : List ℕ). (record_at b).vote) c.part.ensures.part

@@ -1,0 +1,14 @@
+use borrow.Author.Rules.{rules}
+use mathlib.Core.Path.{sym, ◌∙◌}
+use Rattle.order.proofs.Judged.{passed}
+use Rattle.order.proofs.Handed.{handed-refused, handed-past}
+use Rattle.order.proofs.hand_out.hand_out.Goals as goal
+
+pub returns-in-Refused : goal.returns-in-Refused
+returns-in-Refused c = handed-refused _ _ _ _ _ _ (sym c.in-Refused.is ∙ c.judge_table-judging.ensures)
+
+pub hand_out_open-requires : goal.hand_out_open-requires
+hand_out_open-requires c = passed _ _ _ _ (sym c.in_default.is ∙ c.judge_table-judging.ensures)
+
+pub returns : goal.returns
+returns c = handed-past _ _ _ _ _ (sym c.in_default.is ∙ c.judge_table-judging.ensures) c.hand_out_open.ensures

@@ -1,0 +1,13 @@
+use borrow.Author.Rules.{rules}
+use mathlib.Core.Path.{sym, ◌∙◌}
+use Rattle.gate.proofs.Calls.{met, refused, passed, shut, opened}
+use Rattle.receive.proofs.message.message.Goals as goal
+
+pub returns-in-Shut : goal.returns-in-Shut
+returns-in-Shut c = met (shut _ _ _ _ _ _ _ (sym c.in-Shut.is ∙ c.gate_of-gate.ensures)) (refused _ _ _)
+
+pub message_open-requires : goal.message_open-requires
+message_open-requires c = passed _ _ _ _ _ (sym c.in_default.is ∙ c.gate_of-gate.ensures)
+
+pub returns : goal.returns
+returns c = met (opened _ _ _ _ _ _ (sym c.in_default.is ∙ c.gate_of-gate.ensures)) c.message_open.ensures
