@@ -69,24 +69,28 @@ opened n s c t out rest e = rw (← e)
 
 -- the answer, the table and the room of an outcome
 abbrev pub Met : Outcome → Answer → List ℕ → List ℕ → Type 0
-Met x a t o = (a ≡ x.answer) × ((t ≡ x.table) × (o ≡ x.out))
+Met x a t o = record { answers : a ≡ x.answer; table : t ≡ x.table; room : o ≡ x.out }
 
 pub met : {x y : Outcome} → x ≡ y → {a : Answer} {t o : List ℕ} → Met x a t o → Met y a t o
-met e (p, q) = (p ∙ ap (λ (z : Outcome). z.answer) e, (q.0 ∙ ap (λ (z : Outcome). z.table) e, q.1 ∙ ap (λ (z : Outcome). z.out) e))
+met e m =
+    record {
+      answers = m.answers ∙ ap (λ (z : Outcome). z.answer) e;
+      table = m.table ∙ ap (λ (z : Outcome). z.table) e;
+      room = m.room ∙ ap (λ (z : Outcome). z.out) e;
+    }
 
 pub refused : (r : Refusal) (t o : List ℕ) → Met (refuse r t o) (Refused r) t o
-refused r t o = (refl, (refl, refl))
+refused r t o = record { answers = refl; table = refl; room = refl }
 
 pub acted-is : (s : ℕ) (t out : List ℕ) (o j : ℕ) {x y : Step} {a : Answer} {t₁ o₁ : List ℕ} → x ≡ y
     → a ≡ Event o j (length (out_bytes x)) → t₁ ≡ put_record s t o j x.entry → o₁ ≡ splice out 0 (out_bytes x) → Met (acted s t out o j y) a t₁ o₁
 unfolding acted
-acted-is s t out o j e a b c = (
-  a ∙ ap (λ (z : Step). Event o j (length (out_bytes z))) e,
-  (
-    b ∙ ap (λ (z : Step). put_record s t o j z.entry) e,
-    c ∙ ap (λ (z : Step). splice out 0 (out_bytes z)) e,
-  ),
-)
+acted-is s t out o j e a b c =
+    record {
+      answers = a ∙ ap (λ (z : Step). Event o j (length (out_bytes z))) e;
+      table = b ∙ ap (λ (z : Step). put_record s t o j z.entry) e;
+      room = c ∙ ap (λ (z : Step). splice out 0 (out_bytes z)) e;
+    }
 
 pub setup-of : (n s c : ℕ) (t : List ℕ) → fits_setup n s c t ≡ true → setup_ok n s c ≡ true
 unfolding fits_setup

@@ -11,7 +11,7 @@ use Rattle.gate.proofs.Calls.{Met}
 
 -- each call's contract is `Met` of its outcome, a function of what came in
 pub event-unique : (x : Outcome) (a b : Answer) (t u o p : List ℕ) → Met x a t o → Met x b u p → (a ≡ b) × (t ≡ u) × (o ≡ p)
-event-unique x a b t u o p f g = (f.0 ∙ sym g.0, f.1.0 ∙ sym g.1.0, f.1.1 ∙ sym g.1.1)
+event-unique x a b t u o p f g = (f.answers ∙ sym g.answers, f.table ∙ sym g.table, f.room ∙ sym g.room)
 
 pub answer-apart : (a b : Answer) → answer_number a ≡ answer_number b → answer_owner a ≡ answer_owner b → answer_instance a ≡ answer_instance b
     → answer_written a ≡ answer_written b → answer_offset a ≡ answer_offset b → a ≡ b

@@ -24,7 +24,7 @@ act-requires c =
     let e : nothing_to_nudge r ≡ c.both.result = sym (c.both.ensures ∙ rw (c.equal.ensures, c.wide8.ensures, c.is_committed.ensures)) in
     let q = ap nothing_to_nudge (sym rr) ∙ e ∙ c.if-both.false in
     let x = nudge-step a.n a.s a.c t a.out.now a.o a.j c.byte.ensures c.byte-2.ensures c.short.ensures c.load-r.ensures c.nudge-x.ensures in
-    let bt : Bytes t = λ i. omega (arith, c.type_inv.t i) in
+    let bt : Bytes t = λ i. omega (arith, c.slice_known-1.given i) in
     (record { names = nm; long = sz.long }, z.requires.long, rw x (nudge-room a.n a.s a.c t a.out.now a.o a.j bt z.requires i q))
 
 pub returns-then-not-instance_ok : goal.returns-then-not-instance_ok

@@ -24,7 +24,7 @@ act-requires c =
     let q = ap is_committed (sym rr) ∙ sym c.is_committed.ensures ∙ c.if-is_committed.false in
     let l = ap out_of_ballots (sym rr) ∙ lt-leb _ _ c.if-r-ge4294967288.false in
     let x = recover-step a.n a.s a.c t a.out.now a.o a.j c.byte.ensures c.byte-2.ensures c.short.ensures c.load-r.ensures c.recover-x.ensures in
-    let bt : Bytes t = λ i. omega (arith, c.type_inv.t i) in
+    let bt : Bytes t = λ i. omega (arith, c.slice_known-1.given i) in
     (record { names = nm; long = sz.long }, z.requires.long, rw x (recover-room a.n a.s a.c t a.out.now a.o a.j bt z.requires i q l))
 
 pub returns-then-not-instance_ok : goal.returns-then-not-instance_ok

@@ -19,7 +19,7 @@ returns c =
     record {
       long = c.beyond.ensures.wrote.long;
       raised = rw (c.put_row-2.ensures, k, y)
-          (raise-raised e.args.n e.args.s e.args.t.now e.args.g.now e.requires.0.sized e.requires.0.rows e.args.o e.args.j e.requires.1 (λ i. omega (arith, c.slice_known-1.given i)) (read_fits _ _ m (λ i. omega (arith, c.type_inv.h i))));
+          (raise-raised e.args.n e.args.s e.args.t.now e.args.g.now e.requires.0.sized e.requires.0.rows e.args.o e.args.j e.requires.1 (λ i. omega (arith, c.slice_known-1.given i)) (read_fits _ _ m (λ i. omega (arith, c.slice_known-4-1.given i))));
     }
 
 pub before_in-requires : goal.before_in-requires
