@@ -54,9 +54,9 @@ use Rattle.demand.proofs.Bridge.{Beside, Tie, blank-tie, one-copy, here-is, othe
 abbrev pub Fits : Command → Type 0
 Fits k = (command_ok k ≡ true) × CommandFits k
 
-in_map : (l : List Message) (m : Message) → Memᴰ m l → Memᴰ (message_bytes m) (map message_bytes l)
-in_map l m (Memᴰ.head e) = Memᴰ.head (ap message_bytes e)
-in_map l m (Memᴰ.tail {xs = xs} h) = Memᴰ.tail (in_map xs m h)
+in_map : (m : Message) (l : List Message) → Memᴰ m l → Memᴰ (message_bytes m) (map message_bytes l)
+in_map m l (Memᴰ.head e) = Memᴰ.head (ap message_bytes e)
+in_map m l (Memᴰ.tail {xs = xs} h) = Memᴰ.tail (in_map m xs h)
 
 module _ (n s : ℕ) (setup : Setup n s) where
   -- nothing is on its way to the disk or to the network, and all that the rules sent was sent as bytes
@@ -140,7 +140,7 @@ module _ (n s : ℕ) (setup : Setup n s) where
         λ b i.
         let g = mapped l b i in
         rw (here-is n s setup x.copies c (acted n s c k (outcome n s c k.lent room call) o j (length (out_bytes e))), g.is)
-        (Memᴰ.append_right k.leaving (rw wrote (in_map (messages e) g.message (among g.message g.among)))) in
+        (Memᴰ.append_right k.leaving (rw wrote (in_map g.message (messages e) (among g.message g.among)))) in
         let r = go-out x₁ c copy strings ready in
         let x₂ : State = r.later in
         let said : (m : Message) → Memᴰ m l → Carried n s (y.sent ++ l) (message_bytes m) × (message_at (message_bytes m) ≡ m) =
@@ -158,7 +158,7 @@ module _ (n s : ℕ) (setup : Setup n s) where
             };
             still = λ q. quiet x₂.copies (λ (z : Copy). z.leaving ≡ []) refl (λ i ne. rw (r.copies, other-stays n s setup x.copies c _ i ne) (f.still i)) q;
             saved = λ q. quiet x₂.copies (λ (z : Copy). z.listed ≡ []) refl (λ i ne. rw (r.copies, other-stays n s setup x.copies c _ i ne) (f.saved i)) q;
-            bytes = λ m i. ⊎_elim (λ (h : Memᴰ m y.sent). r.old (message_bytes m) (f.bytes m h)) (λ (h : Memᴰ m l). r.new (message_bytes m) (in_map l m h)) (Memᴰ.append_cases y.sent i);
+            bytes = λ m i. ⊎_elim (λ (h : Memᴰ m y.sent). r.old (message_bytes m) (f.bytes m h)) (λ (h : Memᴰ m l). r.new (message_bytes m) (in_map m l h)) (Memᴰ.append_cases y.sent i);
             read = λ m i. ⊎_elim (λ (h : Memᴰ m y.sent). f.read m h) (λ (h : Memᴰ m l). (said m h).1) (Memᴰ.append_cases y.sent i);
           };
         }

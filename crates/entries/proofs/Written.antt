@@ -42,13 +42,15 @@ enters n s c t out k o j e = go (fits_setup n s c t) (ltb (length out) (entry_le
     go true true z p q r = clash why.Room (e ∙ rw (p, q))
     go true false false p q r = clash why.Instance (e ∙ rw (p, q, r))
 
--- a shut gate leaves the room as it was; an open one hands on
-pub shut : (g : Gate) (out : List ℕ) (rest : Entered) (r : Refusal) → gate.Shut r ≡ g
-    → (entering.Refused r ≡ (through g out rest).answer) × (out ≡ (through g out rest).out)
-shut g out rest r e = rw (← e) (refl, refl)
+-- the answer and the room of what a call writes
+abbrev pub Met : Entered → Entering → List ℕ → Type 0
+Met e a l = record { answers : a ≡ e.answer; out : l ≡ e.out }
 
-pub opened : (g : Gate) (out : List ℕ) (rest : Entered) → gate.Open ≡ g → {x : Entering} {l : List ℕ}
-    → (x ≡ rest.answer) × (l ≡ rest.out) → (x ≡ (through g out rest).answer) × (l ≡ (through g out rest).out)
+-- a shut gate leaves the room as it was; an open one hands on
+pub shut : (g : Gate) (out : List ℕ) (rest : Entered) (r : Refusal) → gate.Shut r ≡ g → Met (through g out rest) (entering.Refused r) out
+shut g out rest r e = rw (← e) (record { answers = refl; out = refl })
+
+pub opened : (g : Gate) (out : List ℕ) (rest : Entered) → gate.Open ≡ g → {x : Entering} {l : List ℕ} → Met rest x l → Met (through g out rest) x l
 opened g out rest e p = rw (← e) p
 
 -- past the gate
@@ -64,9 +66,9 @@ module _ (n s c : ℕ) (t out : List ℕ) (k o j : ℕ) (e : Enters n s c t out 
 -- a record that is not sound, and one that is
 module _ (n s c : ℕ) (t out : List ℕ) (o j : ℕ) where
   pub record-unsound : {part : List ℕ} → part ≡ part_of n s c t o j → sound_part n s c o part ≡ false
-      → (entering.Unsound ≡ (record_open n s c t out o j).answer) × (out ≡ (record_open n s c t out o j).out)
+      → Met (record_open n s c t out o j) entering.Unsound out
   unfolding record_open
-  record-unsound p h = rw (← p, h) (refl, refl)
+  record-unsound p h = rw (← p, h) (record { answers = refl; out = refl })
 
   -- the part that is read there has the length of a record's
   pub record-size : Enters n s c t out record_kind o j → {part : List ℕ} → part ≡ part_of n s c t o j → length part ≡ part_size
@@ -81,21 +83,24 @@ module _ (n s c : ℕ) (t out : List ℕ) (o j : ℕ) where
 
   pub record-put : Enters n s c t out record_kind o j → {part l₁ l₂ : List ℕ} → part ≡ part_of n s c t o j → sound_part n s c o part ≡ true
       → l₁ ≡ splice out 0 (head_bytes record_kind o j) → l₂ ≡ splice l₁ entry_head part
-      → (entering.Entry (entry_head + part_size) ≡ (record_open n s c t out o j).answer) × (l₂ ≡ (record_open n s c t out o j).out)
+      → Met (record_open n s c t out o j) (entering.Entry (entry_head + part_size)) l₂
   unfolding record_open
   record-put e {part = part} p h v w =
       let size = record-size e p in
       rw (← p, h)
-      (ap entering.Entry (omega (arith, size)), splice-step out 0 (head_bytes record_kind o j) entry_head part v w refl (omega (arith, size, e.room)))
+      (record {
+        answers = ap entering.Entry (omega (arith, size));
+        out = splice-step out 0 (head_bytes record_kind o j) entry_head part v w refl (omega (arith, size, e.room));
+      })
 
 -- a mark on an instance that is not committed and marked, and on one that is
 module _ (s : ℕ) (t out : List ℕ) (o j : ℕ) where
   pub mark-unsound : (is_committed (record_in s t o j) && is_marked (record_in s t o j)) ≡ false
-      → (entering.Unsound ≡ (mark_open s t out o j).answer) × (out ≡ (mark_open s t out o j).out)
+      → Met (mark_open s t out o j) entering.Unsound out
   unfolding mark_open
-  mark-unsound h = rw h (refl, refl)
+  mark-unsound h = rw h (record { answers = refl; out = refl })
 
   pub mark-put : (is_committed (record_in s t o j) && is_marked (record_in s t o j)) ≡ true → {l : List ℕ} → l ≡ splice out 0 (mark_entry o j)
-      → (entering.Entry entry_head ≡ (mark_open s t out o j).answer) × (l ≡ (mark_open s t out o j).out)
+      → Met (mark_open s t out o j) (entering.Entry entry_head) l
   unfolding mark_open
-  mark-put h v = rw h (refl, v)
+  mark-put h v = rw h (record { answers = refl; out = v })

@@ -23,7 +23,7 @@ use Rattle.entries.specs.declared.Ended.{Ended}
 use Rattle.entries.specs.declared.Replaying.{Replaying}
 use Rattle.entries.specs.declared.Replaying.TheVariants as replaying
 use Rattle.entries.specs.Entry.{record_kind, entry_head, entry_length, kind_in, owner_in, number_in, part_in}
-use Rattle.entries.specs.Replay.{committed_in, entry_ok, front_of, applied, behind, or_on, end_of, puts, replayed_at, replayed_open, replayed}
+use Rattle.entries.specs.Replay.{committed_in, entry_ok, front_of, applied, behind, or_on, end_of, puts, Replayed, replayed_at, replayed_open, replayed}
 use Rattle.entries.specs.Entry.{Fit}
 use Rattle.journal.specs.Judging.{Held, Ready}
 use Rattle.entries.proofs.Lengths.{length-least, length-record}
@@ -34,6 +34,10 @@ use Rattle.journal.proofs.Put.{puts_none, puts-step, end-past}
 cond_same : {A : Type 0} (x : Bool) (p q u v : A) → (x ≡ true → p ≡ u) → q ≡ v → cond x p q ≡ cond x u v
 cond_same true p q u v f g = f refl
 cond_same false p q u v f g = g
+
+-- the answer and the table of a replay
+abbrev pub Met : Replayed → Replaying → List ℕ → Type 0
+Met r a t = record { answers : a ≡ r.answer; table : t ≡ r.table }
 
 -- the entry in front, cut off from what stands behind it
 module _ (n s : ℕ) (a r : List ℕ) (g : Fit n s (a ++ r)) (l : entry_length (kind_in (a ++ r)) ≤ length a) where
@@ -193,27 +197,27 @@ module _ (n s c : ℕ) (t b : List ℕ) {x : Ended} (e : x ≡ end_of (length b)
   pub upto-ready : Held n s t → Ready n s t (take x.at b)
   upto-ready h = record { held = h; copy = c; ends = ends h.copies h.numbers ∙ (omega arith) }
 
-  pub open-bad : (f : Fault) → x.front ≡ front.Bad f → (replaying.Bad f x.at ≡ (replayed_open n s c t b).answer) × (t ≡ (replayed_open n s c t b).table)
+  pub open-bad : (f : Fault) → x.front ≡ front.Bad f → Met (replayed_open n s c t b) (replaying.Bad f x.at) t
   unfolding replayed_open
-  open-bad f h = rw (← e, h) (refl, refl)
+  open-bad f h = rw (← e, h) (record { answers = refl; table = refl })
 
   pub open-upto : Held n s t → ((f : Fault) → x.front ≡ front.Bad f → ⊥) → {t₁ : List ℕ} → t₁ ≡ puts (length (take x.at b)) s t (take x.at b)
-      → (replaying.Upto x.at ≡ (replayed_open n s c t b).answer) × (t₁ ≡ (replayed_open n s c t b).table)
+      → Met (replayed_open n s c t b) (replaying.Upto x.at) t₁
   unfolding replayed_open
   open-upto h good {t₁} et = rw (← e) (go x.front good)
     where
-      go : (y : Front) → ((f : Fault) → y ≡ front.Bad f → ⊥) → (replaying.Upto x.at ≡ (replayed_at y x.at s t b).answer) × (t₁ ≡ (replayed_at y x.at s t b).table)
-      go front.Whole k = (refl, et ∙ enough h.copies h.numbers)
-      go front.Rest k = (refl, et ∙ enough h.copies h.numbers)
+      go : (y : Front) → ((f : Fault) → y ≡ front.Bad f → ⊥) → Met (replayed_at y x.at s t b) (replaying.Upto x.at) t₁
+      go front.Whole k = record { answers = refl; table = et ∙ enough h.copies h.numbers }
+      go front.Rest k = record { answers = refl; table = et ∙ enough h.copies h.numbers }
       go (front.Bad f) k = absurd (k f refl)
 
 -- 1 and 11, and past them
 module _ (n s c : ℕ) (t b : List ℕ) where
-  pub replay-refused : (r : Refusal) → judging.Refused r ≡ judged n s c t → (replaying.Refused r ≡ (replayed n s c t b).answer) × (t ≡ (replayed n s c t b).table)
+  pub replay-refused : (r : Refusal) → judging.Refused r ≡ judged n s c t → Met (replayed n s c t b) (replaying.Refused r) t
   unfolding replayed
-  replay-refused r e = rw (← e) (refl, refl)
+  replay-refused r e = rw (← e) (record { answers = refl; table = refl })
 
   pub replay-past : judging.Sound ≡ judged n s c t → {x : Replaying} {t₁ : List ℕ}
-      → (x ≡ (replayed_open n s c t b).answer) × (t₁ ≡ (replayed_open n s c t b).table) → (x ≡ (replayed n s c t b).answer) × (t₁ ≡ (replayed n s c t b).table)
+      → Met (replayed_open n s c t b) x t₁ → Met (replayed n s c t b) x t₁
   unfolding replayed
   replay-past e p = rw (← e) p

@@ -1,3 +1,4 @@
+use native.Mathlib.Omega.{arith}
 use borrow.Author.Tests.{ne_eqb}
 use borrow.Author.Rules.{rules}
 use Rattle.journal.proofs.entry.entry_length.Goals as goal
@@ -7,3 +8,6 @@ returns-in-20 c = rw c.in-20.is
 
 pub returns-in-21 : goal.returns-in-21
 returns-in-21 c = rw c.in-21.is
+
+pub returns-in_default : goal.returns-in_default
+returns-in_default c = rw (ne_eqb c.args.kind 20 (λ e. omega arith), ne_eqb c.args.kind 21 (λ e. omega arith))

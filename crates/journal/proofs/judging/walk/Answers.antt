@@ -14,7 +14,7 @@ note-requires c = (walk-fit _ _ _ _ _ _ _ c.loop-at.invariant c.loop-at-test.tru
 pub overflow_add-at : goal.overflow_add-at
 overflow_add-at c =
     let r = walk-room _ _ _ _ _ _ _ c.loop-at.invariant c.loop-at-test.true c.requires.copies c.requires.numbers (sym c.in-Whole.is ∙ c.front_of-front.ensures) (c.entry_length-at.ensures ∙ ap entry_length c.kind_in.ensures) in
-    omega (arith, r.1, c.well-formed.0.0)
+    omega (arith, r.1, c.well_formed.0.0)
 
 pub loop-at-smaller : goal.loop-at-smaller
 loop-at-smaller c =
@@ -47,3 +47,6 @@ shape_of-st c = c.loop-at.invariant.long ∙ sym c.requires.long
 
 pub returns : goal.returns
 returns c = walk_end _ _ _ _ _ _ _ c.loop-at.invariant c.loop-at-test.false
+
+pub returns-in_default : goal.returns-in_default
+returns-in_default c = walk-stops _ _ _ _ _ _ _ c.loop-at.invariant c.loop-at-test.true c.front_of-front.ensures c.in_default.not-Whole

@@ -8,7 +8,7 @@ use borrow.Author.Rules.{rules}
 use Rattle.journal.proofs.replaying.put_entries.Goals as goal
 
 pub overflow_add-at : goal.overflow_add-at
-overflow_add-at c = let r = put-room _ _ _ _ _ _ c.loop-at.invariant c.loop-at-test.true (c.entry_length-at.ensures ∙ ap entry_length c.kind_in.ensures) in omega (arith, r.1, c.well-formed.1.1.1.0.0)
+overflow_add-at c = let r = put-room _ _ _ _ _ _ c.loop-at.invariant c.loop-at-test.true (c.entry_length-at.ensures ∙ ap entry_length c.kind_in.ensures) in omega (arith, r.1, c.well_formed.1.1.1.0.0)
 
 pub loop-at-preserved : goal.loop-at-preserved
 loop-at-preserved c = put_on _ _ _ _ _ _ c.loop-at.invariant c.loop-at-test.true (λ i. omega (arith, c.type_inv.b i)) c.put_entry.ensures (c.entry_length-at.ensures ∙ ap entry_length c.kind_in.ensures)
