@@ -1,5 +1,6 @@
 // Seen as C calls it, so that the benchmark can time it by itself; no host does.
 #![tactic(auto)]
+
 ghost use Rattle.std.specs.Prelude.{◌≡◌};
 ghost use Rattle.paper.specs.Command.{interfere};
 ghost use Rattle.codec.specs.Parts.{op_of};
