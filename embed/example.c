@@ -1,7 +1,7 @@
 /* Copy 0 of three takes "write, key 7, edit 100" and hears one answer (W1 and W2 of the paper), which a link hands over
  * in two pieces. What it saves goes into a journal; it is cut off in the middle of an entry, and goes on.
  *
- *     gcc -std=c11 -I include embed/example.c target/staticlib/libpumxaqert.a -o example && ./example */
+ *     gcc -std=c11 -I include embed/example.c crates/pumxaqert/out/libpumxaqert.a -o example && ./example */
 #define _POSIX_C_SOURCE 200809L
 #include "pumxaqert.h"
 #include <stdio.h>

@@ -1,4 +1,4 @@
-//! Links libpumxaqert.a, which `rt staticlib pumxaqert` writes, from the folder in PUMXAQERT_LIB.
+//! Links libpumxaqert.a, which `rt lib` writes in `crates/pumxaqert`, from there or from the folder in PUMXAQERT_LIB.
 
 use std::env;
 use std::path::PathBuf;
@@ -8,12 +8,12 @@ fn main() {
     let here = PathBuf::from(env::var("CARGO_MANIFEST_DIR").expect("cargo says where"));
     let folder = match env::var("PUMXAQERT_LIB") {
         Ok(folder) => PathBuf::from(folder),
-        Err(_) => here.join("../target/staticlib"),
+        Err(_) => here.join("../crates/pumxaqert/out"),
     };
     let library = folder.join("libpumxaqert.a");
     println!("cargo:rerun-if-changed={}", library.display());
     if !library.is_file() {
-        println!("cargo:warning={} is missing: rt staticlib pumxaqert", library.display());
+        println!("cargo:warning={} is missing: cd crates/pumxaqert && rt lib", library.display());
     }
     println!("cargo:rustc-link-search=native={}", folder.display());
     println!("cargo:rustc-link-lib=static=pumxaqert");

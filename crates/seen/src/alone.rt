@@ -1,5 +1,4 @@
-// Seen as C calls it, so that the benchmark can time it by itself; no host does. The edit's number decides nothing and is
-// left out.
+// Seen with a command as C passes it, for `seen_c`. The edit's number decides nothing and is left out.
 ghost use Rattle.std.specs.Prelude.{◌≡◌};
 ghost use Rattle.paper.specs.Command.{interfere};
 ghost use Rattle.codec.specs.Parts.{op_of};
@@ -11,8 +10,7 @@ use crate::put_seen;
 use codec::op_of;
 use paper::Command;
 
-#[unsafe(no_mangle)]
-pub extern "C" fn seen_alone(
+pub fn seen_alone(
     table: &[u8],
     n: usize,
     s: usize,

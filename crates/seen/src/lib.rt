@@ -1,5 +1,6 @@
 // "Seen(c, I)" over the table's bytes.
 #![tactic(auto)]
+
 ghost use Rattle.std.specs.Prelude.{◌≡◌, ◌&&◌, ◌||◌, not, ◌<◌, leb, eqb};
 ghost use Rattle.paper.specs.Command.{noop, touches, interfere};
 ghost use Rattle.table.specs.Sizes.{Sizes, Row, Has};

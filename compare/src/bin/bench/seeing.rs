@@ -12,7 +12,7 @@ use second::table::{Record, RECORD_LEN};
 use std::hint::black_box;
 
 extern "C" {
-    /// `crates/seen/src/alone.rt`: the table is one of n copies and s numbers, or more is read than was lent.
+    /// `crates/seen_c/src/lib.rt`: the table is one of n copies and s numbers, or more is read than was lent.
     fn seen_alone(
         table: *const u8,
         length: usize,
