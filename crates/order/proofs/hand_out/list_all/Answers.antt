@@ -7,7 +7,9 @@ use lib.ListN.{length}
 use Rattle.order.proofs.hand_out.list_all.Goals as goal
 
 pub returns-in_default : goal.returns-in_default
-returns-in_default c = listed-none _ _ _ _ _ _ _ _ _ _ _ c.loop-count.invariant (sym c.in_default.is ∙ c.next_in-found.ensures.says)
+returns-in_default c =
+    let r = listed-none _ _ _ _ _ _ _ _ _ _ _ c.loop-count.invariant (sym c.in_default.is ∙ c.next_in-found.ensures.says) in
+    record { count = r.0; table = r.1.0; list = r.1.1 }
 
 pub slot_of-x-requires : goal.slot_of-x-requires
 slot_of-x-requires c =
@@ -94,4 +96,6 @@ pub shape_of-list : goal.shape_of-list
 shape_of-list c = c.loop-count.invariant.long
 
 pub returns : goal.returns
-returns c = listed-full _ _ _ _ _ _ _ _ _ _ _ c.loop-count.invariant c.loop-count-test.false
+returns c =
+    let r = listed-full _ _ _ _ _ _ _ _ _ _ _ c.loop-count.invariant c.loop-count-test.false in
+    record { count = r.0; table = r.1.0; list = r.1.1 }
