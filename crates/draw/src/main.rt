@@ -3,6 +3,7 @@
 // squares, cuts red crosses, and a copy's line is dashed while it is down. A script of several runs gives one below the
 // other.
 #![tactic(auto)]
+
 mod copies;
 mod input;
 mod marks;

@@ -8,6 +8,7 @@
 //     C part LEN O J
 // Empty lines and lines that begin with '=' are passed over.
 #![tactic(auto)]
+
 mod messages;
 mod play;
 mod tables;

@@ -16,6 +16,7 @@
 //     show · show copy 1
 // A line that begins with # is the story's text.
 #![tactic(auto)]
+
 pub mod line;
 
 // An event at a copy; a message's bytes stand beside it.

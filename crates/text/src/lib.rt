@@ -1,5 +1,6 @@
 // What the programs share: lines of the input, read by forms; answers put together; lent bytes.
 #![tactic(auto)]
+
 pub mod bytes;
 pub mod forms;
 pub mod lines;
