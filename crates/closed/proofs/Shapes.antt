@@ -7,7 +7,7 @@ use native.Mathlib.Omega.{arith}
 use native.Mathlib.Nat.{one-le-pow}
 use native.Mathlib.Decide.{ℕ_discrete}
 use lib.Dec.{leb, ltb, eqb}
-use lib.ListN.{length, set, length-set, get_or-replicate}
+use lib.ListN.{length, length-set, get_or-replicate}
 use lib.Seq.{get_or-set_same, get_or-set_other}
 use lib.Pow.{pow_mono}
 use borrow.Author.Tests.{leb-true, ltb-true, eqb-true, ne_eqb}

@@ -1,7 +1,7 @@
 -- The bytes of a command, of dependencies and of a vote: one description of each, by the widths of its fields. A command in a
 -- message is without its second key where the kind has none.
 -- Assumes nothing.
-use Rattle.std.specs.Prelude.{ℕ, zero, suc, ◌+◌, Bool, true, false, List, [], ◌∷◌, ◌++◌, get_or, drop}
+use Rattle.std.specs.Prelude.{ℕ, zero, suc, Bool, true, false, List, [], ◌∷◌, ◌++◌, get_or, drop}
 use Rattle.numbers.specs.Fields.{fields_at, fields_bytes, entries}
 use Rattle.paper.specs.Command.{op_number}
 use Rattle.paper.specs.declared.Op.{Op}

@@ -1,5 +1,6 @@
 // A command, dependencies and a vote in lent bytes, at an offset.
 #![tactic(auto)]
+
 ghost use Rattle.std.specs.Prelude.{◌≡◌, true, false, ◌+◌, ◌≤◌, length};
 ghost use Rattle.numbers.specs.Num.{splice};
 ghost use Rattle.paper.specs.Command.{op_number};

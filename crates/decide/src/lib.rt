@@ -1,5 +1,6 @@
 // "PrepareOK b": what a lead decides on F+1 replies.
 #![tactic(auto)]
+
 ghost use Rattle.std.specs.Prelude.{◌≡◌, ◌&&◌, cond, ◌<◌, ◌≤◌, leb, eqb};
 ghost use Rattle.paper.specs.Deps.{larger};
 ghost use Rattle.paper.specs.Vote.{member};

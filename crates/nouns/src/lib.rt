@@ -1,5 +1,6 @@
 // The paper's nouns as tests by value: each function is the definition of its name in paper/specs.
 #![tactic(auto)]
+
 pub mod ballot;
 pub mod command;
 pub mod deps;

@@ -1,5 +1,6 @@
 // Little-endian numbers, and bytes as they are, in lent bytes at an offset. A number is read as one sum over its bytes: the compiler makes one load of it.
 #![tactic(auto)]
+
 ghost use Rattle.std.specs.Prelude.{◌≡◌, ◌+◌, ◌≤◌, ◌<◌, length};
 ghost use Rattle.numbers.specs.Num.{num_at, bytes_of, splice};
 

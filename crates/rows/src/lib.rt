@@ -1,5 +1,6 @@
 // Lists with a row of seven marks for each instance: which part of each owner's row an instance reaches.
 #![tactic(auto)]
+
 ghost use Rattle.std.specs.Prelude.{◌≡◌, ◌≤◌, ◌<◌};
 ghost use Rattle.rows.specs.Rows.{slot_of, marks_at, mark_at, put_row, Within};
 

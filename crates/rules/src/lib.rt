@@ -1,5 +1,6 @@
 // What an event does, as a type. The rules are the definitions under specs/; no code stands here.
 #![tactic(auto)]
+
 use paper::{Message, Record};
 
 // The record after the event, and one message for each copy in the set `to`, by rising number:

@@ -1,5 +1,6 @@
 // Sets of copies as bits, by value: each function is the definition of its name in rules/specs/Sets.
 #![tactic(auto)]
+
 ghost use Rattle.std.specs.Prelude.{◌≡◌, cond, not, ◌&&◌, ltb, eqb, ◌+◌, ◌^◌, ◌≤◌, ◌<◌};
 ghost use Rattle.paper.specs.Vote.{member};
 ghost use Rattle.rules.specs.Sets.{others, absent, with, lowest};

@@ -1,6 +1,7 @@
 // Whether a record is sound, by value and a part at a time: each line is a clause of the paper, in the order of paper/specs/Sound.
 // Ranges and votes are asked field by field, as specs/Asked has them.
 #![tactic(auto)]
+
 ghost use Rattle.std.specs.Prelude.{◌≡◌, ◌^◌, ◌≤◌, ◌<◌};
 ghost use Rattle.paper.specs.Sound.{
   preparing_ok,

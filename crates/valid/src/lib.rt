@@ -1,6 +1,7 @@
 // What a message is found to be, by value: a function for each clause of the paper, under the clause's name, and one for each
 // group of them, which tries them in their order. A group whose part the kind does not have is passed over.
 #![tactic(auto)]
+
 ghost use Rattle.std.specs.Prelude.{◌≡◌};
 ghost use Rattle.paper.specs.Message.{row_in, vote_in};
 ghost use Rattle.paper.specs.Vote.{voted_below, none_voted, none_op};

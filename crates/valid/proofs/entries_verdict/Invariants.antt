@@ -1,5 +1,4 @@
 use Prim.Native.Nat.{◌-◌}
-use mathlib.Core.Path.{◌∙◌}
 use Rattle.valid.proofs.Laws.{Left}
 use Rattle.valid.proofs.entries_verdict.Given as goal
 

@@ -1,5 +1,4 @@
 use mathlib.Core.Path.{sym, ap, ◌∙◌}
-use borrow.Author.Tests.{not-true, not-false}
 use Rattle.rules.specs.Step.{collect}
 use Rattle.rules.specs.AcceptOk.{accepted_by}
 use Rattle.lead.proofs.Outcomes.{on_accept_ok-past, on_accept_ok-taken}

@@ -1,5 +1,4 @@
 use mathlib.Core.Path.{sym, ap, ◌∙◌}
-use borrow.Author.Tests.{not-true, not-false}
 use Rattle.rules.specs.Step.{collect}
 use Rattle.rules.specs.PreAcceptOk.{pre_accepted_by}
 use Rattle.lead.proofs.Outcomes.{on_pre_accept_ok-past, on_pre_accept_ok-taken}

@@ -2,7 +2,6 @@ use mathlib.Core.Path.{sym, ap, ap₂, ◌∙◌}
 use mathlib.Core.Bool.{◌&&◌}
 use Prim.Native.Nat.{ℕ}
 use lib.Dec.{leb}
-use borrow.Author.Tests.{not-true, not-false}
 use Rattle.nouns.proofs.Laws.{vote-ballot, vote-command, vote-deps}
 use Rattle.nouns.proofs.vote.vote_ok.Goals as goal
 
