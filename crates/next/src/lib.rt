@@ -2,6 +2,7 @@
 // waits (0), is settled (1) or was handed out (2). Marks and dependencies stay, and what was handed out stays so: what is
 // known of an instance, and how much of each row is past, is kept from one call to the next.
 #![tactic(auto)]
+
 ghost use Rattle.std.specs.Prelude.{◌≡◌, ◌&&◌, not, ◌*◌, ◌-◌, ◌≤◌, ◌<◌, max, leb, eqb, length, get_or};
 ghost use Rattle.rules.specs.Order.{everywhere};
 ghost use Rattle.next.specs.Slots.{lets, ready_in, next_in, none_at, passes_at, Out, Low, Past, Going, Asking};

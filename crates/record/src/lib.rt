@@ -1,5 +1,6 @@
 // One record in its bytes: read, written and judged. Where each part stands is said in `places`, and nowhere else.
 #![tactic(auto)]
+
 ghost use Rattle.std.specs.Prelude.{◌≡◌, ◌+◌, ◌*◌, ◌≤◌, ◌<◌, length};
 ghost use Rattle.numbers.specs.Num.{splice};
 ghost use Rattle.paper.specs.Logic.{all_below};

@@ -12,7 +12,7 @@ use Rattle.safety.specs.Run.{State, Setup, Start, Run, stay}
 use Rattle.safety.specs.Demand.{Committed, Agreement, Requested, Covering, Order, Lasting, Marking, Demand}
 use Rattle.reach.proofs.Tests.{or_cases, eqb-eq}
 use Rattle.safety.proofs.Value.{Value, cmd}
-use Rattle.safety.proofs.Case.{Case, copies, code, range}
+use Rattle.safety.proofs.Case.{Case, code, range}
 use Rattle.safety.proofs.Rel.{val}
 use Rattle.safety.proofs.Sim.{Next}
 use Rattle.safety.proofs.Runs.{history-more, marks-more, begin, run-next}

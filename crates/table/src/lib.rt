@@ -1,5 +1,6 @@
 // The table: lent bytes, a head and one record for each instance.
 #![tactic(auto)]
+
 ghost use Rattle.std.specs.Prelude.{◌≡◌, ◌&&◌, ◌+◌, ◌*◌, ◌≤◌, ◌<◌, length, replicate};
 ghost use Rattle.paper.specs.Instance.{instance_ok};
 ghost use Rattle.paper.specs.Logic.{all_below};

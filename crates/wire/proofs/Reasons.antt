@@ -25,7 +25,6 @@ use Rattle.paper.specs.declared.Refusal.TheVariants as why
 use Rattle.paper.proofs.Laws.{and-true}
 use Rattle.paper.proofs.Bodies.{all_of, every_row, every-row}
 use Rattle.paper.proofs.First.{In, rising, first-of, named, named-carried, named-short, blamed-has}
-use Rattle.wire.specs.declared.Reading.{Reading}
 use Rattle.wire.specs.declared.Reading.TheVariants as reading
 use Rattle.wire.specs.declared.Received.{Received}
 use Rattle.wire.specs.Wire.{head_size, past, rest_end, length_of, kind_at, message_at, framed, op_at, offset_of, width_of, verdict_at}

@@ -1,5 +1,6 @@
 // Messages in bytes: the reader of any bytes and the writer into lent room.
 #![tactic(auto)]
+
 ghost use Rattle.std.specs.Prelude.{◌≡◌, ◌+◌, ◌≤◌, ◌<◌, cond, length};
 ghost use Rattle.numbers.specs.Num.{num_at, splice};
 ghost use Rattle.numbers.specs.Fields.{size_of};

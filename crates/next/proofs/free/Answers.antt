@@ -1,5 +1,4 @@
 use mathlib.Core.Path.{sym, ◌∙◌}
-use Prim.Native.Nat.{◌-◌}
 use native.Mathlib.Omega.{arith}
 use Rattle.next.proofs.Held.{row-span, freed-at, slot-in, known_more, known-ready, known-freed}
 use Rattle.next.proofs.free.Goals as goal

@@ -1,4 +1,3 @@
-use mathlib.Core.Path.{◌∙◌}
 use Prim.Native.Nat.{◌-◌}
 use Rattle.next.specs.Slots.{Going}
 use Rattle.next.proofs.free.Given as goal

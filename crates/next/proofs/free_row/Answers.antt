@@ -1,5 +1,4 @@
-use mathlib.Core.Path.{◌≡◌, refl}
-use Prim.Native.Nat.{◌*◌, ◌-◌, ◌≤◌}
+use mathlib.Core.Path.{refl}
 use native.Mathlib.Omega.{arith}
 use Rattle.next.proofs.Held.{freed-start, freed-more}
 use Rattle.next.proofs.free_row.Goals as goal
@@ -33,8 +32,8 @@ pub loop-i-preserved : goal.loop-i-preserved
 loop-i-preserved c =
     let l = c.loop-i.invariant in
     elim c.if-st-y-ne2.branch [
-      then-st-y-ne2 w ↦ (omega (arith, l.0), l.1, rw w.know-is (freed-more _ _ _ _ _ _ _ _ l.2 l.0 c.loop-i-test.true (omega (arith, l.1)) w.if-st-y-ne2.true (omega arith)))
-    | else-st-y-ne2 w ↦ (omega (arith, l.0), l.1, rw w.know-is l.2)
+      | then-st-y-ne2 w ↦ (omega (arith, l.0), l.1, rw w.know-is (freed-more _ _ _ _ _ _ _ _ l.2 l.0 c.loop-i-test.true (omega (arith, l.1)) w.if-st-y-ne2.true (omega arith)))
+      | else-st-y-ne2 w ↦ (omega (arith, l.0), l.1, rw w.know-is l.2)
     ]
 
 pub shape_of-know : goal.shape_of-know

@@ -1,6 +1,3 @@
-use mathlib.Core.Path.{◌≡◌}
-use mathlib.Core.Bool.{true}
-use Prim.Native.Nat.{◌-◌, ◌<◌}
 use native.Mathlib.Omega.{arith}
 use Rattle.next.proofs.Held.{row-span, lets-start, lets-more, held-some, held_none}
 use Rattle.next.proofs.holder.Goals as goal

@@ -1,4 +1,3 @@
-use mathlib.Core.Path.{◌∙◌}
 use Prim.Native.Nat.{◌-◌}
 use Rattle.next.specs.Slots.{Low}
 use Rattle.next.proofs.low_past.Given as goal

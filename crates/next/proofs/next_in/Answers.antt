@@ -1,8 +1,7 @@
-use mathlib.Core.Path.{◌≡◌, refl, sym, ◌∙◌}
-use Prim.Native.Nat.{◌+◌, ◌-◌}
+use mathlib.Core.Path.{refl, sym, ◌∙◌}
 use native.Mathlib.Omega.{arith}
 use Rattle.reach.proofs.First.{row-start, row_inst, row_on, row-end, row-hit, walk_none, row-none}
-use Rattle.next.specs.Slots.{ready_in, next_in}
+use Rattle.next.specs.Slots.{next_in}
 use Rattle.next.proofs.Passed.{walk-low}
 use Rattle.next.proofs.next_in.Goals as goal
 

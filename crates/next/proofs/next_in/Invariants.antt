@@ -1,4 +1,4 @@
-use mathlib.Core.Path.{◌≡◌, ◌∙◌}
+use mathlib.Core.Path.{◌≡◌}
 use Prim.Native.Nat.{◌+◌, ◌-◌}
 use Rattle.rules.specs.declared.First.TheVariants.{Nowhere}
 use Rattle.reach.proofs.First.{Walk, Row}

@@ -1,5 +1,3 @@
-use mathlib.Core.Path.{◌≡◌}
-use Prim.Native.Nat.{◌-◌, ◌<◌}
 use native.Mathlib.Omega.{arith}
 use Rattle.next.proofs.Passed.{none-no, none-all, clear-more}
 use Rattle.next.proofs.none_at.Goals as goal

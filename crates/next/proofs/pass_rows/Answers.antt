@@ -1,5 +1,4 @@
 use mathlib.Core.Path.{sym, ◌∙◌}
-use Prim.Native.Nat.{◌-◌}
 use native.Mathlib.Omega.{arith}
 use Rattle.next.proofs.Passed.{past_row}
 use Rattle.next.proofs.pass_rows.Goals as goal

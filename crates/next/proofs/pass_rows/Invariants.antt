@@ -1,4 +1,3 @@
-use mathlib.Core.Path.{◌∙◌}
 use Prim.Native.Nat.{◌-◌}
 use Rattle.next.specs.Slots.{Past}
 use Rattle.next.proofs.pass_rows.Given as goal

@@ -1,6 +1,5 @@
 use mathlib.Core.Path.{sym, ◌∙◌}
 use Rattle.next.proofs.Held.{known_at, known_small, ready-not, ready-is, known-held}
-use borrow.Author.Rules.{rules}
 use Rattle.next.proofs.ready_in.Goals as goal
 
 pub returns-then-is_held : goal.returns-then-is_held

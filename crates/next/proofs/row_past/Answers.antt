@@ -1,5 +1,4 @@
-use mathlib.Core.Path.{◌≡◌, refl}
-use Prim.Native.Nat.{◌*◌, ◌-◌}
+use mathlib.Core.Path.{refl}
 use native.Mathlib.Omega.{arith}
 use Rattle.next.proofs.Passed.{out-more}
 use Rattle.next.proofs.row_past.Goals as goal

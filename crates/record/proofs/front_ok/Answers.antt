@@ -1,5 +1,4 @@
 use mathlib.Core.Path.{sym, ap₂, ◌∙◌}
-use borrow.Author.Tests.{not-true, not-false}
 use Rattle.sound.specs.Asked.{ballots_ok, marked_ok}
 use Rattle.record.proofs.Front.{front-ballots, front-command, front-mark, front-none, front-deps}
 use Rattle.record.proofs.front_ok.Goals as goal

@@ -1,5 +1,4 @@
 use mathlib.Core.Path.{sym, ◌∙◌}
-use borrow.Author.Tests.{not-true, not-false}
 use Rattle.record.proofs.Front.{idle-not, idle-front}
 use Rattle.record.proofs.idle_ok.Goals as goal
 

@@ -1,5 +1,4 @@
 use mathlib.Core.Path.{refl}
-use Prim.Native.Nat.{◌-◌, ◌≤◌}
 use native.Mathlib.Omega.{arith}
 use Rattle.record.proofs.Quick.{clear-start, clear_next, clear-all}
 use Rattle.record.proofs.no_replies.Goals as goal

@@ -1,4 +1,3 @@
-use Prim.Native.Nat.{◌-◌}
 use Rattle.record.proofs.Laws.{phase-judged}
 use Rattle.record.proofs.phases_ok_in.Goals as goal
 

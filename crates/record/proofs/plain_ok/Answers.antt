@@ -1,5 +1,4 @@
 use mathlib.Core.Path.{sym, ap₂, ◌∙◌}
-use borrow.Author.Tests.{not-true, not-false}
 use Rattle.sound.specs.Asked.{phased_ok}
 use Rattle.record.proofs.Front.{plain-front, plain-phased}
 use Rattle.record.proofs.plain_ok.Goals as goal

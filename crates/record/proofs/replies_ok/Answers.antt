@@ -1,7 +1,5 @@
 use mathlib.Core.Path.{sym, ◌∙◌}
-use Prim.Native.Nat.{◌-◌, ◌≤◌}
 use native.Mathlib.Omega.{arith}
-use borrow.Author.Tests.{not-true, not-false}
 use Rattle.record.proofs.Laws.{judged-start, judged-next, bad-reply, judged-all}
 use Rattle.record.proofs.replies_ok.Goals as goal
 

@@ -1,5 +1,4 @@
 use mathlib.Core.Path.{sym, ap, ◌∙◌}
-use borrow.Author.Tests.{not-true, not-false}
 use Rattle.paper.specs.Vote.{member}
 use Rattle.record.proofs.Laws.{reply_part-op, reply_part-in, reply_part-out}
 use Rattle.record.proofs.reply_part.Goals as goal

@@ -1,5 +1,4 @@
 use mathlib.Core.Path.{sym, ◌∙◌}
-use borrow.Author.Tests.{not-true, not-false}
 use Rattle.record.proofs.Laws.{unsound-plain, unsound-phase, sound-replies}
 use Rattle.record.proofs.sound_part.Goals as goal
 

@@ -2,7 +2,6 @@ use mathlib.Core.Path.{refl}
 use Rattle.numbers.proofs.Laws.{splice-nil}
 use Rattle.record.specs.Layout.{votes_bytes}
 use mathlib.Core.Path.{◌≡◌}
-use Prim.Native.Nat.{◌+◌, ◌-◌, ◌≤◌}
 use native.Mathlib.Omega.{arith}
 use lib.Seq.{take_all}
 use Rattle.record.proofs.Laws.{votes-step}

@@ -1,5 +1,4 @@
 use mathlib.Core.Path.{sym, ap, ◌∙◌}
-use borrow.Author.Tests.{not-true, not-false}
 use native.Mathlib.Omega.{arith}
 use Rattle.paper.specs.Command.{op_number, noop}
 use Rattle.seen.proofs.Asks.{passed_over, unvoted, voted}

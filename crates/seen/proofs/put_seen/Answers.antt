@@ -1,5 +1,4 @@
 use mathlib.Core.Path.{◌∙◌}
-use Prim.Native.Nat.{◌-◌}
 use native.Mathlib.Omega.{arith}
 use Rattle.seen.proofs.Laws.{begin, row, put, end, seen-is}
 use Rattle.seen.proofs.put_seen.Goals as goal

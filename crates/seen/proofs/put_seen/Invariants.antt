@@ -1,4 +1,3 @@
-use mathlib.Core.Path.{◌∙◌}
 use Prim.Native.Nat.{◌-◌}
 use Rattle.paper.specs.Command.{noop}
 use Rattle.seen.specs.Sought.{asks}

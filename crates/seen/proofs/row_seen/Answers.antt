@@ -1,5 +1,4 @@
 use mathlib.Core.Path.{sym, ◌∙◌}
-use Prim.Native.Nat.{◌-◌}
 use native.Mathlib.Omega.{arith}
 use Rattle.seen.proofs.Laws.{start, has, asked, here, next, none}
 use Rattle.seen.proofs.row_seen.Goals as goal

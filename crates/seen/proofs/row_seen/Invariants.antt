@@ -1,5 +1,3 @@
-use mathlib.Core.Path.{◌∙◌}
-use Prim.Native.Nat.{◌-◌}
 use Rattle.seen.proofs.Laws.{Left}
 use Rattle.paper.specs.Command.{noop}
 use Rattle.seen.specs.Sought.{asks}

@@ -1,5 +1,4 @@
 use mathlib.Core.Path.{sym, ◌∙◌}
-use borrow.Author.Tests.{not-true, not-false}
 use Rattle.table.specs.Calls.{blanked, blanked_table}
 use Rattle.table.proofs.Laws.{sizes}
 use Rattle.table.proofs.blank_table.Goals as goal

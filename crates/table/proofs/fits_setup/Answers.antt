@@ -1,5 +1,4 @@
 use mathlib.Core.Path.{sym, ◌∙◌}
-use borrow.Author.Tests.{not-true, not-false}
 use Rattle.table.specs.Table.{fits_setup}
 use Rattle.table.proofs.Laws.{setup-bounds}
 use Rattle.table.proofs.fits_setup.Goals as goal

@@ -1,5 +1,4 @@
 use mathlib.Core.Path.{sym, ◌∙◌}
-use borrow.Author.Tests.{not-true, not-false}
 use Rattle.table.specs.Calls.{judged}
 use Rattle.table.proofs.Laws.{sizes}
 use Rattle.table.proofs.judge_table.Goals as goal

@@ -1,5 +1,4 @@
 use mathlib.Core.Path.{sym, ◌∙◌}
-use borrow.Author.Tests.{not-true, not-false}
 use Rattle.table.specs.Calls.{length_of}
 use Rattle.table.proofs.Laws.{setup-bounds}
 use Rattle.table.proofs.length_of.Goals as goal

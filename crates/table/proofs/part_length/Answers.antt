@@ -1,5 +1,4 @@
 use mathlib.Core.Path.{sym, ◌∙◌}
-use borrow.Author.Tests.{not-true, not-false}
 use Rattle.table.specs.Calls.{part_length}
 use Rattle.table.proofs.part_length.Goals as goal
 

@@ -1,5 +1,4 @@
 use mathlib.Core.Path.{sym, ◌∙◌}
-use borrow.Author.Tests.{not-true, not-false}
 use Rattle.table.specs.Calls.{part_start}
 use Rattle.table.proofs.Laws.{has}
 use Rattle.table.proofs.part_start.Goals as goal

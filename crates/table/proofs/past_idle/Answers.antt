@@ -1,8 +1,6 @@
 use mathlib.Core.Path.{sym, ◌∙◌}
-use Prim.Native.Nat.{◌-◌}
 use native.Mathlib.Omega.{arith}
 use lib.ListN.{length-take, length-drop}
-use borrow.Author.Tests.{not-true, not-false}
 use Rattle.table.proofs.Walk.{past-start, past-bounds, past_next, past_stop, past-none}
 use Rattle.table.proofs.past_idle.Goals as goal
 

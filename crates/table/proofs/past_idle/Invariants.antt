@@ -1,5 +1,3 @@
-use mathlib.Core.Path.{◌∙◌}
-use Prim.Native.Nat.{◌-◌}
 use Rattle.table.proofs.Walk.{PastLeft}
 use Rattle.table.proofs.past_idle.Given as goal
 

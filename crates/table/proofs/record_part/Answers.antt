@@ -1,5 +1,4 @@
 use mathlib.Core.Path.{sym, ◌∙◌}
-use borrow.Author.Tests.{not-true, not-false}
 use Rattle.table.specs.Calls.{part_of}
 use Rattle.table.proofs.Laws.{has}
 use Rattle.table.proofs.record_part.Goals as goal

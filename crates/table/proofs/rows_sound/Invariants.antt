@@ -1,5 +1,5 @@
-use mathlib.Core.Path.{◌≡◌, ◌∙◌}
-use Prim.Native.Nat.{◌-◌, ◌≤◌}
+use mathlib.Core.Path.{◌≡◌}
+use Prim.Native.Nat.{◌≤◌}
 use Rattle.paper.specs.Logic.{all_below}
 use Rattle.table.specs.Table.{sound_row}
 use Rattle.table.specs.Sizes.{Sizes}

@@ -1,7 +1,5 @@
 use mathlib.Core.Path.{sym, ◌∙◌}
-use Prim.Native.Nat.{◌-◌}
 use native.Mathlib.Omega.{arith}
-use borrow.Author.Tests.{not-true, not-false}
 use Rattle.table.proofs.Walk.{row-start, row-names, row-past, row_next, past-few, left_false, left-none}
 use Rattle.table.proofs.sound_row.Goals as goal
 

@@ -1,5 +1,3 @@
-use mathlib.Core.Path.{◌∙◌}
-use Prim.Native.Nat.{◌-◌}
 use Rattle.table.proofs.Walk.{RowLeft}
 use Rattle.table.proofs.sound_row.Given as goal
 

@@ -2,7 +2,6 @@ use Prim.Native.Nat.{◌+◌, ◌*◌, ℕ}
 use native.Mathlib.Omega.{arith}
 use Rattle.wire.proofs.Laws.{edit-last, sent-most, command-near, deps-near}
 use mathlib.Core.Path.{ap, ap₂}
-use borrow.Author.Rules.{rules}
 use Rattle.wire.proofs.offset_of.Goals as goal
 
 pub returns-in-Op : goal.returns-in-Op

@@ -4,7 +4,6 @@ use Rattle.paper.specs.Message.{row_in}
 use Rattle.paper.specs.declared.Message.{Message}
 use Rattle.wire.specs.Calls.{unread}
 use Rattle.wire.proofs.Laws.{of-kind, row-held, received-1, not_known, not-exact, is_framed, judged-read}
-use borrow.Author.Rules.{rules}
 use Rattle.wire.proofs.read_message.Goals as goal
 
 pub returns-in-Valid : goal.returns-in-Valid

@@ -1,6 +1,5 @@
 use mathlib.Core.Path.{ap}
 use Rattle.paper.specs.declared.Refusal.TheVariants.{WrongField}
-use borrow.Author.Rules.{rules}
 use Rattle.wire.proofs.refusal_of.Goals as goal
 
 pub returns-in-Of : goal.returns-in-Of

@@ -1,6 +1,5 @@
 use mathlib.Core.Path.{sym, ap, ◌∙◌, ap₂}
 use native.Mathlib.Omega.{arith}
-use borrow.Author.Tests.{not-true, not-false}
 use Rattle.paper.specs.Message.{kind_of}
 use Rattle.paper.specs.declared.Verdict.TheVariants as verdict
 use Rattle.wire.specs.declared.Writing.TheVariants as writing
@@ -9,9 +8,7 @@ use Rattle.wire.proofs.Laws.{long-enough, wrote-1, wrote-2, wrote-rest, wrote-bl
 use Prim.Native.Nat.{ℕ}
 use Rattle.paper.specs.Valid.{verdict_on}
 use Rattle.paper.specs.declared.Row.{Row}
-use Rattle.paper.specs.declared.Verdict.{Verdict}
 use Rattle.wire.specs.Wire.{head_size, rest_end, length_of}
-use borrow.Author.Rules.{rules}
 use Rattle.wire.proofs.write_message.Goals as goal
 
 pub returns-in-Valid : goal.returns-in-Valid
