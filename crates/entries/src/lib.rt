@@ -1,6 +1,7 @@
 // What the calls on a journal answer, as types. Entries, what is written and what a replay makes of them are the definitions under
 // specs/; no code stands here.
 #![tactic(auto)]
+
 use paper::Refusal;
 
 // How many bytes were written; 43 says that a replay would not take the entry.

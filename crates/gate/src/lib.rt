@@ -1,5 +1,6 @@
 // What the public calls for events share: the gate, what an event does last, and sending.
 #![tactic(auto)]
+
 use paper::Refusal;
 
 pub mod act;

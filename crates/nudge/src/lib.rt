@@ -1,5 +1,6 @@
 // "Nudge I", as a public call.
 #![tactic(auto)]
+
 ghost use Rattle.std.specs.Prelude.{◌≡◌, length};
 ghost use Rattle.gate.specs.Events.{Passed, nudge_open, nudged};
 

@@ -1,5 +1,6 @@
 // The settled question and the hand-out, as public calls.
 #![tactic(auto)]
+
 use paper::{Command, Refusal};
 
 pub mod codes;

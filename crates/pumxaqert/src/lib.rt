@@ -1,5 +1,6 @@
 // The public calls as C calls them: numbers, slices as pointer and length, answers as the paper's numbers.
 #![tactic(auto)]
+
 pub mod events;
 pub mod fields;
 pub mod journals;

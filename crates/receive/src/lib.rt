@@ -1,4 +1,5 @@
 // A received message, as a public call.
 #![tactic(auto)]
+
 pub mod by_kind;
 pub mod message;

@@ -1,5 +1,6 @@
 // "Recover I", as a public call.
 #![tactic(auto)]
+
 ghost use Rattle.std.specs.Prelude.{◌≡◌, length};
 ghost use Rattle.gate.specs.Events.{Passed, recover_open, recovered};
 

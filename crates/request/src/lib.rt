@@ -1,4 +1,5 @@
 // "Request", as a public call.
 #![tactic(auto)]
+
 pub mod ask;
 pub mod lowest;

@@ -1,5 +1,6 @@
 // The search over what an instance reaches, by recursion. What was visited is a mark for each owner: its row up to there.
 #![tactic(auto)]
+
 ghost use Rattle.std.specs.Prelude.{◌≡◌};
 ghost use Rattle.table.specs.Sizes.{Has};
 ghost use Rattle.rules.specs.Step.{is_committed};

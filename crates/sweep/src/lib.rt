@@ -2,6 +2,7 @@
 // marks for each. A sweep up and a sweep down over all instances raise these rows. Then the row of each instance begins with
 // its entries and takes in the beginnings that it names, until nothing changes.
 #![tactic(auto)]
+
 ghost use Rattle.std.specs.Prelude.{◌≡◌, ◌≤◌, ◌<◌, length};
 ghost use Rattle.seen.specs.Records.{records_in};
 ghost use Rattle.reach.specs.High.{Inst};

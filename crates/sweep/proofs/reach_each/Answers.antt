@@ -32,8 +32,8 @@ loop-z-preserved c =
     let e = l in
     let z : l.loop-z.z < 64 * e.args.n = omega (arith, c.loop-z-test.true, l.loop-z.invariant.1) in
     elim c.if-j-s.branch [
-      then-j-s w ↦ (rw w.h-is (charts-more _ _ _ _ _ _ e.requires.sized l.loop-z.invariant.0 z _ w.reach_one.ensures.closed w.reach_one.ensures.wrote), l.loop-z.invariant.1)
-    | else-j-s w ↦ (rw w.h-is (charts-skip _ _ _ _ _ _ e.requires.sized l.loop-z.invariant.0 z w.if-j-s.false), l.loop-z.invariant.1)
+      | then-j-s w ↦ (rw w.h-is (charts-more _ _ _ _ _ _ e.requires.sized l.loop-z.invariant.0 z _ w.reach_one.ensures.closed w.reach_one.ensures.wrote), l.loop-z.invariant.1)
+      | else-j-s w ↦ (rw w.h-is (charts-skip _ _ _ _ _ _ e.requires.sized l.loop-z.invariant.0 z w.if-j-s.false), l.loop-z.invariant.1)
     ]
 
 pub shape_of-h : goal.shape_of-h
