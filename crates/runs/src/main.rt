@@ -14,6 +14,7 @@
 //     C poke AT BYTES     sets bytes of copy C's table
 // Empty lines and lines that begin with '=' are passed over.
 #![tactic(auto)]
+
 mod asked;
 mod event;
 mod kept;

@@ -1,5 +1,6 @@
 // What is in messages, records, refusals and scenes, in words.
 #![tactic(auto)]
+
 pub mod fields;
 pub mod held;
 pub mod message;

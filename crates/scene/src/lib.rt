@@ -1,6 +1,7 @@
 // The copies of a run, each with the table that it works on and a disk, and the messages on the way between them. Their bytes
 // are lent: the way first, then the tables of seven copies, then their disks.
 #![tactic(auto)]
+
 pub mod copies;
 pub mod disks;
 pub mod tables;

@@ -1,5 +1,6 @@
 // A copy's disk, for the programs that play: the table that its journal was begun with, and behind that the journal.
 #![tactic(auto)]
+
 ghost use Rattle.std.specs.Prelude.{◌+◌, ◌≤◌, length};
 
 use entries::{Entering, Replaying};
