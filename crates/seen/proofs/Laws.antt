@@ -37,6 +37,16 @@ asked v t o j k p left ea eb = rw (ea, eb) (turned (leb 1 (t p left).vote.status
     turned false y true = refl
     turned false y false = refl
 
+-- the same test, made in the definition's order
+pub asked_by_value : (v : Interference) (t : Records) (o j : ℕ) (k : Command) (p left : ℕ) {a b : Bool}
+    → a ≡ not (eqb p o && eqb left j) → b ≡ (leb 1 (t p left).vote.status && v k (t p left).vote.command) → (a && b) ≡ met v t o j k p left
+unfolding met
+asked_by_value v t o j k p left ea eb = rw (ea, eb) (assoc (not (eqb p o && eqb left j)) _ _)
+  where
+    assoc : (x y z : Bool) → (x && (y && z)) ≡ (x && y && z)
+    assoc true y z = refl
+    assoc false y z = refl
+
 module _ (v : Interference) (n s c o j : ℕ) (k : Command) (p : ℕ) (t : List ℕ) where
   -- the numbers up to `left` are still to be looked at
   pub record Left (left : ℕ) : Type 0 where
@@ -69,11 +79,11 @@ module _ (v : Interference) (n s c o j : ℕ) (k : Command) (t : List ℕ) where
   abbrev entry : ℕ → ℕ
   entry p = seen_entry v n s (records_in s t) o j k p
 
-  entry_in : (p : ℕ) {x : ℕ} → p < n → x ≡ highest s (met v (records_in s t) o j k p) → x ≡ entry p
+  pub entry_in : (p : ℕ) {x : ℕ} → p < n → x ≡ highest s (met v (records_in s t) o j k p) → x ≡ entry p
   unfolding seen_entry
   entry_in p l h = rw (lt-ltb p n l) h
 
-  entry-out : (p : ℕ) → n ≤ p → 0 ≡ entry p
+  pub entry-out : (p : ℕ) → n ≤ p → 0 ≡ entry p
   unfolding seen_entry
   entry-out p h = rw (le-ltb p n h)
 

@@ -6,7 +6,7 @@ ghost use Rattle.table.specs.Sizes.{Sizes};
 ghost use Rattle.rules.specs.Seen.{seen};
 ghost use Rattle.seen.specs.Records.{records_in};
 
-use crate::put_seen;
+use crate::walk::put_seen;
 use codec::op_of;
 use paper::Command;
 

@@ -1,66 +1,62 @@
-// "Seen(c, I)" over the table's bytes.
+// "Seen(c, I)" over the table's bytes. A request asks `walk`; the search that makes each record's vote by value stands beside it.
 #![tactic(auto)]
 
-ghost use Rattle.std.specs.Prelude.{◌≡◌, ◌&&◌, ◌||◌, not, ◌<◌, leb, eqb};
-ghost use Rattle.paper.specs.Command.{noop, touches, interfere};
+ghost use Rattle.std.specs.Prelude.{◌≡◌, ◌&&◌, not, ◌≤◌, ◌<◌, leb, eqb};
+ghost use Rattle.paper.specs.Command.{interfere};
 ghost use Rattle.table.specs.Sizes.{Sizes, Row, Has};
-ghost use Rattle.rules.specs.Seen.{met, seen};
+ghost use Rattle.rules.specs.Seen.{met, seen_entry, seen};
 ghost use Rattle.rules.specs.Sets.{highest};
 ghost use Rattle.seen.specs.Records.{records_in};
-ghost use Rattle.seen.specs.Sought.{asks};
 
-use crate::sought::{Sought, sought_for};
-use nouns::command::op_number;
-use nouns::logic::{at_most, both, equal};
+use crate::walk::put_seen;
+use nouns::command::interfere;
+use nouns::logic::{at_most, both, equal, wide8};
 use paper::Command;
-use table::records::{key_of, op_of, second_of, status_of};
+use table::records::vote_of;
 
 pub mod alone;
 pub mod sought;
+mod walk;
 
-// The command of p.i is on object a or on object b. Its fields are read one by one, as far as they are asked for.
-fn touched(t: &[u8], n: usize, s: usize, p: usize, i: usize, a: u32, b: u32) -> bool
+// p.i has status >= 1 and a command that interferes with k.
+fn meets(t: &[u8], n: usize, s: usize, p: usize, i: usize, k: Command) -> bool
     requires { Has n s p i t.now }
-    ensures { result ≡ (touches (records_in s t.now p i).vote.command a || touches (records_in s t.now p i).vote.command b) }
+    ensures { result ≡ (leb 1 (records_in s t.now p i).vote.status && interfere k (records_in s t.now p i).vote.command) }
 {
-    let key = key_of(t, n, s, p, i);
-    if key == a {
-        return true;
-    }
-    if key == b {
-        return true;
-    }
-    let op = op_of(t, n, s, p, i);
-    if op_number(op) != 3 {
-        return false;
-    }
-    let second = second_of(t, n, s, p, i);
-    if second == a {
-        return true;
-    }
-    second == b
-}
-
-// p.i has status >= 1 and the command is one that is sought. Nothing else of the record is looked at, and most records are
-// passed over by their keys.
-fn meets(t: &[u8], n: usize, s: usize, p: usize, i: usize, w: Sought) -> bool
-    requires { Has n s p i t.now }
-    ensures { result ≡ (leb 1 (records_in s t.now p i).vote.status && asks w noop (records_in s t.now p i).vote.command) }
-{
-    if !touched(t, n, s, p, i, w.first, w.second) {
-        return false;
-    }
-    if status_of(t, n, s, p, i) == 0 {
-        return false;
-    }
-    let op = op_of(t, n, s, p, i);
-    at_most(w.least, op_number(op))
+    let v = vote_of(t, n, s, p, i);
+    let command = v.command;
+    both(at_most(1, wide8(v.status)), interfere(k, command))
 }
 
 fn another(o: usize, j: usize, p: usize, i: usize) -> bool
     ensures { result ≡ not (eqb p o && eqb i j) }
 {
     !both(equal(p, o), equal(i, j))
+}
+
+// The highest number of owner p's row that is met, else 0; the row is walked from its end.
+fn row_seen(
+    t: &[u8],
+    n: usize,
+    s: usize,
+    c: usize,
+    o: usize,
+    j: usize,
+    k: Command,
+    p: usize,
+) -> usize
+    requires { Row n s c p t.now }
+    ensures value { result ≡ highest s (met interfere (records_in s t.now) o j k p) }
+    ensures upper_bound { result ≤ s }
+{
+    let mut left = s;
+    while 0 < left {
+        if both(another(o, j, p, left), meets(t, n, s, p, left, k)) {
+            return left;
+        }
+        left -= 1;
+    }
+    0
 }
 
 fn small(x: usize) -> u16
@@ -70,23 +66,8 @@ fn small(x: usize) -> u16
     x as u16
 }
 
-// The highest number of owner p's row that is met, else 0. Rows may have gaps: only a match ends the walk down.
-fn row_seen(t: &[u8], n: usize, s: usize, c: usize, o: usize, j: usize, w: Sought, p: usize) -> u16
-    requires { Row n s c p t.now }
-    ensures { result ≡ highest s (met (asks w) (records_in s t.now) o j noop p) }
-{
-    let mut left = s;
-    while 0 < left {
-        if both(meets(t, n, s, p, left, w), another(o, j, p, left)) {
-            return small(left);
-        }
-        left -= 1;
-    }
-    0
-}
-
-// In each row the last vote for a command that interferes with k, leaving out o.j; put where it is wanted.
-fn put_seen(
+// Entry p: zero from copy N on.
+fn seen_entry(
     t: &[u8],
     n: usize,
     s: usize,
@@ -94,18 +75,15 @@ fn put_seen(
     o: usize,
     j: usize,
     k: Command,
-    deps: &mut [u16; 7],
-)
+    p: usize,
+) -> u16
     requires { Sizes n s c t.now }
-    ensures { deps.new ≡ seen interfere n s (records_in s t.now) o j k }
+    ensures { result ≡ seen_entry interfere n s (records_in s t.now) o j k p }
 {
-    let w = sought_for(k);
-    *deps = [0; 7];
-    let mut p = 0;
-    while p < n {
-        deps[p] = row_seen(t, n, s, c, o, j, w, p);
-        p += 1;
+    if p < n {
+        return small(row_seen(t, n, s, c, o, j, k, p));
     }
+    0
 }
 
 pub fn seen(t: &[u8], n: usize, s: usize, c: usize, o: usize, j: usize, k: Command) -> [u16; 7]

@@ -2,7 +2,7 @@ use mathlib.Core.Path.{sym, ap, ◌∙◌}
 use borrow.Author.Tests.{eq-eqb, ne_eqb}
 use Rattle.paper.specs.Command.{op_number}
 use Rattle.seen.proofs.Asks.{on-first, on-second, on_one, on-two}
-use Rattle.seen.proofs.touched.Goals as goal
+use Rattle.seen.proofs.walk.touched.Goals as goal
 
 pub returns-then-key-a : goal.returns-then-key-a
 returns-then-key-a c = on-first _ _ _ c.key_of-key.ensures c.if-key-a.true

@@ -1,7 +1,7 @@
 use mathlib.Core.Path.{◌∙◌}
 use native.Mathlib.Omega.{arith}
 use Rattle.seen.proofs.Laws.{begin, row, put, end, seen-is}
-use Rattle.seen.proofs.put_seen.Goals as goal
+use Rattle.seen.proofs.walk.put_seen.Goals as goal
 
 pub loop-p-init : goal.loop-p-init
 loop-p-init c = begin _ _ _ _ _ _ _ _ c.requires

@@ -1,0 +1,92 @@
+// The search for what interferes, row by row from its end: of each record only what decides is looked at, where it stands.
+ghost use Rattle.std.specs.Prelude.{◌≡◌, ◌&&◌, ◌||◌, leb};
+ghost use Rattle.paper.specs.Command.{noop, touches, interfere};
+ghost use Rattle.table.specs.Sizes.{Sizes, Row, Has};
+ghost use Rattle.rules.specs.Seen.{met, seen};
+ghost use Rattle.rules.specs.Sets.{highest};
+ghost use Rattle.seen.specs.Records.{records_in};
+ghost use Rattle.seen.specs.Sought.{asks};
+
+use crate::sought::{Sought, sought_for};
+use crate::{another, small};
+use nouns::command::op_number;
+use nouns::logic::{at_most, both};
+use paper::Command;
+use table::records::{key_of, op_of, second_of, status_of};
+
+// The command of p.i is on object a or on object b. Its fields are read one by one, as far as they are asked for.
+fn touched(t: &[u8], n: usize, s: usize, p: usize, i: usize, a: u32, b: u32) -> bool
+    requires { Has n s p i t.now }
+    ensures { result ≡ (touches (records_in s t.now p i).vote.command a || touches (records_in s t.now p i).vote.command b) }
+{
+    let key = key_of(t, n, s, p, i);
+    if key == a {
+        return true;
+    }
+    if key == b {
+        return true;
+    }
+    let op = op_of(t, n, s, p, i);
+    if op_number(op) != 3 {
+        return false;
+    }
+    let second = second_of(t, n, s, p, i);
+    if second == a {
+        return true;
+    }
+    second == b
+}
+
+// p.i has status >= 1 and the command is one that is sought. Nothing else of the record is looked at, and most records are
+// passed over by their keys.
+fn meets(t: &[u8], n: usize, s: usize, p: usize, i: usize, w: Sought) -> bool
+    requires { Has n s p i t.now }
+    ensures { result ≡ (leb 1 (records_in s t.now p i).vote.status && asks w noop (records_in s t.now p i).vote.command) }
+{
+    if !touched(t, n, s, p, i, w.first, w.second) {
+        return false;
+    }
+    if status_of(t, n, s, p, i) == 0 {
+        return false;
+    }
+    let op = op_of(t, n, s, p, i);
+    at_most(w.least, op_number(op))
+}
+
+// The highest number of owner p's row that is met, else 0. Rows may have gaps: only a match ends the walk down.
+fn row_seen(t: &[u8], n: usize, s: usize, c: usize, o: usize, j: usize, w: Sought, p: usize) -> u16
+    requires { Row n s c p t.now }
+    ensures { result ≡ highest s (met (asks w) (records_in s t.now) o j noop p) }
+{
+    let mut left = s;
+    while 0 < left {
+        if both(meets(t, n, s, p, left, w), another(o, j, p, left)) {
+            return small(left);
+        }
+        left -= 1;
+    }
+    0
+}
+
+// In each row the last vote for a command that interferes with k, leaving out o.j; put where it is wanted.
+pub fn put_seen(
+    t: &[u8],
+    n: usize,
+    s: usize,
+    c: usize,
+    o: usize,
+    j: usize,
+    k: Command,
+    deps: &mut [u16; 7],
+)
+    requires { Sizes n s c t.now }
+    ensures { deps.new ≡ seen interfere n s (records_in s t.now) o j k }
+{
+    let w = sought_for(k);
+    *deps = [0; 7];
+    let mut p = 0;
+    while p < n {
+        deps[p] = row_seen(t, n, s, c, o, j, w, p);
+        p += 1;
+    }
+}
