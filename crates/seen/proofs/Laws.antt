@@ -1,7 +1,7 @@
 -- The walk down an owner's row. Assumes nothing.
 use mathlib.Core.Path.{◌≡◌, refl, sym, ap, fun_ext, ◌∙◌}
 use mathlib.Core.Bool.{Bool, true, false, ◌&&◌, not, cond}
-use mathlib.Core.List.{List}
+use mathlib.Core.List.{List, [], ◌∷◌}
 use Prim.{Dec, yes, no}
 use Prim.Native.Nat.{ℕ, zero, suc, ◌+◌, ◌-◌, ◌≤◌, ◌<◌}
 use mathlib.Core.Logic.{⊎_elim}
@@ -16,7 +16,7 @@ use Rattle.paper.specs.Command.{Interference, noop, interfere}
 use Rattle.paper.specs.declared.Command.{Command}
 use Rattle.table.specs.Sizes.{Sizes, Row, Has}
 use Rattle.rules.specs.Sets.{highest}
-use Rattle.rules.specs.Seen.{Records, met, seen_entry, seen}
+use Rattle.rules.specs.Seen.{Records, met, seen_entry, seen_from, seen}
 use Rattle.rules.proofs.Seen.{highest-here, highest-below, highest-none, seen_at, seen-length}
 use Rattle.seen.specs.Records.{records_in}
 use Rattle.seen.specs.Sought.{sought_for, asks}
@@ -138,9 +138,18 @@ module _ (n s : ℕ) (t : Records) (o j : ℕ) (k : Command) {w : Sought} (e : w
   unfolding seen_entry
   entry-is p = ap (λ (f : ℕ → Bool). cond (ltb p n) (highest s f) 0) (fun_ext (met-is p))
 
-  pub seen-is : seen (asks w) n s t o j noop ≡ seen interfere n s t o j k
-  seen-is =
+  pub sought-is : seen (asks w) n s t o j noop ≡ seen interfere n s t o j k
+  sought-is =
       ext_get_or 0 _ _ (seen-length (asks w) n s t o j noop ∙ sym (seen-length interfere n s t o j k))
       (λ i l.
       let l7 : i < 7 = omega (arith, l, seen-length (asks w) n s t o j noop) in
       seen_at (asks w) n s t o j noop i l7 ∙ entry-is i ∙ sym (seen_at interfere n s t o j k i l7))
+
+-- all seven entries
+module _ (n s : ℕ) (t : List ℕ) (o j : ℕ) (k : Command) where
+  pub seen-is : {x0 x1 x2 x3 x4 x5 x6 : ℕ} → x0 ≡ seen_entry interfere n s (records_in s t) o j k 0 → x1 ≡ seen_entry interfere n s (records_in s t) o j k 1
+      → x2 ≡ seen_entry interfere n s (records_in s t) o j k 2 → x3 ≡ seen_entry interfere n s (records_in s t) o j k 3 → x4 ≡ seen_entry interfere n s (records_in s t) o j k 4
+      → x5 ≡ seen_entry interfere n s (records_in s t) o j k 5 → x6 ≡ seen_entry interfere n s (records_in s t) o j k 6
+      → x0 ∷ x1 ∷ x2 ∷ x3 ∷ x4 ∷ x5 ∷ x6 ∷ [] ≡ seen interfere n s (records_in s t) o j k
+  unfolding seen_from
+  seen-is p0 p1 p2 p3 p4 p5 p6 = rw (p0, p1, p2, p3, p4, p5, p6)
