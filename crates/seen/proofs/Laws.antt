@@ -1,7 +1,7 @@
 -- The walk down an owner's row. Assumes nothing.
 use mathlib.Core.Path.{◌≡◌, refl, sym, ap, fun_ext, ◌∙◌}
 use mathlib.Core.Bool.{Bool, true, false, ◌&&◌, not, cond}
-use mathlib.Core.List.{List, [], ◌∷◌}
+use mathlib.Core.List.{List}
 use Prim.{Dec, yes, no}
 use Prim.Native.Nat.{ℕ, zero, suc, ◌+◌, ◌-◌, ◌≤◌, ◌<◌}
 use mathlib.Core.Logic.{⊎_elim}
@@ -16,7 +16,7 @@ use Rattle.paper.specs.Command.{Interference, noop, interfere}
 use Rattle.paper.specs.declared.Command.{Command}
 use Rattle.table.specs.Sizes.{Sizes, Row, Has}
 use Rattle.rules.specs.Sets.{highest}
-use Rattle.rules.specs.Seen.{Records, met, seen_entry, seen_from, seen}
+use Rattle.rules.specs.Seen.{Records, met, seen_entry, seen}
 use Rattle.rules.proofs.Seen.{highest-here, highest-below, highest-none, seen_at, seen-length}
 use Rattle.seen.specs.Records.{records_in}
 use Rattle.seen.specs.Sought.{sought_for, asks}
@@ -37,15 +37,10 @@ asked v t o j k p left ea eb = rw (ea, eb) (turned (leb 1 (t p left).vote.status
     turned false y true = refl
     turned false y false = refl
 
--- the same test, made in the definition's order
-pub asked_by_value : (v : Interference) (t : Records) (o j : ℕ) (k : Command) (p left : ℕ) {a b : Bool}
-    → a ≡ not (eqb p o && eqb left j) → b ≡ (leb 1 (t p left).vote.status && v k (t p left).vote.command) → (a && b) ≡ met v t o j k p left
-unfolding met
-asked_by_value v t o j k p left ea eb = rw (ea, eb) (assoc (not (eqb p o && eqb left j)) _ _)
-  where
-    assoc : (x y z : Bool) → (x && (y && z)) ≡ (x && y && z)
-    assoc true y z = refl
-    assoc false y z = refl
+-- a record that is not met, whichever instance it is of
+pub unmet : (v : Interference) (t : Records) (o j : ℕ) (k : Command) (p left : ℕ) → false ≡ (leb 1 (t p left).vote.status && v k (t p left).vote.command)
+    → met v t o j k p left ≡ false
+unmet v t o j k p left e = sym (asked v t o j k p left {b = not (eqb p o && eqb left j)} e refl)
 
 module _ (v : Interference) (n s c o j : ℕ) (k : Command) (p : ℕ) (t : List ℕ) where
   -- the numbers up to `left` are still to be looked at
@@ -65,11 +60,11 @@ module _ (v : Interference) (n s c o j : ℕ) (k : Command) (p : ℕ) (t : List 
         long = z.long;
       }
 
-  pub here : (left : ℕ) → Left left → 0 < left → met v (records_in s t) o j k p left ≡ true → left ≡ highest s (met v (records_in s t) o j k p)
-  here left l h m = highest-here left (met v (records_in s t) o j k p) h m ∙ sym l.so
+  pub here : (left i : ℕ) → Left left → 0 < left → i ≡ left → met v (records_in s t) o j k p i ≡ true → i ≡ highest s (met v (records_in s t) o j k p)
+  here left i l h e m = e ∙ highest-here left (met v (records_in s t) o j k p) h (rw e at m) ∙ sym l.so
 
-  pub next : (left : ℕ) → Left left → 0 < left → met v (records_in s t) o j k p left ≡ false → Left (left - 1)
-  next left l h m = record { row = l.row; so = l.so ∙ highest-below left (met v (records_in s t) o j k p) h m; few = omega (arith, l.few) }
+  pub next : (left i : ℕ) → Left left → 0 < left → i ≡ left → met v (records_in s t) o j k p i ≡ false → Left (left - 1)
+  next left i l h e m = record { row = l.row; so = l.so ∙ highest-below left (met v (records_in s t) o j k p) h (rw e at m); few = omega (arith, l.few) }
 
   pub none : (left : ℕ) → Left left → left ≡ 0 → 0 ≡ highest s (met v (records_in s t) o j k p)
   none left l e = sym (l.so ∙ highest-none left (met v (records_in s t) o j k p) e)
@@ -144,12 +139,3 @@ module _ (n s : ℕ) (t : Records) (o j : ℕ) (k : Command) {w : Sought} (e : w
       (λ i l.
       let l7 : i < 7 = omega (arith, l, seen-length (asks w) n s t o j noop) in
       seen_at (asks w) n s t o j noop i l7 ∙ entry-is i ∙ sym (seen_at interfere n s t o j k i l7))
-
--- all seven entries
-module _ (n s : ℕ) (t : List ℕ) (o j : ℕ) (k : Command) where
-  pub seen-is : {x0 x1 x2 x3 x4 x5 x6 : ℕ} → x0 ≡ seen_entry interfere n s (records_in s t) o j k 0 → x1 ≡ seen_entry interfere n s (records_in s t) o j k 1
-      → x2 ≡ seen_entry interfere n s (records_in s t) o j k 2 → x3 ≡ seen_entry interfere n s (records_in s t) o j k 3 → x4 ≡ seen_entry interfere n s (records_in s t) o j k 4
-      → x5 ≡ seen_entry interfere n s (records_in s t) o j k 5 → x6 ≡ seen_entry interfere n s (records_in s t) o j k 6
-      → x0 ∷ x1 ∷ x2 ∷ x3 ∷ x4 ∷ x5 ∷ x6 ∷ [] ≡ seen interfere n s (records_in s t) o j k
-  unfolding seen_from
-  seen-is p0 p1 p2 p3 p4 p5 p6 = rw (p0, p1, p2, p3, p4, p5, p6)

@@ -1,5 +1,5 @@
 // The search for what interferes, row by row from its end: of each record only what decides is looked at, where it stands.
-ghost use Rattle.std.specs.Prelude.{◌≡◌, ◌&&◌, ◌||◌, leb};
+ghost use Rattle.std.specs.Prelude.{◌≡◌, ◌&&◌, ◌||◌, not, leb, eqb};
 ghost use Rattle.paper.specs.Command.{noop, touches, interfere};
 ghost use Rattle.table.specs.Sizes.{Sizes, Row, Has};
 ghost use Rattle.rules.specs.Seen.{met, seen};
@@ -8,9 +8,7 @@ ghost use Rattle.seen.specs.Records.{records_in};
 ghost use Rattle.seen.specs.Sought.{asks};
 
 use crate::sought::{Sought, sought_for};
-use crate::{another, small};
 use nouns::command::op_number;
-use nouns::logic::{at_most, both};
 use paper::Command;
 use table::records::{key_of, op_of, second_of, status_of};
 
@@ -20,21 +18,21 @@ fn touched(t: &[u8], n: usize, s: usize, p: usize, i: usize, a: u32, b: u32) -> 
     ensures { result ≡ (touches (records_in s t.now p i).vote.command a || touches (records_in s t.now p i).vote.command b) }
 {
     let key = key_of(t, n, s, p, i);
-    if key == a {
+    if key == a || key == b {
         return true;
     }
-    if key == b {
-        return true;
-    }
-    let op = op_of(t, n, s, p, i);
-    if op_number(op) != 3 {
+    if op_number(op_of(t, n, s, p, i)) != 3 {
         return false;
     }
     let second = second_of(t, n, s, p, i);
-    if second == a {
-        return true;
-    }
-    second == b
+    second == a || second == b
+}
+
+// p.i is not o.j.
+fn another(o: usize, j: usize, p: usize, i: usize) -> bool
+    ensures { result ≡ not (eqb p o && eqb i j) }
+{
+    p != o || i != j
 }
 
 // p.i has status >= 1 and the command is one that is sought. Nothing else of the record is looked at, and most records are
@@ -49,8 +47,7 @@ fn meets(t: &[u8], n: usize, s: usize, p: usize, i: usize, w: Sought) -> bool
     if status_of(t, n, s, p, i) == 0 {
         return false;
     }
-    let op = op_of(t, n, s, p, i);
-    at_most(w.least, op_number(op))
+    w.least <= op_number(op_of(t, n, s, p, i))
 }
 
 // The highest number of owner p's row that is met, else 0. Rows may have gaps: only a match ends the walk down.
@@ -58,12 +55,11 @@ fn row_seen(t: &[u8], n: usize, s: usize, c: usize, o: usize, j: usize, w: Sough
     requires { Row n s c p t.now }
     ensures { result ≡ highest s (met (asks w) (records_in s t.now) o j noop p) }
 {
-    let mut left = s;
-    while 0 < left {
-        if both(meets(t, n, s, p, left, w), another(o, j, p, left)) {
-            return small(left);
+    for below in (0..s).rev() {
+        let i = below + 1;
+        if meets(t, n, s, p, i, w) && another(o, j, p, i) {
+            return i as u16;
         }
-        left -= 1;
     }
     0
 }
@@ -84,9 +80,7 @@ pub fn put_seen(
 {
     let w = sought_for(k);
     *deps = [0; 7];
-    let mut p = 0;
-    while p < n {
+    for p in 0..n {
         deps[p] = row_seen(t, n, s, c, o, j, w, p);
-        p += 1;
     }
 }

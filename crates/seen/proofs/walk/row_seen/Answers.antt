@@ -1,36 +1,22 @@
 use mathlib.Core.Path.{sym, ◌∙◌}
 use native.Mathlib.Omega.{arith}
-use Rattle.seen.proofs.Laws.{start, has, asked, here, next, none}
+use Rattle.seen.proofs.Laws.{asked, unmet, here, next, none}
+use Rattle.seen.proofs.walk.row_seen.Goals.{else-meets-via-then-meets+else-another, else-meets-via-else-meets}
 use Rattle.seen.proofs.walk.row_seen.Goals as goal
 
-pub loop-left-init : goal.loop-left-init
-loop-left-init c = start _ _ _ _ _ _ _ _ _ c.requires
+pub returns-then-another : goal.returns-then-another
+returns-then-another c =
+    here _ _ _ _ _ _ _ _ _ _ _ c.loop-below.invariant c.loop-below-test.true (omega arith)
+    (sym (asked _ _ _ _ _ _ _ (sym c.if-meets.true ∙ c.meets.ensures) (sym c.if-another.true ∙ c.another.ensures)))
 
-pub meets-requires : goal.meets-requires
-meets-requires c = has _ _ _ _ _ _ _ _ _ _ c.loop-left.invariant c.loop-left-test.true
-
-pub small-requires : goal.small-requires
-small-requires c = let l = c.loop-left.invariant in omega (arith, l.few, l.row.sizes.numbers)
-
-pub returns-then-both : goal.returns-then-both
-returns-then-both c =
-    let l = c.loop-left.invariant in
-    let h = c.loop-left-test.true in
-    let m = sym (asked _ _ _ _ _ _ _ c.meets.ensures c.another.ensures) ∙ sym c.both.ensures ∙ c.if-both.true in
-    c.small.ensures ∙ here _ _ _ _ _ _ _ _ _ _ l h m
-
-pub overflow_sub-left : goal.overflow_sub-left
-overflow_sub-left c = omega arith
-
-pub loop-left-smaller : goal.loop-left-smaller
-loop-left-smaller c = omega arith
-
-pub loop-left-preserved : goal.loop-left-preserved
-loop-left-preserved c =
-    let l = c.loop-left.invariant in
-    let h = c.loop-left-test.true in
-    let m = sym (asked _ _ _ _ _ _ _ c.meets.ensures c.another.ensures) ∙ sym c.both.ensures ∙ c.if-both.false in
-    next _ _ _ _ _ _ _ _ _ _ l h m
+pub loop-below-preserved : goal.loop-below-preserved
+loop-below-preserved c =
+    next _ _ _ _ _ _ _ _ _ _ _ c.loop-below.invariant c.loop-below-test.true (omega arith)
+    (elim c.else-meets.branch [
+      | else-meets-via-then-meets+else-another w ↦
+          sym (asked _ _ _ _ _ _ _ (sym w.if-meets.true ∙ c.meets.ensures) (sym w.if-another.false ∙ w.another.ensures))
+      | else-meets-via-else-meets w ↦ unmet _ _ _ _ _ _ _ (sym w.if-meets.false ∙ c.meets.ensures)
+    ])
 
 pub returns : goal.returns
-returns c = none _ _ _ _ _ _ _ _ _ _ c.loop-left.invariant (omega arith)
+returns c = none _ _ _ _ _ _ _ _ _ _ c.loop-below.invariant (omega arith)
