@@ -13,7 +13,6 @@ use Rattle.paper.specs.Vote.{blank}
 use Rattle.paper.specs.declared.Command.{Command}
 use Rattle.paper.specs.declared.Op.{Op}
 use Rattle.paper.specs.declared.Record.{Record}
-use Rattle.paper.specs.declared.Refusal.TheVariants as why
 use Rattle.rules.specs.Afresh.{afresh}
 use Rattle.rules.specs.Request.{request}
 use Rattle.rules.specs.Events.{request_number, on_request}

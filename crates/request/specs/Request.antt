@@ -3,7 +3,6 @@ use Rattle.std.specs.Prelude.{ℕ, ◌≡◌, Bool, true, false, ◌&&◌, List,
 use Rattle.paper.specs.Command.{is_noop, command_ok}
 use Rattle.paper.specs.declared.Command.{Command}
 use Rattle.paper.specs.declared.Record.{Record}
-use Rattle.paper.specs.declared.Refusal.TheVariants as why
 use Rattle.paper.specs.Fits.{CommandFits}
 use Rattle.gate.specs.Events.{Passed}
 

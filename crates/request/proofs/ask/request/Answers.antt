@@ -1,6 +1,4 @@
-use borrow.Author.Rules.{rules}
 use mathlib.Core.Path.{sym, ◌∙◌}
-use Prim.Native.Nat.{◌-◌}
 use Rattle.gate.proofs.Calls.{met, refused, passed, shut, opened}
 use Rattle.request.proofs.ask.request.Goals as goal
 

@@ -1,6 +1,5 @@
 use mathlib.Core.Path.{sym, ap, ap₂, ◌∙◌}
 use native.Mathlib.Omega.{arith}
-use borrow.Author.Tests.{not-true, not-false}
 use mathlib.Core.Bool.{◌&&◌}
 use Rattle.codec.specs.Parts.{op_of}
 use Rattle.paper.specs.declared.Refusal.TheVariants as why
