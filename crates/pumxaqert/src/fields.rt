@@ -13,102 +13,64 @@ use nouns::message::{
 use paper::{Blame, Body, Carried, Command, Field, Message, Parts, Refusal};
 use wire::refusal_of;
 
-fn from8(x: u8) -> u64
-    ensures { result ≡ x }
-{
-    x as u64
-}
+// One more than the most that a byte, two and four can hold.
+const BYTE: u64 = 256;
 
-fn from16(x: u16) -> u64
-    ensures { result ≡ x }
-{
-    x as u64
-}
+const SHORT: u64 = 65_536;
 
-pub fn from32(x: u32) -> u64
-    ensures { result ≡ x }
-{
-    x as u64
-}
-
-pub fn from_size(x: usize) -> u64
-    ensures { result ≡ x }
-{
-    x as u64
-}
-
-fn low8(x: u64) -> u8
-    ensures { result ≡ x % 256 }
-{
-    (x % 256) as u8
-}
-
-fn low16(x: u64) -> u16
-    ensures { result ≡ x % 65_536 }
-{
-    (x % 65_536) as u16
-}
-
-fn low32(x: u64) -> u32
-    ensures { result ≡ x % 4_294_967_296 }
-{
-    (x % 4_294_967_296) as u32
-}
+const WORD: u64 = 4_294_967_296;
 
 // Voted, or joined where the body carries that.
+#[tactic(auto, unfolding(crate::specs::Fields::other_ballot))]
 fn other_ballot(b: Body) -> u32
     ensures { result ≡ other_ballot b }
 {
-    let row = row_in(b);
-    let parts = row.parts;
-    if parts.joined {
-        return joined_in(b);
+    if row_in(b).parts.joined {
+        joined_in(b)
+    } else {
+        voted_in(b)
     }
-    voted_in(b)
 }
 
+#[tactic(auto, unfolding(crate::specs::Fields::fields_of))]
 pub fn fields_of(m: Message) -> [u64; 19]
     ensures { result ≡ fields_of m }
 {
     let body = m.body;
     let command = command_in(body);
-    let op = command.op;
     let d = m.deps;
     [
-        from8(kind_of(body)),
-        from8(m.from),
-        from8(m.to),
-        from8(m.owner),
-        from16(m.number),
-        from32(m.ballot),
-        from32(other_ballot(body)),
-        from8(status_in(body)),
-        from_size(op_number(op)),
-        from32(command.key),
-        from32(command.second),
+        u64::from(kind_of(body)),
+        u64::from(m.from),
+        u64::from(m.to),
+        u64::from(m.owner),
+        u64::from(m.number),
+        u64::from(m.ballot),
+        u64::from(other_ballot(body)),
+        u64::from(status_in(body)),
+        op_number(command.op) as u64,
+        u64::from(command.key),
+        u64::from(command.second),
         command.edit,
-        from16(d[0]),
-        from16(d[1]),
-        from16(d[2]),
-        from16(d[3]),
-        from16(d[4]),
-        from16(d[5]),
-        from16(d[6]),
+        u64::from(d[0]),
+        u64::from(d[1]),
+        u64::from(d[2]),
+        u64::from(d[3]),
+        u64::from(d[4]),
+        u64::from(d[5]),
+        u64::from(d[6]),
     ]
 }
 
+#[tactic(auto, unfolding(crate::specs::Fields::command_from))]
 fn command_from(f: &[u64; 19]) -> Command
     ensures { result ≡ command_from f.now }
 {
-    let op = op_of(low8(f[8]));
-    let key = low32(f[9]);
-    let second = low32(f[10]);
-    let edit = f[11];
     Command {
-        op,
-        key,
-        second,
-        edit,
+        op: op_of((f[8] % BYTE) as u8),
+        key: (f[9] % WORD) as u32,
+        second: (f[10] % WORD) as u32,
+        edit: f[11],
     }
 }
 
@@ -124,41 +86,36 @@ fn body_from(k: u64, v: u32, t: u8, c: Command) -> Body
     body_of(k as usize, x)
 }
 
+#[tactic(auto, unfolding(crate::specs::Fields::deps_from))]
 fn deps_from(f: &[u64; 19]) -> [u16; 7]
     ensures { result ≡ deps_from f.now }
 {
-    let d0 = low16(f[12]);
-    let d1 = low16(f[13]);
-    let d2 = low16(f[14]);
-    let d3 = low16(f[15]);
-    let d4 = low16(f[16]);
-    let d5 = low16(f[17]);
-    let d6 = low16(f[18]);
-    [d0, d1, d2, d3, d4, d5, d6]
+    [
+        (f[12] % SHORT) as u16,
+        (f[13] % SHORT) as u16,
+        (f[14] % SHORT) as u16,
+        (f[15] % SHORT) as u16,
+        (f[16] % SHORT) as u16,
+        (f[17] % SHORT) as u16,
+        (f[18] % SHORT) as u16,
+    ]
 }
 
 // The message of these numbers, each cut to its place.
+#[tactic(auto, unfolding(crate::specs::Fields::message_from))]
 pub fn message_from(f: &[u64; 19]) -> Message
     ensures { result ≡ message_from f.now }
 {
     let command = command_from(f);
-    let other = low32(f[6]);
-    let status = low8(f[7]);
-    let body = body_from(f[0], other, status, command);
-    let deps = deps_from(f);
-    let from = low8(f[1]);
-    let to = low8(f[2]);
-    let owner = low8(f[3]);
-    let number = low16(f[4]);
-    let ballot = low32(f[5]);
+    let other = (f[6] % WORD) as u32;
     Message {
-        from,
-        to,
-        owner,
-        number,
-        ballot,
-        body,
-        deps,
+        from: (f[1] % BYTE) as u8,
+        to: (f[2] % BYTE) as u8,
+        owner: (f[3] % BYTE) as u8,
+        number: (f[4] % SHORT) as u16,
+        ballot: (f[5] % WORD) as u32,
+        body: body_from(f[0], other, (f[7] % BYTE) as u8, command),
+        deps: deps_from(f),
     }
 }
 
@@ -249,19 +206,14 @@ fn carried_or_zero(p: Parts, f: &[u64; 19], i: usize) -> bool
     requires { i < 19 }
     ensures { result ≡ (has_field p (field_of p i) || eqb (get_or f.now i 0) 0) }
 {
-    if has_field(p, field_of(p, i)) {
-        return true;
-    }
-    f[i] == 0
+    has_field(p, field_of(p, i)) || f[i] == 0
 }
 
 fn carried_only(p: Parts, f: &[u64; 19]) -> bool
     ensures { result ≡ carried_only p f.now }
 {
-    let mut left = 19;
-    while 0 < left {
-        left -= 1;
-        if !carried_or_zero(p, f, left) {
+    for i in (0..19).rev() {
+        if !carried_or_zero(p, f, i) {
             return false;
         }
     }
@@ -285,12 +237,10 @@ fn can_hold(p: Parts, i: usize, x: u64) -> bool
 fn first_unheld(p: Parts, f: &[u64; 19]) -> Blame
     ensures { result ≡ first_unheld p f.now 18 1 }
 {
-    let mut i = 1;
-    while i < 19 {
+    for i in 1..19 {
         if !can_hold(p, i, f[i]) {
             return Blame::Of(field_of(p, i));
         }
-        i += 1;
     }
     Blame::Length
 }

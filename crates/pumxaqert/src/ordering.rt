@@ -3,7 +3,6 @@ ghost use Rattle.std.specs.Prelude.{◌≡◌};
 ghost use Rattle.order.specs.Calls.{settled, handed, settling_number, handing_number};
 ghost use Rattle.order.specs.Calls.{settling_values, handing_count};
 
-use crate::fields::{from_size, from32};
 use nouns::command::op_number;
 use nouns::refusal::number_of;
 use order::{Handing, Settling};
@@ -15,9 +14,9 @@ fn command_values(k: Command) -> [u64; 5]
     let op = k.op;
     [
         1,
-        from_size(op_number(op)),
-        from32(k.key),
-        from32(k.second),
+        op_number(k.op) as u64,
+        u64::from(k.key),
+        u64::from(k.second),
         k.edit,
     ]
 }
@@ -45,7 +44,7 @@ pub extern "C" fn pumxaqert_settled(
             owner: o,
             number: j,
         } => {
-            *values = [0, from_size(o), from_size(j), 0, 0];
+            *values = [0, o as u64, j as u64, 0, 0];
             0
         }
         Settling::Refused(why) => {

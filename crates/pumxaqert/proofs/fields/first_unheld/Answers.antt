@@ -1,6 +1,4 @@
-use Prim.Native.Nat.{◌-◌}
 use native.Mathlib.Omega.{arith}
-use borrow.Author.Tests.{not-true, not-false}
 use Rattle.pumxaqert.proofs.Laws.{all_left, unheld, held, none_left}
 use Rattle.pumxaqert.proofs.fields.first_unheld.Goals as goal
 
@@ -9,9 +7,6 @@ loop-i-init c = all_left _ _
 
 pub returns-then-not-can_hold : goal.returns-then-not-can_hold
 returns-then-not-can_hold c = unheld _ _ _ c.loop-i.invariant c.loop-i-test.true c.can_hold.ensures (c.if-not-can_hold.true) c.field_of.ensures
-
-pub loop-i-smaller : goal.loop-i-smaller
-loop-i-smaller c = omega arith
 
 pub loop-i-preserved : goal.loop-i-preserved
 loop-i-preserved c = held _ _ _ c.loop-i.invariant c.loop-i-test.true c.can_hold.ensures (c.if-not-can_hold.false)

@@ -1,6 +1,5 @@
 use mathlib.Core.Path.{refl}
 use Rattle.pumxaqert.proofs.Laws.{read-valid, read-refused}
-use borrow.Author.Rules.{rules}
 use Rattle.pumxaqert.proofs.messages.pumxaqert_read_message.Goals as goal
 
 pub returns-in-Valid : goal.returns-in-Valid

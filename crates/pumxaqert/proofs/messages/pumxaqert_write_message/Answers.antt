@@ -1,6 +1,5 @@
 use mathlib.Core.Path.{◌∙◌}
 use Rattle.pumxaqert.proofs.Laws.{wrote_as}
-use borrow.Author.Rules.{rules}
 use Rattle.pumxaqert.proofs.messages.pumxaqert_write_message.Goals as goal
 
 pub returns-in-Bytes : goal.returns-in-Bytes

@@ -1,5 +1,4 @@
 use mathlib.Core.Path.{sym, ap, ◌∙◌}
-use borrow.Author.Tests.{not-true, not-false}
 use Rattle.wire.specs.Calls.{Wrote}
 use Rattle.pumxaqert.proofs.Laws.{fields-message, fields-1, fields-2, fields-misfit}
 use Rattle.pumxaqert.proofs.messages.write_fields.Goals as goal

@@ -1,6 +1,5 @@
-use mathlib.Core.Path.{◌∙◌}
 use Rattle.pumxaqert.proofs.Laws.{settled-values}
 use Rattle.pumxaqert.proofs.ordering.command_values.Goals as goal
 
 pub returns : goal.returns
-returns c = settled-values c.args.k (c.from_size.ensures ∙ c.op_number.ensures) c.from32.ensures c.from32-2.ensures
+returns c = settled-values c.args.k c.op_number.ensures c.from.ensures c.from-2.ensures

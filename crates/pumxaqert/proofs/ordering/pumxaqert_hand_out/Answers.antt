@@ -1,4 +1,3 @@
-use borrow.Author.Rules.{rules}
 use mathlib.Core.Path.{sym, ap, ◌∙◌}
 use Rattle.order.specs.Calls.{handing_number}
 use Rattle.order.specs.Calls.{handing_count}

@@ -1,6 +1,4 @@
-use borrow.Author.Rules.{rules}
 use mathlib.Core.Path.{sym, ap, ◌∙◌}
-use mathlib.Core.List.{[], ◌∷◌}
 use Rattle.order.specs.Calls.{settling_number}
 use Rattle.order.specs.Calls.{settling_values}
 use Rattle.pumxaqert.proofs.ordering.pumxaqert_settled.Goals as goal
@@ -11,7 +9,7 @@ returns-in-Settled c = let q = sym c.in-Settled.is ∙ c.settled-x.ensures in
 
 pub returns-in-Waits : goal.returns-in-Waits
 returns-in-Waits c = let q = sym c.in-Waits.is ∙ c.settled-x.ensures in
-    record { number = ap settling_number q; values = (λ i. 0 ∷ c.from_size.ensures i ∷ c.from_size-in-Waits.ensures i ∷ 0 ∷ 0 ∷ []) ∙ ap settling_values q }
+    record { number = ap settling_number q; values = ap settling_values q }
 
 pub returns-in-Refused : goal.returns-in-Refused
 returns-in-Refused c = let q = sym c.in-Refused.is ∙ c.settled-x.ensures in

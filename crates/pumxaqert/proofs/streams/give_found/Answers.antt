@@ -1,4 +1,3 @@
-use borrow.Author.Rules.{rules}
 use Rattle.pumxaqert.proofs.streams.give_found.Goals as goal
 
 pub returns-in-Message : goal.returns-in-Message

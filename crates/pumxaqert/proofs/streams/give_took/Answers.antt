@@ -1,4 +1,3 @@
-use borrow.Author.Rules.{rules}
 use Rattle.pumxaqert.proofs.streams.give_took.Goals as goal
 
 pub returns-in-Bytes : goal.returns-in-Bytes

@@ -2,7 +2,6 @@ use mathlib.Core.Path.{sym, ap, ◌∙◌}
 use Rattle.stream.specs.declared.place.Begun.{Begun}
 use Rattle.stream.specs.Stream.{begun_number}
 use Rattle.pumxaqert.specs.Streams.{begun_place}
-use borrow.Author.Rules.{rules}
 use Rattle.pumxaqert.proofs.streams.pumxaqert_stream_begin.Goals as goal
 
 pub returns-in-At : goal.returns-in-At

@@ -1,4 +1,3 @@
-use borrow.Author.Rules.{rules}
 use mathlib.Core.Path.{sym, ap, ◌∙◌}
 use Rattle.table.specs.Calls.{blanking_number}
 use Rattle.pumxaqert.proofs.tables.pumxaqert_blank.Goals as goal

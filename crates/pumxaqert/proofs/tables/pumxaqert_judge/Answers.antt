@@ -1,4 +1,3 @@
-use borrow.Author.Rules.{rules}
 use mathlib.Core.Path.{sym, ap, ◌∙◌}
 use Rattle.table.specs.Calls.{judging_number}
 use Rattle.pumxaqert.proofs.tables.pumxaqert_judge.Goals as goal
