@@ -11,7 +11,6 @@ ghost use Rattle.table.specs.Table.{fits_setup, head_is, past_idle, sound_row, s
 ghost use Rattle.table.specs.Calls.{blanked, blanked_table, judged, part_of, part_start, part_length, length_of};
 ghost use Rattle.table.specs.Sizes.{Sizes, Row, Names, Has};
 
-use nouns::logic::{both, equal, wide8};
 use nouns::setup::{instance_ok, setup_ok};
 use paper::Refusal;
 use record::places::LENGTH;
@@ -90,12 +89,9 @@ fn head_is(t: &[u8], n: usize, s: usize, c: usize) -> bool
     requires { head_length ≤ length t.now }
     ensures { result ≡ head_is n s c t.now }
 {
-    let copies = equal(wide8(numbers::get_u8(t, COPIES)), n);
-    let numbers = equal(wide8(numbers::get_u8(t, NUMBERS)), s);
-    both(
-        both(copies, numbers),
-        equal(wide8(numbers::get_u8(t, COPY)), c),
-    )
+    numbers::get_u8(t, COPIES) as usize == n
+        && numbers::get_u8(t, NUMBERS) as usize == s
+        && numbers::get_u8(t, COPY) as usize == c
 }
 
 // What is left of the first k records of owner o's row when those at their end that are idle and right are passed over:
@@ -156,7 +152,7 @@ pub fn sound_table(t: &[u8], n: usize, s: usize, c: usize) -> bool
     requires { Sizes n s c t.now }
     ensures { result ≡ sound_table n s c t.now }
 {
-    both(head_is(t, n, s, c), rows_sound(t, n, s, c))
+    head_is(t, n, s, c) && rows_sound(t, n, s, c)
 }
 
 // Judges a table: 1, then 11.
@@ -200,7 +196,7 @@ pub fn blank_table(t: &mut [u8], n: usize, s: usize, c: usize) -> Result<(), Ref
 fn has_part(t: &[u8], n: usize, s: usize, c: usize, o: usize, j: usize) -> bool
     ensures { result ≡ (fits_setup n s c t.now && instance_ok n s o j) }
 {
-    both(fits_setup(t, n, s, c), instance_ok(n, s, o, j))
+    fits_setup(t, n, s, c) && instance_ok(n, s, o, j)
 }
 
 // What a host saves of o.j: its record's bytes, none where setup or instance is bad.
