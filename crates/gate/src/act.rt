@@ -1,5 +1,5 @@
 // What every event does last: its record is put, its messages are written.
-ghost use Rattle.std.specs.Prelude.{◌≡◌, ◌≤◌, ◌<◌, length};
+ghost use Rattle.std.specs.Prelude.{◌≡◌, ◌≤◌, length};
 ghost use Rattle.numbers.specs.Num.{splice};
 ghost use Rattle.table.specs.Sizes.{Has};
 ghost use Rattle.table.specs.Table.{put_record};
@@ -11,20 +11,6 @@ use crate::send::send_all;
 use paper::Refusal;
 use rules::Step;
 use table::records::store;
-
-pub fn byte(x: usize) -> u8
-    requires { x < 256 }
-    ensures { result ≡ x }
-{
-    x as u8
-}
-
-pub fn short(x: usize) -> u16
-    requires { x < 65_536 }
-    ensures { result ≡ x }
-{
-    x as u16
-}
 
 pub fn act(
     t: &mut [u8],

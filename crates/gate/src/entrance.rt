@@ -3,18 +3,13 @@ ghost use Rattle.std.specs.Prelude.{◌≡◌};
 ghost use Rattle.gate.specs.Events.{gate_of};
 
 use paper::Refusal;
-use table::{fits_setup, sound_table};
+use table::judge_table;
 
-#[tactic(auto, unfolding(crate::specs::Events::gate_of), using(table::proofs::Laws::sizes))]
+#[tactic(auto, unfolding(crate::specs::Events::gate_of, table::specs::Calls::judged))]
 pub fn gate_of(t: &[u8], n: usize, s: usize, c: usize, room: usize) -> Result<(), Refusal>
     ensures { result ≡ gate_of n s c t.now room }
 {
-    if !fits_setup(t, n, s, c) {
-        return Err(Refusal::Setup);
-    }
-    if !sound_table(t, n, s, c) {
-        return Err(Refusal::Unsound);
-    }
+    judge_table(t, n, s, c)?;
     if room < 256 {
         return Err(Refusal::Room);
     }

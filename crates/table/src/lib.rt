@@ -84,14 +84,14 @@ fn part(t: &[u8], n: usize, s: usize, o: usize, j: usize) -> &[u8]
     &t[at..end]
 }
 
-#[tactic(auto, unfolding(crate::specs::Table::head_is))]
+#[tactic(auto, unfolding(crate::specs::Table::head_is, numbers::specs::Num::num_at))]
 fn head_is(t: &[u8], n: usize, s: usize, c: usize) -> bool
     requires { head_length ≤ length t.now }
     ensures { result ≡ head_is n s c t.now }
 {
-    numbers::get_u8(t, COPIES) as usize == n
-        && numbers::get_u8(t, NUMBERS) as usize == s
-        && numbers::get_u8(t, COPY) as usize == c
+    t[COPIES] as usize == n
+        && t[NUMBERS] as usize == s
+        && t[COPY] as usize == c
 }
 
 // What is left of the first k records of owner o's row when those at their end that are idle and right are passed over:
@@ -175,9 +175,9 @@ fn put_blank(t: &mut [u8], n: usize, s: usize, c: usize)
     ensures { t.new ≡ blank_table n s c }
 {
     t.fill(0);
-    numbers::put_u8(&mut *t, COPIES, n as u8);
-    numbers::put_u8(&mut *t, NUMBERS, s as u8);
-    numbers::put_u8(&mut *t, COPY, c as u8);
+    t[COPIES] = n as u8;
+    t[NUMBERS] = s as u8;
+    t[COPY] = c as u8;
 }
 
 // Writes a blank table.

@@ -17,4 +17,4 @@ returns c =
     let long : length z ≡ length t = search rules in
     let zeros : (k : ℕ) → k < length t → slice_index z k ≡ 0 = search rules in
     let e : z ≡ replicate (length t) 0 = ext_get_or 0 z (replicate (length t) 0) (long ∙ sym (length-replicate (length t) 0)) (λ i m. grind (arith, common_steps, zeros i)) in
-    head-written c.args.n c.args.s c.args.c t c.requires e refl c.put_u8.ensures refl c.put_u8-2.ensures refl c.put_u8-3.ensures
+    head-written c.args.n c.args.s c.args.c t c.requires e
