@@ -15,8 +15,8 @@ returns-then-not-both c = let z = c in
     let t = a.t.now in
     met (request-4 a.n a.s a.c t a.out.now a.op a.key a.second a.edit (bad-op a.n a.s a.c t a.out.now a.op a.key a.second a.edit (sym (c.both.ensures ∙ ap₂ ◌&&◌ c.at_most.ensures c.at_most-2.ensures) ∙ c.if-not-both.true))) (refused why.Op _ _)
 
-pub byte-requires : goal.byte-requires
-byte-requires c = let z = c in
+pub overflow_cast-op : goal.overflow_cast-op
+overflow_cast-op c = let z = c in
     let a = z.args in
     let t = a.t.now in
     small-op a.n a.s a.c t a.out.now a.op a.key a.second a.edit (sym (c.both.ensures ∙ ap₂ ◌&&◌ c.at_most.ensures c.at_most-2.ensures) ∙ c.if-not-both.false)
@@ -25,16 +25,16 @@ pub returns-then-not-second_ok : goal.returns-then-not-second_ok
 returns-then-not-second_ok c = let z = c in
     let a = z.args in
     let t = a.t.now in
-    met (request-4 a.n a.s a.c t a.out.now a.op a.key a.second a.edit (bad-keys a.n a.s a.c t a.out.now a.op a.key a.second a.edit (c.op_of-taken.ensures ∙ ap op_of c.byte.ensures) (sym (c.both.ensures ∙ ap₂ ◌&&◌ c.at_most.ensures c.at_most-2.ensures) ∙ c.if-not-both.false) (sym c.second_ok.ensures ∙ c.if-not-second_ok.true))) (refused why.Op _ _)
+    met (request-4 a.n a.s a.c t a.out.now a.op a.key a.second a.edit (bad-keys a.n a.s a.c t a.out.now a.op a.key a.second a.edit c.op_of-taken.ensures (sym (c.both.ensures ∙ ap₂ ◌&&◌ c.at_most.ensures c.at_most-2.ensures) ∙ c.if-not-both.false) (sym c.second_ok.ensures ∙ c.if-not-second_ok.true))) (refused why.Op _ _)
 
 pub ask-requires : goal.ask-requires
 ask-requires c = let z = c in
     let a = z.args in
     let t = a.t.now in
-    asking a.n a.s a.c t a.out.now a.op a.key a.second a.edit z.requires (omega (arith, z.ranges.key)) (omega (arith, z.ranges.second)) (omega (arith, z.ranges.edit)) (c.op_of-taken.ensures ∙ ap op_of c.byte.ensures) (sym (c.both.ensures ∙ ap₂ ◌&&◌ c.at_most.ensures c.at_most-2.ensures) ∙ c.if-not-both.false) (sym c.second_ok.ensures ∙ c.if-not-second_ok.false)
+    asking a.n a.s a.c t a.out.now a.op a.key a.second a.edit z.requires (omega (arith, z.ranges.key)) (omega (arith, z.ranges.second)) (omega (arith, z.ranges.edit)) c.op_of-taken.ensures (sym (c.both.ensures ∙ ap₂ ◌&&◌ c.at_most.ensures c.at_most-2.ensures) ∙ c.if-not-both.false) (sym c.second_ok.ensures ∙ c.if-not-second_ok.false)
 
 pub returns : goal.returns
 returns c = let z = c in
     let a = z.args in
     let t = a.t.now in
-    met (request-ok a.n a.s a.c t a.out.now a.op a.key a.second a.edit (c.op_of-taken.ensures ∙ ap op_of c.byte.ensures) (good a.n a.s a.c t a.out.now a.op a.key a.second a.edit (c.op_of-taken.ensures ∙ ap op_of c.byte.ensures) (sym (c.both.ensures ∙ ap₂ ◌&&◌ c.at_most.ensures c.at_most-2.ensures) ∙ c.if-not-both.false) (sym c.second_ok.ensures ∙ c.if-not-second_ok.false))) c.ask.ensures
+    met (request-ok a.n a.s a.c t a.out.now a.op a.key a.second a.edit c.op_of-taken.ensures (good a.n a.s a.c t a.out.now a.op a.key a.second a.edit c.op_of-taken.ensures (sym (c.both.ensures ∙ ap₂ ◌&&◌ c.at_most.ensures c.at_most-2.ensures) ∙ c.if-not-both.false) (sym c.second_ok.ensures ∙ c.if-not-second_ok.false))) c.ask.ensures
