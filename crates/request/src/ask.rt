@@ -14,7 +14,6 @@ use gate::Event;
 use gate::act::act;
 use gate::entrance::gate_of;
 use nouns::command::second_ok;
-use nouns::logic::{at_most, both};
 use nouns::vote::no_vote;
 use paper::{Command, Record, Refusal};
 use rules::Step;
@@ -77,12 +76,11 @@ fn request_open(
     ensures table { t.new ≡ (request_open n s c t.old out.old op key second edit).table }
     ensures room { out.new ≡ (request_open n s c t.old out.old op key second edit).out }
 {
-    if !both(at_most(1, op), at_most(op, 3)) {
+    if op < 1 || 3 < op {
         return Err(Refusal::Op);
     }
-    let taken = op_of(op as u8);
     let k = Command {
-        op: taken,
+        op: op_of(op as u8),
         key,
         second,
         edit,
