@@ -37,7 +37,7 @@ use Rattle.closed.specs.Held.{Closed}
 use Rattle.closed.proofs.Laws.{clash}
 use Rattle.closed.proofs.Heard.{valid-instance}
 use Rattle.closed.proofs.Closed.{request-event, message-event, recover-event, nudge-event}
-use Rattle.gate.specs.Events.{event, Outcome, refuse, acted, gate_of, gated, through, command_of, op_taken, command_taken, asked, request_open, receive_open, recover_open, nudge_open, answer_number}
+use Rattle.gate.specs.Events.{event_of, Outcome, refuse, acted, gate_of, gated, through, command_of, op_taken, command_taken, asked, request_open, receive_open, recover_open, nudge_open, answer_number}
 use Rattle.gate.proofs.Calls.{setup-of, receive-open}
 use Rattle.safety.specs.Run.{replaced}
 use Rattle.safety.specs.Run as rules
@@ -131,12 +131,12 @@ public-request n s c t out op key second edit o j w = by (gate_of n s c t (lengt
     k : Command
     k = command_of op key second edit
 
-    taken : (b : Bool) → command_taken op key second edit ≡ b → (cond (not b) (refuse why.Op t out) (asked interfere n s c t out k)).answer ≡ event o j w
+    taken : (b : Bool) → command_taken op key second edit ≡ b → (cond (not b) (refuse why.Op t out) (asked interfere n s c t out k)).answer ≡ event_of o j w
         → (is_noop k ≡ false) × (command_ok k ≡ true) × (cond (not b) (refuse why.Op t out) (asked interfere n s c t out k) ≡ asked interfere n s c t out k)
     taken true e h = let (some, keys) = command-asked op key second edit e in (some, keys, refl)
     taken false e h = clash (cc)
 
-    by : (g : Result Unit Refusal) → (through g t out (cond (not (command_taken op key second edit)) (refuse why.Op t out) (asked interfere n s c t out k))).answer ≡ event o j w
+    by : (g : Result Unit Refusal) → (through g t out (cond (not (command_taken op key second edit)) (refuse why.Op t out) (asked interfere n s c t out k))).answer ≡ event_of o j w
         → (is_noop k ≡ false) × (command_ok k ≡ true)
         × (through g t out (cond (not (command_taken op key second edit)) (refuse why.Op t out) (asked interfere n s c t out k)) ≡ through g t out (asked interfere n s c t out k))
     by (Ok x) h = taken (command_taken op key second edit) refl h

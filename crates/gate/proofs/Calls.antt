@@ -25,7 +25,7 @@ use Rattle.rules.specs.declared.Step.{Step}
 use Rattle.table.specs.Table.{fits_setup, sound_table, record_in, put_record}
 use Rattle.gate.specs.declared.Event.{Event}
 use Rattle.gate.specs.Out.{out_bytes}
-use Rattle.gate.specs.Events.{event, Outcome, refuse, acted, gate_of, gated, Passed, heard, receive_open}
+use Rattle.gate.specs.Events.{event_of, Outcome, refuse, acted, gate_of, gated, Passed, heard, receive_open}
 
 -- the gate
 module _ (n s c : ℕ) (t : List ℕ) (room : ℕ) where
@@ -82,11 +82,11 @@ pub refused : (r : Refusal) (t o : List ℕ) → Met (refuse r t o) (Err r) t o
 refused r t o = record { answers = refl; table = refl; room = refl }
 
 pub acted-is : (s : ℕ) (t out : List ℕ) (o j : ℕ) {x y : Step} {a : Result Event Refusal} {t₁ o₁ : List ℕ} → x ≡ y
-    → a ≡ event o j (length (out_bytes x)) → t₁ ≡ put_record s t o j x.entry → o₁ ≡ splice out 0 (out_bytes x) → Met (acted s t out o j y) a t₁ o₁
+    → a ≡ event_of o j (length (out_bytes x)) → t₁ ≡ put_record s t o j x.entry → o₁ ≡ splice out 0 (out_bytes x) → Met (acted s t out o j y) a t₁ o₁
 unfolding acted
 acted-is s t out o j e a b c =
     record {
-      answers = a ∙ ap (λ (z : Step). event o j (length (out_bytes z))) e;
+      answers = a ∙ ap (λ (z : Step). event_of o j (length (out_bytes z))) e;
       table = b ∙ ap (λ (z : Step). put_record s t o j z.entry) e;
       room = c ∙ ap (λ (z : Step). splice out 0 (out_bytes z)) e;
     }

@@ -26,8 +26,8 @@ use Rattle.gate.specs.declared.Event.{Event}
 use Rattle.gate.specs.Out.{out_bytes}
 
 -- the answer of an event: the instance and how much was written
-abbrev pub event : ℕ → ℕ → ℕ → Result Event Refusal
-event o j k = Ok (record { owner = o; number = j; written = k })
+abbrev pub event_of : ℕ → ℕ → ℕ → Result Event Refusal
+event_of o j k = Ok (record { owner = o; number = j; written = k })
 
 -- the answer, the table and the room after a call
 pub record Outcome : Type 0 where
@@ -43,7 +43,7 @@ refuse r t out = record { answer = Err r; table = t; out = out }
 unfoldable pub acted : ℕ → List ℕ → List ℕ → ℕ → ℕ → Step → Outcome
 acted s t out o j x =
     record
-    { answer = event o j (length (out_bytes x)); table = put_record s t o j x.entry; out = splice out 0 (out_bytes x) }
+    { answer = event_of o j (length (out_bytes x)); table = put_record s t o j x.entry; out = splice out 0 (out_bytes x) }
 
 -- 1, 11, then 2
 unfoldable pub gate_of : ℕ → ℕ → ℕ → List ℕ → ℕ → Result Unit Refusal

@@ -3,7 +3,7 @@ ghost use Rattle.std.specs.Prelude.{◌≡◌, ◌≤◌, length};
 ghost use Rattle.numbers.specs.Num.{splice};
 ghost use Rattle.table.specs.Sizes.{Has};
 ghost use Rattle.table.specs.Table.{put_record};
-ghost use Rattle.gate.specs.Events.{event};
+ghost use Rattle.gate.specs.Events.{event_of};
 ghost use Rattle.gate.specs.Out.{out_bytes};
 
 use crate::Event;
@@ -22,7 +22,7 @@ pub fn act(
     x: Step,
 ) -> Result<Event, Refusal>
     requires { Has n s o j t.old × (256 ≤ length out.old) × (length (out_bytes x) ≤ 246) }
-    ensures answers { result ≡ event o j (length (out_bytes x)) }
+    ensures answers { result ≡ event_of o j (length (out_bytes x)) }
     ensures table { t.new ≡ put_record s t.old o j x.entry }
     ensures room { out.new ≡ splice out.old 0 (out_bytes x) }
 {
