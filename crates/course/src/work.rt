@@ -1,7 +1,6 @@
 // An event's course at a copy: the library's answer, the save, the sending. A cut takes the rest.
 use crate::restart::with_room;
 use crate::turn::{Turn, halted, went};
-use gate::Answer;
 use paper::Refusal;
 use say::held::put_part;
 use say::message::put_message;
@@ -117,19 +116,29 @@ fn refused(w: Scene, c: usize, b: &[u8], why: Refusal) -> Turn {
     went(w)
 }
 
-fn answered(all: &mut [u8], w: Scene, c: usize, b: &[u8], answer: Answer, room: &[u8]) -> Turn {
+fn answered(
+    all: &mut [u8],
+    w: Scene,
+    c: usize,
+    b: &[u8],
+    answer: Result<gate::Event, Refusal>,
+    room: &[u8],
+) -> Turn {
     match answer {
-        Answer::Refused(why) => refused(w, c, b, why),
-        Answer::Event {
-            owner,
-            number,
-            written,
-        } => save_and_send(all, w, c, owner, number, room, written),
+        Err(why) => refused(w, c, b, why),
+        Ok(done) => save_and_send(all, w, c, done.owner, done.number, room, done.written),
     }
 }
 
 // What the library answers, with the message's bytes where the event is one. It writes into the room.
-fn on_table(t: &mut [u8], w: Scene, c: usize, what: Event, b: &[u8], room: &mut [u8]) -> Answer {
+fn on_table(
+    t: &mut [u8],
+    w: Scene,
+    c: usize,
+    what: Event,
+    b: &[u8],
+    room: &mut [u8],
+) -> Result<gate::Event, Refusal> {
     let n = w.n;
     let s = w.s;
     match what {

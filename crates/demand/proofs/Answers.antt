@@ -9,6 +9,7 @@ use native.Mathlib.Decide.{dec_lt}
 use lib.Dec.{leb, ltb, eqb}
 use lib.ListN.{length, get_or, get_or-eq_default}
 use borrow.Author.Tests.{leb-true, ltb-true, eqb-true, lt-ltb, le-ltb}
+use Rattle.std.specs.Prelude.{Ok}
 use Rattle.paper.specs.Logic.{all_below}
 use Rattle.paper.specs.Instance.{instance_ok}
 use Rattle.paper.specs.Command.{interfere}
@@ -34,7 +35,6 @@ use Rattle.wire.specs.Wire.{message_bytes}
 use Rattle.wire.proofs.Laws.{why_read}
 use Rattle.table.specs.Table.{blank_table, record_in, put_record, Kept}
 use Rattle.table.specs.Calls.{judged}
-use Rattle.table.specs.declared.Judging.TheVariants as judging
 use Rattle.seen.specs.Records.{records_in}
 use Rattle.order.specs.declared.Settling.TheVariants as settling
 use Rattle.order.specs.Calls.{settled, marked_in, handed_table, handed_codes, handed_open, handed}
@@ -196,7 +196,7 @@ module _ (n s c : ℕ) (t : List ℕ) (u : Records) (h : Holds n s c t u) where
       go : (b : Bool) → b ≡ true → cond b (refuse why.Room t out) rest ≡ refuse why.Room t out
       go b e = rw e
 
-  sound-here : judging.Sound ≡ judged n s c t
+  sound-here : Ok tt ≡ judged n s c t
   sound-here = sym (sound-judged n s c t h.kept)
 
   pub settled-does : (o j p k : ℕ) → instance_ok n s o j ≡ true → first_open n s u o j ≡ At p k → settled n s c t o j ≡ settling.Waits p k

@@ -24,8 +24,7 @@ use Rattle.table.specs.Table.{blank_table, record_in, put_record, Kept}
 use Rattle.seen.specs.Records.{records_in}
 use Rattle.closed.specs.Held.{Closed}
 use Rattle.gate.specs.Out.{out_bytes}
-use Rattle.gate.specs.declared.Answer.TheVariants.{Event}
-use Rattle.gate.specs.Events.{Outcome, answer_number, answer_owner, answer_instance, answer_written}
+use Rattle.gate.specs.Events.{event_of, Outcome, answer_number, answer_owner, answer_instance, answer_written}
 use Rattle.gate.specs.Events as log
 use Rattle.gate.proofs.Calls.{setup-of}
 use Rattle.gate.proofs.Held.{out-short}
@@ -314,26 +313,26 @@ module _ (n s : ℕ) (setup : Setup n s) where
 
   -- an answered call names an instance
   pub event-range : (x : State) (y : rules.State) (tie : Tie x y) (c : ℕ) (copy : c < n) (call : Call) (out : List ℕ) (o j w : ℕ) → Possible x.sent call → (x.copies c).listed ≡ []
-      → (outcome n s c (x.copies c).lent out call).answer ≡ Event o j w → instance_ok n s o j ≡ true
+      → (outcome n s c (x.copies c).lent out call).answer ≡ event_of o j w → instance_ok n s o j ≡ true
   unfolding log.acted
   event-range x y tie c copy call out o j w possible none answer-is =
       let memory = in_memory x y tie c copy none in
-      let result : (outcome n s c (saved_table (x.copies c)) out call).answer ≡ Event o j w = ap (λ (v : List ℕ). (outcome n s c v out call).answer) (sym memory) ∙ answer-is in
+      let result : (outcome n s c (saved_table (x.copies c)) out call).answer ≡ event_of o j w = ap (λ (v : List ℕ). (outcome n s c v out call).answer) (sym memory) ∙ answer-is in
       let st = stepped n s c (saved_table (x.copies c)) out ((tie.copies c).kept copy) copy y (tie.copies c).table call (brought x y tie c copy call possible) (ap answer_number result) in
-      let e : Event o j w ≡ Event (owner_in c call) (number_in s c (y.tables c) call) (length (out_bytes (step_in n s c (y.tables c) call))) =
+      let e : event_of o j w ≡ event_of (owner_in c call) (number_in s c (y.tables c) call) (length (out_bytes (step_in n s c (y.tables c) call))) =
       sym result ∙ ap (λ (v : Outcome). v.answer) st.is in
       ap₂ (instance_ok n s) (ap answer_owner e) (ap answer_instance e) ∙ st.range
 
   -- an answered call, as it was answered
   event-next : (x : State) (y : rules.State) (tie : Tie x y) (c : ℕ) (copy : c < n) (call : Call) (out : List ℕ) (o j w : ℕ) → Possible x.sent call → (x.copies c).listed ≡ []
-      → (outcome n s c (x.copies c).lent out call).answer ≡ Event o j w
+      → (outcome n s c (x.copies c).lent out call).answer ≡ event_of o j w
       → Next y (remembered (changed x c (acted n s c (x.copies c) (outcome n s c (x.copies c).lent out call) o j w)) (recorded x.history o j call))
   unfolding log.acted
   event-next x y tie c copy call out o j w possible none answer-is =
       let memory = in_memory x y tie c copy none in
-      let result : (outcome n s c (saved_table (x.copies c)) out call).answer ≡ Event o j w = ap (λ (v : List ℕ). (outcome n s c v out call).answer) (sym memory) ∙ answer-is in
+      let result : (outcome n s c (saved_table (x.copies c)) out call).answer ≡ event_of o j w = ap (λ (v : List ℕ). (outcome n s c v out call).answer) (sym memory) ∙ answer-is in
       let st = stepped n s c (saved_table (x.copies c)) out ((tie.copies c).kept copy) copy y (tie.copies c).table call (brought x y tie c copy call possible) (ap answer_number result) in
-      let e : Event o j w ≡ Event (owner_in c call) (number_in s c (y.tables c) call) (length (out_bytes (step_in n s c (y.tables c) call))) =
+      let e : event_of o j w ≡ event_of (owner_in c call) (number_in s c (y.tables c) call) (length (out_bytes (step_in n s c (y.tables c) call))) =
       sym result ∙ ap (λ (v : Outcome). v.answer) st.is in
       rw (ap answer_owner e, ap answer_instance e, ap answer_written e)
       (record {

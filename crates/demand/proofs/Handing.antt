@@ -7,6 +7,7 @@ use native.Mathlib.Omega.{arith}
 use lib.ListN.{length, take, drop, get_or}
 use lib.Dec.{eqb}
 use borrow.Author.Tests.{eqb-true, not-true}
+use Rattle.std.specs.Prelude.{Ok}
 use Rattle.numbers.proofs.Laws.{splice-same}
 use Rattle.paper.specs.Instance.{instance_ok}
 use Rattle.paper.specs.declared.Record.{Record}
@@ -18,7 +19,6 @@ use Rattle.rules.specs.Order.{is_settled, is_marked, candidate, marked, mark, ne
 use Rattle.rules.proofs.Codes.{code-owner, code-number}
 use Rattle.table.specs.Table.{record_in, put_record, Kept}
 use Rattle.table.specs.Calls.{judged}
-use Rattle.table.specs.declared.Judging.TheVariants as judging
 use Rattle.table.proofs.Laws.{names}
 use Rattle.seen.specs.Records.{records_in}
 use Rattle.closed.specs.Held.{Held}
@@ -32,7 +32,7 @@ use Rattle.demand.specs.Run.{save_of, stored}
 use Rattle.demand.proofs.Range.{Alike, out-alike}
 use Rattle.demand.proofs.Records.{records, at-range, held, saved-record, put-held, put-here, put_other, put-records}
 
-pub sound-judged : (n s c : ℕ) (t : List ℕ) → Kept n s c t → judged n s c t ≡ judging.Sound
+pub sound-judged : (n s c : ℕ) (t : List ℕ) → Kept n s c t → judged n s c t ≡ Ok tt
 unfolding judged
 sound-judged n s c t k = rw (k.setup, k.sound)
 

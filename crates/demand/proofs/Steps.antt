@@ -7,6 +7,7 @@ use native.Mathlib.Omega.{arith}
 use lib.Dec.{ltb}
 use lib.ListN.{length}
 use borrow.Author.Tests.{ltb-false, not-false}
+use Rattle.std.specs.Prelude.{Result, Ok, Err}
 use Rattle.paper.specs.Setup.{setup_ok}
 use Rattle.paper.specs.Instance.{instance_ok}
 use Rattle.paper.specs.Command.{is_noop, command_ok, Interference, interfere, Wide}
@@ -36,10 +37,7 @@ use Rattle.closed.specs.Held.{Closed}
 use Rattle.closed.proofs.Laws.{clash}
 use Rattle.closed.proofs.Heard.{valid-instance}
 use Rattle.closed.proofs.Closed.{request-event, message-event, recover-event, nudge-event}
-use Rattle.gate.specs.declared.Gate.{Gate}
-use Rattle.gate.specs.declared.Gate.TheVariants.{Open, Shut}
-use Rattle.gate.specs.declared.Answer.TheVariants.{Event}
-use Rattle.gate.specs.Events.{Outcome, refuse, acted, gate_of, gated, through, command_of, op_taken, command_taken, asked, request_open, receive_open, recover_open, nudge_open, answer_number}
+use Rattle.gate.specs.Events.{event_of, Outcome, refuse, acted, gate_of, gated, through, command_of, op_taken, command_taken, asked, request_open, receive_open, recover_open, nudge_open, answer_number}
 use Rattle.gate.proofs.Calls.{setup-of, receive-open}
 use Rattle.safety.specs.Run.{replaced}
 use Rattle.safety.specs.Run as rules
@@ -63,7 +61,7 @@ pub gate-is : (n s c : ℕ) (t out : List ℕ) (rest : Outcome) → Kept n s c t
 unfolding gated gate_of
 gate-is n s c t out rest k = rw (k.setup, k.sound) (go (ltb (length out) 256))
   where
-    go : (b : Bool) → through (cond b (Shut why.Room) Open) t out rest ≡ cond b (refuse why.Room t out) rest
+    go : (b : Bool) → through (cond b (Err why.Room) (Ok tt)) t out rest ≡ cond b (refuse why.Room t out) rest
     go true = refl
     go false = refl
 
@@ -133,16 +131,16 @@ public-request n s c t out op key second edit o j w = by (gate_of n s c t (lengt
     k : Command
     k = command_of op key second edit
 
-    taken : (b : Bool) → command_taken op key second edit ≡ b → (cond (not b) (refuse why.Op t out) (asked interfere n s c t out k)).answer ≡ Event o j w
+    taken : (b : Bool) → command_taken op key second edit ≡ b → (cond (not b) (refuse why.Op t out) (asked interfere n s c t out k)).answer ≡ event_of o j w
         → (is_noop k ≡ false) × (command_ok k ≡ true) × (cond (not b) (refuse why.Op t out) (asked interfere n s c t out k) ≡ asked interfere n s c t out k)
     taken true e h = let (some, keys) = command-asked op key second edit e in (some, keys, refl)
     taken false e h = clash (cc)
 
-    by : (g : Gate) → (through g t out (cond (not (command_taken op key second edit)) (refuse why.Op t out) (asked interfere n s c t out k))).answer ≡ Event o j w
+    by : (g : Result Unit Refusal) → (through g t out (cond (not (command_taken op key second edit)) (refuse why.Op t out) (asked interfere n s c t out k))).answer ≡ event_of o j w
         → (is_noop k ≡ false) × (command_ok k ≡ true)
         × (through g t out (cond (not (command_taken op key second edit)) (refuse why.Op t out) (asked interfere n s c t out k)) ≡ through g t out (asked interfere n s c t out k))
-    by Open h = taken (command_taken op key second edit) refl h
-    by (Shut r) h = clash (cc)
+    by (Ok x) h = taken (command_taken op key second edit) refl h
+    by (Err r) h = clash (cc)
 
 pub public-message : PublicMessage
 public-message n s c t out b = refl

@@ -15,9 +15,8 @@ use Rattle.rules.specs.Examples.{write, deps3, votes, added}
 use Rattle.rules.specs.Pins.{vote, held, busy}
 use Rattle.wire.specs.Wire.{message_bytes}
 use Rattle.table.specs.Table.{blank_table, put_record}
-use Rattle.gate.specs.declared.Answer.TheVariants.{Event}
 use Rattle.gate.specs.Out.{all_bytes}
-use Rattle.gate.specs.Events.{Outcome, refuse, requested, received, recovered}
+use Rattle.gate.specs.Events.{event_of, Outcome, refuse, requested, received, recovered}
 use Rattle.order.specs.declared.Settling.TheVariants.{Waits}
 use Rattle.order.specs.declared.Handing.TheVariants.{Codes}
 use Rattle.order.specs.Calls.{settled, handed}
@@ -36,7 +35,7 @@ to_each from b body d (q ∷ l) = about from q b body d ∷ to_each from b body 
 
 -- an event of 0.1: this record is there then, and so many bytes are at the front of the room
 abbrev pub leaves : List ℕ → List ℕ → Record → ℕ → List ℕ → Outcome
-leaves t out r k b = record { answer = Event 0 1 k; table = put_record 4 t 0 1 r; out = splice out 0 b }
+leaves t out r k b = record { answer = event_of 0 1 k; table = put_record 4 t 0 1 r; out = splice out 0 b }
 
 -- three copies: copy 0 after its request, and after an answer that added something; copy 1 after one of its own
 abbrev pub asking_record : ℕ → List Vote → Record

@@ -9,8 +9,7 @@ use Rattle.rules.specs.Order.{instance_of}
 use Rattle.wire.specs.Wire.{length_of, kind_at}
 use Rattle.table.specs.Table.{blank_table}
 use Rattle.table.specs.Calls.{part_of, put_part}
-use Rattle.gate.specs.declared.Answer.TheVariants.{Event}
-use Rattle.gate.specs.Events.{Outcome, gated, command_of, asked, receive_open, recovered, nudged}
+use Rattle.gate.specs.Events.{event_of, Outcome, gated, command_of, asked, receive_open, recovered, nudged}
 use Rattle.gate.specs.Events as log
 use Rattle.order.specs.declared.Settling.{Settling}
 use Rattle.order.specs.declared.Handing.TheVariants.{Codes}
@@ -73,7 +72,7 @@ outcome n s c t out (nudge o j) = nudged n s c t out o j
 -- public-request
 abbrev pub PublicRequest : Type 0
 PublicRequest = (n s c : ℕ) (t out : List ℕ) (op key second edit o j w : ℕ)
-    → (log.requested n s c t out op key second edit).answer ≡ Event o j w
+    → (log.requested n s c t out op key second edit).answer ≡ event_of o j w
     → (is_noop (command_of op key second edit) ≡ false) × (command_ok (command_of op key second edit) ≡ true)
     × (log.requested n s c t out op key second edit ≡ outcome n s c t out (request interfere (command_of op key second edit)))
 
@@ -160,7 +159,7 @@ remembered x l = record { copies = x.copies; sent = x.sent; history = l }
 pub data Move (n s : ℕ) (x : State) : State → Type 0 where
   -- a call that answers an event, with any room; marks that were listed are all saved before it
   event : (c : ℕ) (call : Call) (out : List ℕ) (o j w : ℕ) → c < n → Possible x.sent call → (x.copies c).listed ≡ []
-      → (outcome n s c (x.copies c).lent out call).answer ≡ Event o j w
+      → (outcome n s c (x.copies c).lent out call).answer ≡ event_of o j w
       → Move n s x (remembered (changed x c (acted n s c (x.copies c) (outcome n s c (x.copies c).lent out call) o j w)) (recorded x.history o j call))
   -- a message of a saved event leaves
   leave : (c : ℕ) (b : List ℕ) → c < n → Memᴰ b (x.copies c).leaving

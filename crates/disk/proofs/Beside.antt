@@ -17,8 +17,7 @@ use Rattle.table.specs.Table.{blank_table, record_in, Judged, Kept}
 use Rattle.table.specs.Calls.{part_of}
 use Rattle.table.proofs.Laws.{sizes}
 use Rattle.rules.specs.Order.{is_marked, instance_of}
-use Rattle.gate.specs.declared.Answer.TheVariants.{Event}
-use Rattle.gate.specs.Events.{Outcome}
+use Rattle.gate.specs.Events.{event_of, Outcome}
 use Rattle.order.specs.declared.Settling.{Settling}
 use Rattle.order.specs.declared.Handing.TheVariants.{Codes}
 use Rattle.order.specs.Calls.{settled, handed}
@@ -202,7 +201,7 @@ module _ (n s : ℕ) (setup : Setup n s) where
     on-disk : k.coming ≡ [] → Chain n s c x.sent x.history q (drop k.safe k.disk) d.end
     on-disk e = subst (λ (l : List ℕ). Chain n s c x.sent x.history q l d.end) (ap (λ (l : List ℕ). drop k.safe k.disk ++ l) e ∙ append-nil (drop k.safe k.disk)) d.chain
 
-    module _ (call : Call) (out : List ℕ) (o j z : ℕ) (p : Possible x.sent call) (e : k.coming ≡ []) (a : (outcome n s c k.lent out call).answer ≡ Event o j z) where
+    module _ (call : Call) (out : List ℕ) (o j z : ℕ) (p : Possible x.sent call) (e : k.coming ≡ []) (a : (outcome n s c k.lent out call).answer ≡ event_of o j z) where
       abbrev past : List (Happening Settling)
       past = recorded x.history o j call
 
@@ -212,7 +211,7 @@ module _ (n s : ℕ) (setup : Setup n s) where
       ready : Chain n s c x.sent (recorded x.history o j call) q (drop k.safe k.disk) d.end
       ready = chain_more n s c x.sent x.sent x.history past q (λ b i. i) (kept-past x.history o j call) (on-disk e)
 
-      answers : (outcome n s c d.end.lent out call).answer ≡ Event o j z
+      answers : (outcome n s c d.end.lent out call).answer ≡ event_of o j z
       answers = ap (λ (t : List ℕ). (outcome n s c t out call).answer) d.lent ∙ a
 
       holds : (b : List ℕ) → Memᴰ b (k.leaving ++ (k.held ++ written z (outcome n s c k.lent out call).out)) → Memᴰ b (d.end.leaving ++ written z y.out)

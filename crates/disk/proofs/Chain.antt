@@ -22,7 +22,7 @@ use Rattle.table.proofs.Round.{record-whole, put-get}
 use Rattle.table.proofs.Saved.{part-size, part-of-sound}
 use Rattle.seen.specs.Records.{records_in}
 use Rattle.closed.proofs.Mark.{candidate-committed}
-use Rattle.gate.specs.declared.Answer.TheVariants.{Event}
+use Rattle.gate.specs.Events.{event_of}
 use Rattle.order.specs.declared.Settling.{Settling}
 use Rattle.order.specs.declared.Handing.TheVariants.{Codes}
 use Rattle.order.specs.Calls.{marked_in, handed}
@@ -53,10 +53,10 @@ Asked past o j (nudge p i) = Unit {0}
 pub data Chain (n s c : ℕ) (sent : List (List ℕ)) (past : List (Happening Settling)) (k : place.Copy) : List ℕ → place.Copy → Type 0 where
   still : Chain n s c sent past k [] k
   event : {b : List ℕ} {q : place.Copy} → Chain n s c sent past k b q → (call : Call) (out : List ℕ) (o j w : ℕ) → Possible sent call → Asked past o j call → q.listed ≡ []
-      → (outcome n s c q.lent out call).answer ≡ Event o j w
+      → (outcome n s c q.lent out call).answer ≡ event_of o j w
       → Chain n s c sent past k (b ++ record_entry o j (part_of n s c (outcome n s c q.lent out call).table o j)) (place.acted n s c q (outcome n s c q.lent out call) o j w)
   same : {b : List ℕ} {q : place.Copy} → Chain n s c sent past k b q → (call : Call) (out : List ℕ) (o j w : ℕ) → Possible sent call → Asked past o j call → q.listed ≡ []
-      → (outcome n s c q.lent out call).answer ≡ Event o j w → (outcome n s c q.lent out call).table ≡ q.lent
+      → (outcome n s c q.lent out call).answer ≡ event_of o j w → (outcome n s c q.lent out call).table ≡ q.lent
       → Chain n s c sent past k b (place.acted n s c q (outcome n s c q.lent out call) o j w)
   hand_out : {b : List ℕ} {q : place.Copy} → Chain n s c sent past k b q → (list : List ℕ) (i : ℕ) → q.listed ≡ []
       → (handed n s c q.lent list).answer ≡ Codes i → Chain n s c sent past k b (place.handing q (handed n s c q.lent list) i)
@@ -119,7 +119,7 @@ module _ (n s : ℕ) (setup : Setup n s) (c : ℕ) (copy : c < n) (past : List (
           history = r.history;
         }
 
-    ran-event : (call : Call) (out : List ℕ) (o j w : ℕ) → Possible x.sent call → Asked past o j call → q.listed ≡ [] → (outcome n s c q.lent out call).answer ≡ Event o j w
+    ran-event : (call : Call) (out : List ℕ) (o j w : ℕ) → Possible x.sent call → Asked past o j call → q.listed ≡ [] → (outcome n s c q.lent out call).answer ≡ event_of o j w
         → Ran n s c past x (place.acted n s c q (outcome n s c q.lent out call) o j w)
     ran-event call out o j w p a l e =
         let y : place.State = r.later in
@@ -177,7 +177,7 @@ module _ (n s : ℕ) (setup : Setup n s) (c : ℕ) (copy : c < n) (past : List (
 
     -- an answered call names an instance
     pub ranged : {b : List ℕ} {q : place.Copy} → Chain n s c sent past k b q → (call : Call) (out : List ℕ) (o j w : ℕ) → Possible sent call → q.listed ≡ []
-        → (outcome n s c q.lent out call).answer ≡ Event o j w → instance_ok n s o j ≡ true
+        → (outcome n s c q.lent out call).answer ≡ event_of o j w → instance_ok n s o j ≡ true
     ranged h call out o j w p l e =
         let r = ran at se h in
         let z = bridge n s setup y tie r.run in

@@ -9,14 +9,14 @@ use native.Mathlib.Omega.{arith}
 use lib.Dec.{ltb}
 use lib.ListN.{length}
 use borrow.Author.Tests.{ltb-true, ltb-false}
+use Rattle.std.specs.Prelude.{Result, Ok, Err}
+use Rattle.paper.specs.declared.Refusal.{Refusal}
 use Rattle.paper.specs.Command.{is_noop}
 use Rattle.paper.specs.declared.Command.{Command}
 use Rattle.rules.specs.Order.{is_marked}
 use Rattle.table.specs.Table.{blank_table, record_in}
 use Rattle.table.specs.Calls.{judged}
 use Rattle.gate.specs.Events.{answer_number}
-use Rattle.table.specs.declared.Judging.{Judging}
-use Rattle.table.specs.declared.Judging.TheVariants as judging
 use Rattle.entries.specs.declared.Front.TheVariants as front
 use Rattle.entries.specs.declared.Replaying.TheVariants.{Upto}
 use Rattle.entries.specs.Replay.{Replayed, replayed, replayed_open, replayed_at, replayed_through, end_of, puts}
@@ -37,9 +37,9 @@ none-replayed : (n s c : ℕ) (t : List ℕ) → (replayed n s c t []).table ≡
 unfolding replayed replayed_open end_of puts
 none-replayed n s c t = go (judged n s c t)
   where
-    go : (j : Judging) → (replayed_through j t (replayed_at front.Rest 0 s t [])).table ≡ t
-    go judging.Sound = refl
-    go (judging.Refused r) = refl
+    go : (j : Result Unit Refusal) → (replayed_through j t (replayed_at front.Rest 0 s t [])).table ≡ t
+    go (Ok x) = refl
+    go (Err r) = refl
 
 none-marked : marks_in 0 [] ≡ []
 unfolding marks_in

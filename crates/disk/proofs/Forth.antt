@@ -20,7 +20,7 @@ use Rattle.rules.specs.Step.{is_committed}
 use Rattle.rules.specs.Order.{instance_of}
 use Rattle.seen.specs.Records.{records_in}
 use Rattle.closed.proofs.Mark.{candidate-committed}
-use Rattle.gate.specs.declared.Answer.TheVariants.{Event}
+use Rattle.gate.specs.Events.{event_of}
 use Rattle.order.specs.declared.Settling.{Settling}
 use Rattle.order.specs.declared.Handing.TheVariants.{Codes}
 use Rattle.order.specs.Calls.{marked_in, handed}
@@ -141,7 +141,7 @@ module _ (n s : ℕ) (setup : Setup n s) where
           }
 
       -- each of its moves, on a copy that is k and a table that is u
-      did-event : (call : Call) (out : List ℕ) (o j w : ℕ) (u : List ℕ) → Possible x.sent call → k.coming ≡ [] → k.lent ≡ u → (outcome n s c u out call).answer ≡ Event o j w
+      did-event : (call : Call) (out : List ℕ) (o j w : ℕ) (u : List ℕ) → Possible x.sent call → k.coming ≡ [] → k.lent ≡ u → (outcome n s c u out call).answer ≡ event_of o j w
           → Got (acted n s c k (outcome n s c u out call) o j w) (l ++ t) []
       did-event call out o j w u p e f a =
           let lent : at.lent ≡ u = ap (λ (z : Copy). z.lent) r.here ∙ f in
@@ -354,7 +354,7 @@ module _ (n s : ℕ) (setup : Setup n s) where
     idle m u e = u.coming ∙ ap (λ (l : List ℕ). mark_entries (map instance_of l)) e
 
     -- an event: the call, a cut inside its entry, the call again, its entry written and waited for, and its messages leave
-    module _ (call : Call) (out : List ℕ) (o m w : ℕ) (p : Possible y.sent call) (e : q.listed ≡ []) (a : (outcome n s c q.lent out call).answer ≡ Event o m w) where
+    module _ (call : Call) (out : List ℕ) (o m w : ℕ) (p : Possible y.sent call) (e : q.listed ≡ []) (a : (outcome n s c q.lent out call).answer ≡ event_of o m w) where
       abbrev u : List ℕ
       u = (outcome n s c q.lent out call).table
 

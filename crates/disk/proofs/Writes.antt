@@ -20,7 +20,7 @@ use Rattle.rules.specs.Order.{is_marked, candidate, marked, code_of, instance_of
 use Rattle.rules.proofs.Codes.{code-owner, code-number}
 use Rattle.seen.specs.Records.{records_in}
 use Rattle.closed.proofs.Mark.{Found, candidate-committed, next_out-found}
-use Rattle.gate.specs.declared.Answer.TheVariants.{Event}
+use Rattle.gate.specs.Events.{event_of}
 use Rattle.order.specs.Calls.{marked_in, handed_table, handed_codes, handed}
 use Rattle.entries.specs.Entry.{record_kind, mark_kind, entry_length, record_entry, mark_entry}
 use Rattle.entries.specs.Writing.{gate_of, record_open, mark_open, record_entered, mark_entered}
@@ -106,7 +106,7 @@ module _ (n s : ℕ) (setup : Setup n s) where
       let d = w.sides c l in
       let y = rules-of n s setup w in
       let t : List ℕ = (outcome n s c (x.copies c).lent out call).table in
-      let b : (outcome n s c d.end.lent out call).answer ≡ Event o j z = ap (λ (u : List ℕ). (outcome n s c u out call).answer) d.lent ∙ a in
+      let b : (outcome n s c d.end.lent out call).answer ≡ event_of o j z = ap (λ (u : List ℕ). (outcome n s c u out call).answer) d.lent ∙ a in
       let i = ranged n s setup c l x.history w.state y.rules y.tie refl w.sent d.chain call out o j z p d.none b in
       let m = (move-after n s setup w (event c call out o j z l p e a)).beside in
       let h : Kept n s c t = subst (λ (k : Copy). Kept n s c k.lent) (here-is n s setup x.copies c (acted n s c (x.copies c) (outcome n s c (x.copies c).lent out call) o j z)) (lent-known _ m c l) in

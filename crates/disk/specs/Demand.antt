@@ -3,7 +3,7 @@ use Rattle.std.specs.Prelude.{ℕ, ◌≤◌, ◌<◌, ◌≡◌, length, take}
 use mathlib.Core.List.{List, [], Memᴰ}
 use Rattle.numbers.specs.Num.{splice}
 use Rattle.rules.specs.Order.{instance_of}
-use Rattle.gate.specs.declared.Answer.TheVariants.{Event}
+use Rattle.gate.specs.Events.{event_of}
 use Rattle.order.specs.declared.Handing.TheVariants.{Codes}
 use Rattle.order.specs.Calls.{handed}
 use Rattle.entries.specs.Entry.{record_kind, mark_kind, entry_length, mark_entry}
@@ -52,7 +52,7 @@ module _ (n s : ℕ) where
   -- what is to be written after an event is what the call that writes an entry writes, into any room that it fits in
   abbrev pub EventWrites : Type 0
   EventWrites = (x₀ x : State) → Start n s x₀ → Run n s x₀ x → (c : ℕ) (call : Call) (out : List ℕ) (o j w : ℕ) → c < n → Possible x.sent call → (x.copies c).coming ≡ []
-      → (outcome n s c (x.copies c).lent out call).answer ≡ Event o j w → (room : List ℕ) → entry_length record_kind ≤ length room
+      → (outcome n s c (x.copies c).lent out call).answer ≡ event_of o j w → (room : List ℕ) → entry_length record_kind ≤ length room
       → record_entered n s c (outcome n s c (x.copies c).lent out call).table room o j
       ≡ wrote room (acted n s c (x.copies c) (outcome n s c (x.copies c).lent out call) o j w).coming
 

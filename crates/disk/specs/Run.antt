@@ -6,8 +6,7 @@ use mathlib.Core.List.{List, [], ◌∷◌, ◌++◌, map, Memᴰ}
 use Rattle.table.specs.Table.{blank_table}
 use Rattle.table.specs.Calls.{part_of}
 use Rattle.rules.specs.Order.{instance_of}
-use Rattle.gate.specs.declared.Answer.TheVariants.{Event}
-use Rattle.gate.specs.Events.{Outcome}
+use Rattle.gate.specs.Events.{event_of, Outcome}
 use Rattle.order.specs.declared.Settling.{Settling}
 use Rattle.order.specs.declared.Handing.TheVariants.{Codes}
 use Rattle.order.specs.Calls.{settled, Handed, handed}
@@ -177,11 +176,11 @@ remembered x l = record { copies = x.copies; sent = x.sent; history = l }
 pub data Move (n s : ℕ) (x : State) : State → Type 0 where
   -- a call that answers an event, with any room; the entries of what was before are whole
   event : (c : ℕ) (call : Call) (out : List ℕ) (o j w : ℕ) → c < n → Possible x.sent call → (x.copies c).coming ≡ []
-      → (outcome n s c (x.copies c).lent out call).answer ≡ Event o j w
+      → (outcome n s c (x.copies c).lent out call).answer ≡ event_of o j w
       → Move n s x (remembered (changed x c (acted n s c (x.copies c) (outcome n s c (x.copies c).lent out call) o j w)) (recorded x.history o j call))
   -- one that left the table as it was, without an entry
   same : (c : ℕ) (call : Call) (out : List ℕ) (o j w : ℕ) → c < n → Possible x.sent call → (x.copies c).coming ≡ []
-      → (outcome n s c (x.copies c).lent out call).answer ≡ Event o j w
+      → (outcome n s c (x.copies c).lent out call).answer ≡ event_of o j w
       → (outcome n s c (x.copies c).lent out call).table ≡ (x.copies c).lent
       → Move n s x (remembered (changed x c (quiet (x.copies c) (outcome n s c (x.copies c).lent out call) w)) (recorded x.history o j call))
   -- a hand-out into any list

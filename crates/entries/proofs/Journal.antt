@@ -13,7 +13,6 @@ use Rattle.paper.proofs.Laws.{and-true}
 use Rattle.record.specs.Part.{sound_part}
 use Rattle.table.specs.Table.{record_in, Judged}
 use Rattle.table.specs.Calls.{judged, part_size, put_part}
-use Rattle.table.specs.declared.Judging.TheVariants as judging
 use Rattle.table.proofs.Laws.{sizes}
 use Rattle.rules.specs.Step.{is_committed}
 use Rattle.order.specs.Calls.{marked_in}

@@ -1,13 +1,12 @@
 -- 3/12: what a replay answers, and the table after. Assumes nothing.
 -- n, s: the setup; c: this copy; t: a table; b: a journal, or what is left of one; at: where that begins.
-use Rattle.std.specs.Prelude.{ℕ, zero, suc, ◌+◌, Bool, not, cond, List, [], ◌∷◌, ltb, eqb, length, take, drop}
+use Rattle.std.specs.Prelude.{ℕ, zero, suc, ◌+◌, Bool, not, cond, List, [], ◌∷◌, ltb, eqb, length, take, drop, Result, Ok, Err}
 use Rattle.paper.specs.Instance.{instance_ok}
 use Rattle.paper.specs.Refusal.{number_of}
+use Rattle.paper.specs.declared.Refusal.{Refusal}
 use Rattle.record.specs.Part.{sound_part}
 use Rattle.table.specs.Table.{record_in}
 use Rattle.table.specs.Calls.{judged, put_part}
-use Rattle.table.specs.declared.Judging.{Judging}
-use Rattle.table.specs.declared.Judging.TheVariants as judging
 use Rattle.rules.specs.Step.{is_committed}
 use Rattle.order.specs.Calls.{marked_in}
 use Rattle.entries.specs.declared.Fault.{Fault}
@@ -76,9 +75,9 @@ replayed_at (front.Bad f) at s t b = record { answer = replaying.Bad f at; table
 unfoldable pub replayed_open : ℕ → ℕ → ℕ → List ℕ → List ℕ → Replayed
 replayed_open n s c t b = replayed_at (end_of (length b) n s c t b 0).front (end_of (length b) n s c t b 0).at s t b
 
-abbrev pub replayed_through : Judging → List ℕ → Replayed → Replayed
-replayed_through judging.Sound t rest = rest
-replayed_through (judging.Refused r) t rest = record { answer = replaying.Refused r; table = t }
+abbrev pub replayed_through : Result Unit Refusal → List ℕ → Replayed → Replayed
+replayed_through (Ok x) t rest = rest
+replayed_through (Err r) t rest = record { answer = replaying.Refused r; table = t }
 
 -- 1 and 11 of the lent table, then the first bad entry
 unfoldable pub replayed : ℕ → ℕ → ℕ → List ℕ → List ℕ → Replayed

@@ -1,7 +1,7 @@
 -- The public calls for events: what each answers, and every lent byte after. Assumes nothing.
 -- n, s: the setup; c: this copy; t: the table's bytes; out: the room for outgoing bytes; w: what interferes, of which the calls
 -- have `interfere`.
-use Rattle.std.specs.Prelude.{ℕ, ◌≤◌, ◌≡◌, Bool, true, ◌&&◌, not, cond, List, leb, ltb, length}
+use Rattle.std.specs.Prelude.{ℕ, ◌≤◌, ◌≡◌, Bool, true, ◌&&◌, not, cond, List, leb, ltb, length, Result, Ok, Err}
 use Rattle.numbers.specs.Num.{splice}
 use Rattle.codec.specs.Parts.{op_of}
 use Rattle.paper.specs.Instance.{instance_ok}
@@ -22,36 +22,37 @@ use Rattle.wire.specs.declared.Reading.TheVariants as reading
 use Rattle.wire.specs.Calls as wire
 use Rattle.table.specs.Table.{fits_setup, sound_table, record_in, put_record}
 use Rattle.seen.specs.Records.{records_in}
-use Rattle.gate.specs.declared.Answer.{Answer}
-use Rattle.gate.specs.declared.Answer.TheVariants.{Event, Refused}
-use Rattle.gate.specs.declared.Gate.{Gate}
-use Rattle.gate.specs.declared.Gate.TheVariants.{Open, Shut}
+use Rattle.gate.specs.declared.Event.{Event}
 use Rattle.gate.specs.Out.{out_bytes}
+
+-- the answer of an event: the instance and how much was written
+abbrev pub event_of : ℕ → ℕ → ℕ → Result Event Refusal
+event_of o j k = Ok (record { owner = o; number = j; written = k })
 
 -- the answer, the table and the room after a call
 pub record Outcome : Type 0 where
-  pub answer : Answer
+  pub answer : Result Event Refusal
   pub table : List ℕ
   pub out : List ℕ
 
 -- a refusal leaves all lent memory as at entry
 abbrev pub refuse : Refusal → List ℕ → List ℕ → Outcome
-refuse r t out = record { answer = Refused r; table = t; out = out }
+refuse r t out = record { answer = Err r; table = t; out = out }
 
 -- the instance and how much was written; of the table the record alone changes, of the room what was written
 unfoldable pub acted : ℕ → List ℕ → List ℕ → ℕ → ℕ → Step → Outcome
 acted s t out o j x =
     record
-    { answer = Event o j (length (out_bytes x)); table = put_record s t o j x.entry; out = splice out 0 (out_bytes x) }
+    { answer = event_of o j (length (out_bytes x)); table = put_record s t o j x.entry; out = splice out 0 (out_bytes x) }
 
 -- 1, 11, then 2
-unfoldable pub gate_of : ℕ → ℕ → ℕ → List ℕ → ℕ → Gate
+unfoldable pub gate_of : ℕ → ℕ → ℕ → List ℕ → ℕ → Result Unit Refusal
 gate_of n s c t room =
-    cond (not (fits_setup n s c t)) (Shut why.Setup) (cond (not (sound_table n s c t)) (Shut why.Unsound) (cond (ltb room 256) (Shut why.Room) Open))
+    cond (not (fits_setup n s c t)) (Err why.Setup) (cond (not (sound_table n s c t)) (Err why.Unsound) (cond (ltb room 256) (Err why.Room) (Ok tt)))
 
-abbrev pub through : Gate → List ℕ → List ℕ → Outcome → Outcome
-through Open t out rest = rest
-through (Shut r) t out rest = refuse r t out
+abbrev pub through : Result Unit Refusal → List ℕ → List ℕ → Outcome → Outcome
+through (Ok x) t out rest = rest
+through (Err r) t out rest = refuse r t out
 
 -- 1, 11, 2, then the rest
 unfoldable pub gated : ℕ → ℕ → ℕ → List ℕ → List ℕ → Outcome → Outcome
@@ -120,25 +121,25 @@ abbrev pub nudged : ℕ → ℕ → ℕ → List ℕ → List ℕ → ℕ → �
 nudged n s c t out o j = gated n s c t out (nudge_open n s c t out o j)
 
 -- the paper's number of an answer, 0 for an event, and its values
-abbrev pub answer_number : Answer → ℕ
-answer_number (Event o j k) = 0
-answer_number (Refused r) = number_of r
+abbrev pub answer_number : Result Event Refusal → ℕ
+answer_number (Ok e) = 0
+answer_number (Err r) = number_of r
 
-abbrev pub answer_owner : Answer → ℕ
-answer_owner (Event o j k) = o
-answer_owner (Refused r) = 0
+abbrev pub answer_owner : Result Event Refusal → ℕ
+answer_owner (Ok e) = e.owner
+answer_owner (Err r) = 0
 
-abbrev pub answer_instance : Answer → ℕ
-answer_instance (Event o j k) = j
-answer_instance (Refused r) = 0
+abbrev pub answer_instance : Result Event Refusal → ℕ
+answer_instance (Ok e) = e.number
+answer_instance (Err r) = 0
 
-abbrev pub answer_written : Answer → ℕ
-answer_written (Event o j k) = k
-answer_written (Refused r) = 0
+abbrev pub answer_written : Result Event Refusal → ℕ
+answer_written (Ok e) = e.written
+answer_written (Err r) = 0
 
-abbrev pub answer_offset : Answer → ℕ
-answer_offset (Event o j k) = 0
-answer_offset (Refused r) = offset_in r
+abbrev pub answer_offset : Result Event Refusal → ℕ
+answer_offset (Ok e) = 0
+answer_offset (Err r) = offset_in r
 
 -- what a call past the gate rests on
 pub record Passed (n s c : ℕ) (t : List ℕ) (room : ℕ) : Type 0 where

@@ -2,21 +2,16 @@
 ghost use Rattle.std.specs.Prelude.{◌≡◌};
 ghost use Rattle.gate.specs.Events.{gate_of};
 
-use crate::Gate;
 use paper::Refusal;
-use table::{fits_setup, sound_table};
+use table::judge_table;
 
-pub fn gate_of(t: &[u8], n: usize, s: usize, c: usize, room: usize) -> Gate
+#[tactic(auto, unfolding(crate::specs::Events::gate_of, table::specs::Calls::judged))]
+pub fn gate_of(t: &[u8], n: usize, s: usize, c: usize, room: usize) -> Result<(), Refusal>
     ensures { result ≡ gate_of n s c t.now room }
 {
-    if !fits_setup(t, n, s, c) {
-        return Gate::Shut(Refusal::Setup);
-    }
-    if !sound_table(t, n, s, c) {
-        return Gate::Shut(Refusal::Unsound);
-    }
+    judge_table(t, n, s, c)?;
     if room < 256 {
-        return Gate::Shut(Refusal::Room);
+        return Err(Refusal::Room);
     }
-    Gate::Open
+    Ok(())
 }

@@ -1,25 +1,14 @@
 // What the public calls for events share: the gate, what an event does last, and sending.
 #![tactic(auto)]
 
-use paper::Refusal;
-
 pub mod act;
 pub mod entrance;
 pub mod send;
 
+// An event that took place: its instance, and how many bytes of messages were written.
 #[derive(Clone, Copy)]
-pub enum Answer {
-    Event {
-        owner: usize,
-        number: usize,
-        written: usize,
-    },
-    Refused(Refusal),
-}
-
-// Whether a call's table and room are taken.
-#[derive(Clone, Copy)]
-pub enum Gate {
-    Open,
-    Shut(Refusal),
+pub struct Event {
+    pub owner: usize,
+    pub number: usize,
+    pub written: usize,
 }

@@ -7,42 +7,22 @@ ghost use Rattle.paper.specs.Vote.{member};
 ghost use Rattle.wire.specs.Wire.{length_of, message_bytes};
 ghost use Rattle.gate.specs.Out.{all_bytes, Turn};
 
-use nouns::logic::wide8;
 use nouns::message::kind_of;
 use nouns::vote::member;
 use paper::Message;
 use wire::{length_of, message_bytes};
 
-fn small(q: usize) -> u8
-    requires { q < 256 }
-    ensures { result ≡ q }
-{
-    q as u8
-}
-
 fn addressed(m: Message, q: usize) -> Message
     requires { q < 7 }
     ensures { result ≡ addressed m q }
 {
-    let body = m.body;
-    let deps = m.deps;
-    let to = small(q);
-    Message {
-        from: m.from,
-        to,
-        owner: m.owner,
-        number: m.number,
-        ballot: m.ballot,
-        body,
-        deps,
-    }
+    Message { to: q as u8, ..m }
 }
 
 fn size_of(m: Message) -> usize
     ensures { result ≡ length_of (kind_of m.body) }
 {
-    let body = m.body;
-    length_of(wide8(kind_of(body)))
+    length_of(kind_of(m.body) as usize)
 }
 
 // Copy q's turn: its message at `at`, if it is in the set; where the next one starts.
@@ -65,10 +45,8 @@ pub fn send_all(out: &mut [u8], to: u8, m: Message) -> usize
     ensures room { out.new ≡ splice out.old 0 (all_bytes (messages_from 7 0 to m)) }
 {
     let mut at = 0;
-    let mut q = 0;
-    while q < 7 {
+    for q in 0..7 {
         at = send_one(&mut *out, at, q, to, m);
-        q += 1;
     }
     at
 }

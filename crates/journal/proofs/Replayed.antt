@@ -10,11 +10,11 @@ use native.Mathlib.Nat.{eq-or-lt_of_le}
 use lib.Dec.{eqb}
 use lib.ListN.{length, get_or, take, drop, length-drop, take-append-drop, get_or-append}
 use lib.Seq.{take-append-le, drop-append-le, length-take-le}
+use Rattle.std.specs.Prelude.{Ok, Err}
 use Rattle.paper.specs.Instance.{instance_ok}
 use Rattle.paper.specs.declared.Refusal.{Refusal}
 use Rattle.record.specs.Part.{sound_part}
 use Rattle.table.specs.Calls.{part_size, judged, put_part}
-use Rattle.table.specs.declared.Judging.TheVariants as judging
 use Rattle.order.specs.Calls.{marked_in}
 use Rattle.entries.specs.declared.Fault.{Fault}
 use Rattle.entries.specs.declared.Front.{Front}
@@ -213,11 +213,11 @@ module _ (n s c : ℕ) (t b : List ℕ) {x : Ended} (e : x ≡ end_of (length b)
 
 -- 1 and 11, and past them
 module _ (n s c : ℕ) (t b : List ℕ) where
-  pub replay-refused : (r : Refusal) → judging.Refused r ≡ judged n s c t → Met (replayed n s c t b) (replaying.Refused r) t
+  pub replay-refused : (r : Refusal) → Err r ≡ judged n s c t → Met (replayed n s c t b) (replaying.Refused r) t
   unfolding replayed
   replay-refused r e = rw (← e) (record { answers = refl; table = refl })
 
-  pub replay-past : judging.Sound ≡ judged n s c t → {x : Replaying} {t₁ : List ℕ}
+  pub replay-past : Ok tt ≡ judged n s c t → {x : Replaying} {t₁ : List ℕ}
       → Met (replayed_open n s c t b) x t₁ → Met (replayed n s c t b) x t₁
   unfolding replayed
   replay-past e p = rw (← e) p

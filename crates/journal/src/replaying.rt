@@ -8,7 +8,7 @@ use crate::entry::{RECORD, entry_length, kind_in, number_in, owner_in, part_in};
 use crate::judging::end_of;
 use entries::{Ended, Front, Replaying};
 use table::records::{put_mark, put_part};
-use table::{Judging, judge_table};
+use table::judge_table;
 
 // Puts the entry in front into the table.
 fn put_entry(t: &mut [u8], n: usize, s: usize, b: &[u8])
@@ -56,8 +56,7 @@ pub fn replay(t: &mut [u8], n: usize, s: usize, c: usize, b: &[u8]) -> Replaying
     ensures answers { result ≡ (replayed n s c t.old b.now).answer }
     ensures table { t.new ≡ (replayed n s c t.old b.now).table }
 {
-    let judging = judge_table(&*t, n, s, c);
-    if let Judging::Refused(why) = judging {
+    if let Err(why) = judge_table(&*t, n, s, c) {
         return Replaying::Refused(why);
     }
     replay_open(t, n, s, c, b)

@@ -27,7 +27,6 @@ module _ (n s c : ℕ) (t out : List ℕ) (o j : ℕ) where
       out-short n s c setup _ (nudge-event n s c setup (records_in s t) (sound-records n s c t b p.setup p.sound) o j i k).sent
 
   -- the step that was taken is the rule's
-  pub nudge-step : {bc bo bj : ℕ} {r : Record} {x : Step} → bc ≡ c → bo ≡ o → bj ≡ j → r ≡ record_in s t o j
-      → x ≡ nudge n bc bo bj r → x ≡ on_nudge n c (records_in s t) o j
+  pub nudge-step : {r : Record} {x : Step} → r ≡ record_in s t o j → x ≡ nudge n c o j r → x ≡ on_nudge n c (records_in s t) o j
   unfolding on_nudge
-  nudge-step ec eo ej er ex = rw (ex, er, ec, eo, ej)
+  nudge-step er ex = rw (ex, er)

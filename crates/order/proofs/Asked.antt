@@ -5,6 +5,7 @@ use mathlib.Core.Bool.{true, false}
 use mathlib.Core.List.{List}
 use native.Mathlib.Omega.{arith}
 use lib.ListN.{get_or, replicate}
+use Rattle.std.specs.Prelude.{Ok, Err}
 use Rattle.paper.specs.Instance.{instance_ok}
 use Rattle.paper.specs.declared.Record.{Record}
 use Rattle.paper.specs.declared.Refusal.{Refusal}
@@ -13,7 +14,6 @@ use Rattle.rules.specs.declared.First.TheVariants.{At, Nowhere}
 use Rattle.rules.specs.Order.{first_open}
 use Rattle.table.specs.Table.{record_in}
 use Rattle.table.specs.Calls.{judged}
-use Rattle.table.specs.declared.Judging.TheVariants as judging
 use Rattle.table.proofs.Laws.{sizes, names}
 use Rattle.seen.specs.Records.{records_in}
 use Rattle.reach.specs.High.{Explored}
@@ -64,10 +64,10 @@ module _ (n s c : ℕ) (t : List ℕ) (o j : ℕ) where
   unfolding settled_open
   settled-gives i e er = rw (i, ← e, er)
 
-  pub settled-refused : (r : Refusal) → judging.Refused r ≡ judged n s c t → Refused r ≡ settled n s c t o j
+  pub settled-refused : (r : Refusal) → Err r ≡ judged n s c t → Refused r ≡ settled n s c t o j
   unfolding settled
   settled-refused r e = rw (← e)
 
-  pub settled-past : judging.Sound ≡ judged n s c t → {x : Settling} → x ≡ settled_open n s t o j → x ≡ settled n s c t o j
+  pub settled-past : Ok tt ≡ judged n s c t → {x : Settling} → x ≡ settled_open n s t o j → x ≡ settled n s c t o j
   unfolding settled
   settled-past e p = rw (← e) p

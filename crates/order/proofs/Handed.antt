@@ -4,13 +4,13 @@ use mathlib.Core.Path.{◌≡◌, refl, ap, ◌∙◌}
 use mathlib.Core.List.{List}
 use native.Mathlib.Omega.{arith}
 use lib.ListN.{length, get_or, replicate, length-replicate}
+use Rattle.std.specs.Prelude.{Ok, Err}
 use Rattle.numbers.specs.Num.{splice}
 use Rattle.codec.specs.Parts.{deps_at}
 use Rattle.paper.specs.declared.Refusal.{Refusal}
 use Rattle.numbers.specs.Num.{Bytes}
 use Rattle.table.specs.Table.{Whole}
 use Rattle.table.specs.Calls.{judged}
-use Rattle.table.specs.declared.Judging.TheVariants as judging
 use Rattle.table.proofs.Laws.{sizes}
 use Rattle.table.proofs.Round.{record-whole}
 use Rattle.seen.specs.Records.{records_in}
@@ -93,12 +93,12 @@ unfolding handed_open
 handed-gives n s t list (e, f) = (ap Codes e, f)
 
 module _ (n s c : ℕ) (t list : List ℕ) where
-  pub handed-refused : (r : Refusal) → judging.Refused r ≡ judged n s c t
+  pub handed-refused : (r : Refusal) → Err r ≡ judged n s c t
       → (Refused r ≡ (handed n s c t list).answer) × ((t ≡ (handed n s c t list).table) × (list ≡ (handed n s c t list).list))
   unfolding handed
   handed-refused r e = rw (← e) (refl, (refl, refl))
 
-  pub handed-past : judging.Sound ≡ judged n s c t → {x : Handing} {t₁ l₁ : List ℕ}
+  pub handed-past : Ok tt ≡ judged n s c t → {x : Handing} {t₁ l₁ : List ℕ}
       → (x ≡ (handed_open n s t list).answer) × ((t₁ ≡ (handed_open n s t list).table) × (l₁ ≡ (handed_open n s t list).list))
       → (x ≡ (handed n s c t list).answer) × ((t₁ ≡ (handed n s c t list).table) × (l₁ ≡ (handed n s c t list).list))
   unfolding handed

@@ -6,6 +6,7 @@ use mathlib.Core.List.{List}
 use native.Mathlib.Omega.{arith}
 use lib.ListN.{get_or, length}
 use borrow.Author.Tests.{leb-true, lt-ltb}
+use Rattle.std.specs.Prelude.{Result, Ok, Err}
 use Rattle.paper.specs.Deps.{entry_limit, entry_ok, deps_ok}
 use Rattle.paper.specs.Vote.{voted_ok, status_ok, vote_ok}
 use Rattle.paper.specs.Command.{command_ok}
@@ -18,7 +19,6 @@ use Rattle.table.specs.Place.{table_length}
 use Rattle.table.specs.Sizes.{Names}
 use Rattle.table.specs.Table.{fits_setup, sound_table, record_in}
 use Rattle.table.specs.Calls.{judged}
-use Rattle.table.specs.declared.Judging.TheVariants as judging
 use Rattle.table.proofs.Laws.{sizes}
 use Rattle.table.proofs.Round.{record-sound}
 use Rattle.seen.specs.Records.{records_in}
@@ -40,10 +40,10 @@ entry-fits n s c o r h q l7 ln =
     let m = leb-true (get_or r.vote.deps q 0) (entry_limit n s q) (all_below-at 7 (entry_ok n s r.vote.deps) k q l7) in
     rw (lt-ltb q n ln) at m
 
-clash : {A : Type 0} (r : Refusal) → judging.Sound ≡ judging.Refused r → A
+clash : {A : Type 0} (r : Refusal) → ◌≡◌ {A = Result Unit Refusal} (Ok tt) (Err r) → A
 clash r e = let z : ◌≡◌ {A = ℕ} 0 1 = cc in absurd (omega arith)
 
-pub passed : (n s c : ℕ) (t : List ℕ) → judging.Sound ≡ judged n s c t → Judged n s c t
+pub passed : (n s c : ℕ) (t : List ℕ) → Ok tt ≡ judged n s c t → Judged n s c t
 unfolding judged
 passed n s c t e = go (fits_setup n s c t) (sound_table n s c t) refl refl
   where

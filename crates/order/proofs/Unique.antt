@@ -5,17 +5,17 @@ use mathlib.Core.List.{List}
 use Prim.Native.Nat.{ℕ}
 use native.Mathlib.Omega.{arith}
 use lib.ListN.{get_or}
+use Rattle.std.specs.Prelude.{Result, Ok, Err}
 use Rattle.paper.proofs.Laws.{op_number-apart}
 use Rattle.paper.proofs.Numbers.{number-apart, number_of-pos}
 use Rattle.paper.specs.Instance.{instance_ok}
+use Rattle.paper.specs.declared.Refusal.{Refusal}
 use Rattle.paper.specs.declared.Refusal.TheVariants.{Instance}
 use Rattle.rules.specs.Order.{found, first_open}
 use Rattle.rules.specs.declared.First.{First}
 use Rattle.rules.specs.declared.First.TheVariants.{At, Nowhere}
 use Rattle.table.specs.Table.{record_in}
 use Rattle.table.specs.Calls.{judged, judging_number}
-use Rattle.table.specs.declared.Judging.{Judging}
-use Rattle.table.specs.declared.Judging.TheVariants as judging
 use Rattle.table.proofs.Unique.{judged-plain}
 use Rattle.seen.specs.Records.{records_in}
 use Rattle.order.specs.declared.Settling.{Settling}
@@ -59,9 +59,9 @@ handing-apart (handing.Refused r) (handing.Codes k) e v m = absurd (omega (arith
 handing-apart (handing.Refused r) (handing.Refused t) e v m = ap handing.Refused (number-apart r t e m)
 
 -- what the table's judge refuses is no 35
-through : (x : Judging) → (judging_number x ≡ 35 → ⊥) → (rest : Settling) → (settling_number rest ≡ 35 → ⊥) → settling_number (settled_through x rest) ≡ 35 → ⊥
-through judging.Sound p rest q e = q e
-through (judging.Refused r) p rest q e = p e
+through : (x : Result Unit Refusal) → (judging_number x ≡ 35 → ⊥) → (rest : Settling) → (settling_number rest ≡ 35 → ⊥) → settling_number (settled_through x rest) ≡ 35 → ⊥
+through (Ok x) p rest q e = q e
+through (Err r) p rest q e = p e
 
 pub settled_plain : (n s c : ℕ) (t : List ℕ) (o j : ℕ) → settling_number (settled n s c t o j) ≡ 35 → ⊥
 unfolding settled settled_open
@@ -77,6 +77,6 @@ pub handed-plain : (n s c : ℕ) (t list : List ℕ) → handing_number (handed 
 unfolding handed handed_open
 handed-plain n s c t list = go (judged n s c t) (judged-plain n s c t)
   where
-    go : (x : Judging) → (judging_number x ≡ 35 → ⊥) → handing_number (handed_through x t list (handed_open n s t list)).answer ≡ 35 → ⊥
-    go judging.Sound p e = omega arith
-    go (judging.Refused r) p e = p e
+    go : (x : Result Unit Refusal) → (judging_number x ≡ 35 → ⊥) → handing_number (handed_through x t list (handed_open n s t list)).answer ≡ 35 → ⊥
+    go (Ok x) p e = omega arith
+    go (Err r) p e = p e

@@ -1,16 +1,15 @@
 -- What the settled question and the hand-out answer, and every lent byte and place after. Assumes nothing.
 -- n, s: the setup; c: this copy; t: the table's bytes; list: the lent list of codes.
-use Rattle.std.specs.Prelude.{ℕ, zero, suc, not, cond, List, [], ◌∷◌, length}
+use Rattle.std.specs.Prelude.{ℕ, zero, suc, not, cond, List, [], ◌∷◌, length, Result, Ok, Err}
 use Rattle.numbers.specs.Num.{splice}
 use Rattle.paper.specs.Command.{op_number}
 use Rattle.paper.specs.Instance.{instance_ok}
 use Rattle.paper.specs.Refusal.{number_of}
+use Rattle.paper.specs.declared.Refusal.{Refusal}
 use Rattle.paper.specs.declared.Refusal.TheVariants.{Instance}
 use Rattle.rules.specs.Order.{found, first_open, next_out, marked, hand_out}
 use Rattle.table.specs.Table.{record_in, put_record}
 use Rattle.table.specs.Calls.{judged}
-use Rattle.table.specs.declared.Judging.{Judging}
-use Rattle.table.specs.declared.Judging.TheVariants as judging
 use Rattle.seen.specs.Records.{records_in}
 use Rattle.order.specs.declared.Settling.{Settling}
 use Rattle.order.specs.declared.Settling.TheVariants as settling
@@ -18,9 +17,9 @@ use Rattle.order.specs.declared.Handing.{Handing}
 use Rattle.order.specs.declared.Handing.TheVariants as handing
 
 -- 1, 11, then the rest
-abbrev pub settled_through : Judging → Settling → Settling
-settled_through judging.Sound rest = rest
-settled_through (judging.Refused r) rest = settling.Refused r
+abbrev pub settled_through : Result Unit Refusal → Settling → Settling
+settled_through (Ok x) rest = rest
+settled_through (Err r) rest = settling.Refused r
 
 -- Settled: 6, then the command, or the uncommitted instance that comes first
 unfoldable pub settled_open : ℕ → ℕ → List ℕ → ℕ → ℕ → Settling
@@ -50,9 +49,9 @@ pub record Handed : Type 0 where
   pub table : List ℕ
   pub list : List ℕ
 
-abbrev pub handed_through : Judging → List ℕ → List ℕ → Handed → Handed
-handed_through judging.Sound t list rest = rest
-handed_through (judging.Refused r) t list rest = record { answer = handing.Refused r; table = t; list = list }
+abbrev pub handed_through : Result Unit Refusal → List ℕ → List ℕ → Handed → Handed
+handed_through (Ok x) t list rest = rest
+handed_through (Err r) t list rest = record { answer = handing.Refused r; table = t; list = list }
 
 -- Hand-out: the list's first places are the codes, the later ones keep their contents
 unfoldable pub handed_open : ℕ → ℕ → List ℕ → List ℕ → Handed

@@ -13,7 +13,7 @@ use rows::slot_of;
 use rules::First;
 use sweep::reach_all;
 use table::records::put_mark;
-use table::{Judging, judge_table};
+use table::judge_table;
 
 // The mark is one byte of the record: the rest of the table stays.
 fn marked_in(t: &mut [u8], n: usize, s: usize, o: usize, j: usize)
@@ -77,8 +77,7 @@ pub fn hand_out(t: &mut [u8], n: usize, s: usize, c: usize, list: &mut [u16]) ->
     ensures table { t.new ≡ (handed n s c t.old list.old).table }
     ensures list { list.new ≡ (handed n s c t.old list.old).list }
 {
-    let judging = judge_table(&*t, n, s, c);
-    if let Judging::Refused(why) = judging {
+    if let Err(why) = judge_table(&*t, n, s, c) {
         return Handing::Refused(why);
     }
     hand_out_open(t, n, s, c, list)

@@ -9,7 +9,7 @@ use paper::Refusal;
 use rules::First;
 use search::{explore, first_open};
 use table::records::load;
-use table::{Judging, judge_table};
+use table::judge_table;
 
 // Past 1 and 11.
 fn settled_open(t: &[u8], n: usize, s: usize, c: usize, o: usize, j: usize) -> Settling
@@ -34,8 +34,7 @@ fn settled_open(t: &[u8], n: usize, s: usize, c: usize, o: usize, j: usize) -> S
 pub fn settled(t: &[u8], n: usize, s: usize, c: usize, o: usize, j: usize) -> Settling
     ensures { result ≡ settled n s c t.now o j }
 {
-    let judging = judge_table(t, n, s, c);
-    if let Judging::Refused(why) = judging {
+    if let Err(why) = judge_table(t, n, s, c) {
         return Settling::Refused(why);
     }
     settled_open(t, n, s, c, o, j)

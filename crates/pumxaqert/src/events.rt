@@ -3,24 +3,21 @@ ghost use Rattle.std.specs.Prelude.{◌≡◌};
 ghost use Rattle.gate.specs.Events.{requested, received, recovered, nudged, answer_number};
 ghost use Rattle.pumxaqert.specs.Flat.{answer_values};
 
-use gate::Answer;
+use gate::Event;
 use nouns::refusal::{number_of, offset_in};
+use paper::Refusal;
 
 // The refusal's number with the offset of a bad field, or 0 with the instance and the bytes written.
-fn give(a: Answer, values: &mut [usize; 4]) -> u32
+fn give(a: Result<Event, Refusal>, values: &mut [usize; 4]) -> u32
     ensures number { result ≡ answer_number a }
     ensures values { values.new ≡ answer_values a }
 {
     match a {
-        Answer::Event {
-            owner,
-            number,
-            written,
-        } => {
-            *values = [owner, number, written, 0];
+        Ok(event) => {
+            *values = [event.owner, event.number, event.written, 0];
             0
         }
-        Answer::Refused(why) => {
+        Err(why) => {
             *values = [0, 0, 0, offset_in(why)];
             number_of(why)
         }

@@ -3,17 +3,16 @@ ghost use Rattle.std.specs.Prelude.{◌≡◌};
 ghost use Rattle.table.specs.Calls.{blanked, blanked_table, judged, part_start, part_length, length_of, blanking_number, judging_number};
 
 use nouns::refusal::number_of;
-use table::{Blanking, Judging, part_length, part_start};
+use table::{part_length, part_start};
 
 #[unsafe(no_mangle)]
 pub extern "C" fn pumxaqert_blank(table: &mut [u8], n: usize, s: usize, c: usize) -> u32
     ensures number { result ≡ blanking_number (blanked n s c table.old) }
     ensures table { table.new ≡ blanked_table n s c table.old }
 {
-    let x = table::blank_table(table, n, s, c);
-    match x {
-        Blanking::Blank => 0,
-        Blanking::Refused(why) => number_of(why),
+    match table::blank_table(table, n, s, c) {
+        Ok(()) => 0,
+        Err(why) => number_of(why),
     }
 }
 
@@ -21,10 +20,9 @@ pub extern "C" fn pumxaqert_blank(table: &mut [u8], n: usize, s: usize, c: usize
 pub extern "C" fn pumxaqert_judge(table: &[u8], n: usize, s: usize, c: usize) -> u32
     ensures { result ≡ judging_number (judged n s c table.now) }
 {
-    let x = table::judge_table(table, n, s, c);
-    match x {
-        Judging::Sound => 0,
-        Judging::Refused(why) => number_of(why),
+    match table::judge_table(table, n, s, c) {
+        Ok(()) => 0,
+        Err(why) => number_of(why),
     }
 }
 

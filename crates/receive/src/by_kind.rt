@@ -14,7 +14,6 @@ use follow::accept::accept;
 use follow::commit::{commit, differs};
 use follow::pre_accept::pre_accept;
 use follow::prepare::prepare;
-use gate::act::byte;
 use lead::accept_ok::on_accept_ok;
 use lead::nack::nack;
 use lead::pre_accept_ok::on_pre_accept_ok;
@@ -46,7 +45,7 @@ fn on_proposal(t: &[u8], n: usize, s: usize, c: usize, r: Record, m: Message, k:
     ensures { result ≡ pre_accept c m.owner m.number r m k (seen interfere n s (records_in s t.now) m.owner m.number k) }
 {
     let seen = seen_for(t, n, s, c, m, k);
-    pre_accept(byte(c), m.owner, m.number, r, m, k, seen)
+    pre_accept(c as u8, m.owner, m.number, r, m, k, seen)
 }
 
 // With the reply collected: at F+1 replies, own included, the lead decides.
@@ -58,7 +57,7 @@ fn prepared_by(t: &[u8], n: usize, s: usize, c: usize, r: Record, m: Message) ->
         return silent(r);
     }
     let seen = seen_for(t, n, s, c, m, afresh_command(r));
-    decide(n, byte(c), m.owner, m.number, r, seen)
+    decide(n, c as u8, m.owner, m.number, r, seen)
 }
 
 fn on_prepare_ok(t: &[u8], n: usize, s: usize, c: usize, r: Record, m: Message) -> Step
@@ -78,7 +77,7 @@ pub fn receive(t: &[u8], n: usize, s: usize, c: usize, r: Record, m: Message) ->
     let o = m.owner;
     let j = m.number;
     let body = m.body;
-    let own = byte(c);
+    let own = c as u8;
     match body {
         Body::PreAccept(k) => on_proposal(t, n, s, c, r, m, k),
         Body::PreAcceptOk => on_pre_accept_ok(n, own, o, j, r, m),

@@ -5,16 +5,23 @@ ghost use Rattle.gate.specs.Events.{Passed, heard, receive_open, received};
 ghost use Rattle.receive.specs.Message.{Hearing};
 
 use crate::by_kind::{receive, refused10};
+use gate::Event;
 use gate::act::act;
 use gate::entrance::gate_of;
-use gate::{Answer, Gate};
 use nouns::logic::{wide8, wide16};
 use paper::{Message, Refusal};
 use table::records::load;
 use wire::{Reading, read_message};
 
 // A valid message.
-fn hear(t: &mut [u8], out: &mut [u8], n: usize, s: usize, c: usize, m: Message) -> Answer
+fn hear(
+    t: &mut [u8],
+    out: &mut [u8],
+    n: usize,
+    s: usize,
+    c: usize,
+    m: Message,
+) -> Result<Event, Refusal>
     requires { Hearing n s c t.old (length out.old) m }
     ensures answers { result ≡ (heard interfere n s c t.old out.old m).answer }
     ensures table { t.new ≡ (heard interfere n s c t.old out.old m).table }
@@ -24,14 +31,21 @@ fn hear(t: &mut [u8], out: &mut [u8], n: usize, s: usize, c: usize, m: Message) 
     let j = wide16(m.number);
     let r = load(&*t, n, s, o, j);
     if refused10(r, m) {
-        return Answer::Refused(Refusal::OtherCommit);
+        return Err(Refusal::OtherCommit);
     }
     let x = receive(&*t, n, s, c, r, m);
     act(t, out, n, s, o, j, x)
 }
 
 // Past the gate.
-fn message_open(t: &mut [u8], out: &mut [u8], n: usize, s: usize, c: usize, b: &[u8]) -> Answer
+fn message_open(
+    t: &mut [u8],
+    out: &mut [u8],
+    n: usize,
+    s: usize,
+    c: usize,
+    b: &[u8],
+) -> Result<Event, Refusal>
     requires { Passed n s c t.old (length out.old) }
     ensures answers { result ≡ (receive_open interfere n s c t.old out.old b.now).answer }
     ensures table { t.new ≡ (receive_open interfere n s c t.old out.old b.now).table }
@@ -40,20 +54,25 @@ fn message_open(t: &mut [u8], out: &mut [u8], n: usize, s: usize, c: usize, b: &
     let x = read_message(n, s, c, b);
     let reading = x.answer;
     if let Reading::Refused(why) = reading {
-        return Answer::Refused(why);
+        return Err(why);
     }
     let m = x.message;
     hear(t, out, n, s, c, m)
 }
 
-pub fn message(t: &mut [u8], n: usize, s: usize, c: usize, out: &mut [u8], b: &[u8]) -> Answer
+#[tactic(auto, unfolding(gate::specs::Events::gated), using(gate::proofs::Calls::passed))]
+pub fn message(
+    t: &mut [u8],
+    n: usize,
+    s: usize,
+    c: usize,
+    out: &mut [u8],
+    b: &[u8],
+) -> Result<Event, Refusal>
     ensures answers { result ≡ (received n s c t.old out.old b.now).answer }
     ensures table { t.new ≡ (received n s c t.old out.old b.now).table }
     ensures room { out.new ≡ (received n s c t.old out.old b.now).out }
 {
-    let gate = gate_of(&*t, n, s, c, out.len());
-    if let Gate::Shut(why) = gate {
-        return Answer::Refused(why);
-    }
+    gate_of(&*t, n, s, c, out.len())?;
     message_open(t, out, n, s, c, b)
 }

@@ -28,7 +28,6 @@ module _ (n s c : ℕ) (t out : List ℕ) (o j : ℕ) where
       out-short n s c setup _ (recover-event n s c setup (records_in s t) (sound-records n s c t b p.setup p.sound) o j i k l).sent
 
   -- the step that was taken is the rule's
-  pub recover-step : {bc bo bj : ℕ} {r : Record} {x : Step} → bc ≡ c → bo ≡ o → bj ≡ j → r ≡ record_in s t o j
-      → x ≡ recover n bc bo bj r → x ≡ on_recover n c (records_in s t) o j
+  pub recover-step : {r : Record} {x : Step} → r ≡ record_in s t o j → x ≡ recover n c o j r → x ≡ on_recover n c (records_in s t) o j
   unfolding on_recover
-  recover-step ec eo ej er ex = rw (ex, er, ec, eo, ej)
+  recover-step er ex = rw (ex, er)

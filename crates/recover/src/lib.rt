@@ -4,15 +4,16 @@
 ghost use Rattle.std.specs.Prelude.{◌≡◌, length};
 ghost use Rattle.gate.specs.Events.{Passed, recover_open, recovered};
 
-use gate::act::{act, byte, short};
+use gate::Event;
+use gate::act::act;
 use gate::entrance::gate_of;
-use gate::{Answer, Gate};
 use nouns::setup::instance_ok;
 use paper::Refusal;
 use step::made::is_committed;
 use table::records::load;
 
 // Past the gate.
+#[tactic(auto, unfolding(gate::specs::Events::recover_open, gate::specs::Events::acted))]
 fn recover_open(
     t: &mut [u8],
     out: &mut [u8],
@@ -21,26 +22,27 @@ fn recover_open(
     c: usize,
     o: usize,
     j: usize,
-) -> Answer
+) -> Result<Event, Refusal>
     requires { Passed n s c t.old (length out.old) }
     ensures answers { result ≡ (recover_open n s c t.old out.old o j).answer }
     ensures table { t.new ≡ (recover_open n s c t.old out.old o j).table }
     ensures room { out.new ≡ (recover_open n s c t.old out.old o j).out }
 {
     if !instance_ok(n, s, o, j) {
-        return Answer::Refused(Refusal::Instance);
+        return Err(Refusal::Instance);
     }
     let r = load(&*t, n, s, o, j);
     if is_committed(r) {
-        return Answer::Refused(Refusal::RecoverCommitted);
+        return Err(Refusal::RecoverCommitted);
     }
     if 4_294_967_288 <= r.joined {
-        return Answer::Refused(Refusal::BallotsUsedUp);
+        return Err(Refusal::BallotsUsedUp);
     }
-    let x = lead::preparing::recover(n, byte(c), byte(o), short(j), r);
+    let x = lead::preparing::recover(n, c as u8, o as u8, j as u16, r);
     act(t, out, n, s, o, j, x)
 }
 
+#[tactic(auto, unfolding(gate::specs::Events::gated), using(gate::proofs::Calls::passed))]
 pub fn recover(
     t: &mut [u8],
     n: usize,
@@ -49,14 +51,11 @@ pub fn recover(
     out: &mut [u8],
     o: usize,
     j: usize,
-) -> Answer
+) -> Result<Event, Refusal>
     ensures answers { result ≡ (recovered n s c t.old out.old o j).answer }
     ensures table { t.new ≡ (recovered n s c t.old out.old o j).table }
     ensures room { out.new ≡ (recovered n s c t.old out.old o j).out }
 {
-    let gate = gate_of(&*t, n, s, c, out.len());
-    if let Gate::Shut(why) = gate {
-        return Answer::Refused(why);
-    }
+    gate_of(&*t, n, s, c, out.len())?;
     recover_open(t, out, n, s, c, o, j)
 }

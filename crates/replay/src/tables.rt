@@ -1,7 +1,8 @@
 // The calls on one table: judge, blank and part. The table's bytes are lent, as many as the longest table has.
 use crate::play::Setup;
 use nouns::logic::{both, either};
-use table::{Blanking, Judging, part_start};
+use paper::Refusal;
+use table::part_start;
 use text::bytes::{behind, checksum, fill, front, front_mut, low8, write};
 use text::forms::Read;
 use text::put::{Text, bad_line, empty, put_bytes, put_number, put_refused};
@@ -28,10 +29,10 @@ fn set(t: &mut [u8], w: Setup, o: usize, j: usize, at: usize, bytes: &[u8]) {
     write(behind(t, start), at, bytes);
 }
 
-fn put_judging(answer: Judging) -> Text {
+fn put_judging(answer: Result<(), Refusal>) -> Text {
     match answer {
-        Judging::Sound => put_bytes(empty(), b"= sound"),
-        Judging::Refused(why) => put_refused(put_bytes(empty(), b"="), why),
+        Ok(()) => put_bytes(empty(), b"= sound"),
+        Err(why) => put_refused(put_bytes(empty(), b"="), why),
     }
 }
 
@@ -60,10 +61,10 @@ pub fn judge(got: Read, w: Setup, t: &mut [u8]) -> Text {
     judge_in(front_mut(t, length), w, got)
 }
 
-fn put_blanking(answer: Blanking) -> Text {
+fn put_blanking(answer: Result<(), Refusal>) -> Text {
     match answer {
-        Blanking::Blank => put_bytes(empty(), b"= blank"),
-        Blanking::Refused(why) => put_refused(put_bytes(empty(), b"="), why),
+        Ok(()) => put_bytes(empty(), b"= blank"),
+        Err(why) => put_refused(put_bytes(empty(), b"="), why),
     }
 }
 

@@ -50,29 +50,16 @@ module _ (n s c : ℕ) (t out : List ℕ) where
       (request-event n s c setup (records_in s t) (sound-records n s c t b h.passed.setup h.passed.sound) interfere k h.ok h.fits h.edit u).sent
 
   module _ (op key second edit : ℕ) where
-    pub small-op : op_taken op ≡ true → op < 256
-    small-op e = omega (arith, leb-true op 3 (and-true (leb 1 op) (leb op 3) e).1)
-
     -- the command as it is made of the arguments
     abbrev made : Op → Command
     made x = record { op = x; key = key; second = second; edit = edit }
 
-    -- taken with its op and its keys, and refused by either
-    pub bad-op : op_taken op ≡ false → command_taken op key second edit ≡ false
-    bad-op e = rw e
-
-    pub bad-keys : {x : Op} → x ≡ op_of op → op_taken op ≡ true → second_ok (made x) ≡ false → command_taken op key second edit ≡ false
-    bad-keys ex e f = rw (e, ← ex) f
-
-    pub good : {x : Op} → x ≡ op_of op → op_taken op ≡ true → second_ok (made x) ≡ true → command_taken op key second edit ≡ true
-    good ex e f = rw (e, ← ex) f
-
     -- a command that is taken is no no-op
-    pub asking : Passed n s c t (length out) → key < 256 ^ 4 → second < 256 ^ 4 → edit < 256 ^ 8 → {x : Op} → x ≡ op_of op → op_taken op ≡ true → second_ok (made x) ≡ true
+    pub asking : Passed n s c t (length out) → key < 256 ^ 4 → second < 256 ^ 4 → edit < 256 ^ 8 → {x : Op} → x ≡ op_of op → 1 ≤ op → second_ok (made x) ≡ true
         → Asking n s c t (length out) (made x)
     unfolding command_ok
     asking p hk hs he {x} ex e f =
-        let some : eqb (op_number x) 0 ≡ false = ap (λ (o : Op). eqb (op_number o) 0) ex ∙ some-op op (leb-true 1 op (and-true (leb 1 op) (leb op 3) e).0) in
+        let some : eqb (op_number x) 0 ≡ false = ap (λ (o : Op). eqb (op_number o) 0) ex ∙ some-op op e in
         record { passed = p; ok = rw (some, f); fits = record { key = hk; second = hs; edit = he }; edit = some }
       where
         some-op : (o : ℕ) → 1 ≤ o → eqb (op_number (op_of o)) 0 ≡ false

@@ -10,11 +10,10 @@ ghost use Rattle.request.specs.Request.{Asking};
 
 use crate::lowest::request_number;
 use codec::op_of;
-use gate::act::{act, byte, short};
+use gate::Event;
+use gate::act::act;
 use gate::entrance::gate_of;
-use gate::{Answer, Gate};
 use nouns::command::second_ok;
-use nouns::logic::{at_most, both};
 use nouns::vote::no_vote;
 use paper::{Command, Record, Refusal};
 use rules::Step;
@@ -33,12 +32,19 @@ fn on_request(t: &[u8], n: usize, s: usize, c: usize, j: usize, k: Command) -> S
     ensures { result ≡ on_request interfere n s c (records_in s t.now) k }
 {
     let seen = seen(t, n, s, c, c, j, k);
-    let own = byte(c);
-    afresh(n, own, own, short(j), blank(), k, seen)
+    let own = c as u8;
+    afresh(n, own, own, j as u16, blank(), k, seen)
 }
 
 // A command that is taken: 5, then the step.
-fn ask(t: &mut [u8], out: &mut [u8], n: usize, s: usize, c: usize, k: Command) -> Answer
+fn ask(
+    t: &mut [u8],
+    out: &mut [u8],
+    n: usize,
+    s: usize,
+    c: usize,
+    k: Command,
+) -> Result<Event, Refusal>
     requires { Asking n s c t.old (length out.old) k }
     ensures answers { result ≡ (asked interfere n s c t.old out.old k).answer }
     ensures table { t.new ≡ (asked interfere n s c t.old out.old k).table }
@@ -46,13 +52,14 @@ fn ask(t: &mut [u8], out: &mut [u8], n: usize, s: usize, c: usize, k: Command) -
 {
     let j = request_number(&*t, n, s, c);
     if s < j {
-        return Answer::Refused(Refusal::NoBlank);
+        return Err(Refusal::NoBlank);
     }
     let x = on_request(&*t, n, s, c, j, k);
     act(t, out, n, s, c, j, x)
 }
 
 // Past the gate.
+#[tactic(auto, unfolding(gate::specs::Events::request_open))]
 fn request_open(
     t: &mut [u8],
     out: &mut [u8],
@@ -63,28 +70,28 @@ fn request_open(
     key: u32,
     second: u32,
     edit: u64,
-) -> Answer
+) -> Result<Event, Refusal>
     requires { Passed n s c t.old (length out.old) }
     ensures answers { result ≡ (request_open n s c t.old out.old op key second edit).answer }
     ensures table { t.new ≡ (request_open n s c t.old out.old op key second edit).table }
     ensures room { out.new ≡ (request_open n s c t.old out.old op key second edit).out }
 {
-    if !both(at_most(1, op), at_most(op, 3)) {
-        return Answer::Refused(Refusal::Op);
+    if op < 1 || 3 < op {
+        return Err(Refusal::Op);
     }
-    let taken = op_of(byte(op));
     let k = Command {
-        op: taken,
+        op: op_of(op as u8),
         key,
         second,
         edit,
     };
     if !second_ok(k) {
-        return Answer::Refused(Refusal::Op);
+        return Err(Refusal::Op);
     }
     ask(t, out, n, s, c, k)
 }
 
+#[tactic(auto, unfolding(gate::specs::Events::gated), using(gate::proofs::Calls::passed))]
 pub fn request(
     t: &mut [u8],
     n: usize,
@@ -95,14 +102,11 @@ pub fn request(
     key: u32,
     second: u32,
     edit: u64,
-) -> Answer
+) -> Result<Event, Refusal>
     ensures answers { result ≡ (requested n s c t.old out.old op key second edit).answer }
     ensures table { t.new ≡ (requested n s c t.old out.old op key second edit).table }
     ensures room { out.new ≡ (requested n s c t.old out.old op key second edit).out }
 {
-    let gate = gate_of(&*t, n, s, c, out.len());
-    if let Gate::Shut(why) = gate {
-        return Answer::Refused(why);
-    }
+    gate_of(&*t, n, s, c, out.len())?;
     request_open(t, out, n, s, c, op, key, second, edit)
 }

@@ -1,7 +1,7 @@
 // The calls for events: request, message, recover and nudge.
 use crate::kept::keep_record;
 use crate::told::{Outcome, Told, said};
-use gate::Answer;
+use gate::Event;
 use nouns::logic::both;
 use paper::Refusal;
 use text::bytes::{front, low32};
@@ -12,35 +12,27 @@ pub fn put_no(why: Refusal) -> Text {
     put_refused(put_bytes(empty(), b"="), why)
 }
 
-fn put_answer(answer: Answer, room: &[u8]) -> Text {
+fn put_answer(answer: Result<Event, Refusal>, room: &[u8]) -> Text {
     match answer {
-        Answer::Refused(why) => put_no(why),
-        Answer::Event {
-            owner,
-            number,
-            written,
-        } => put_hex(
-            put_form(empty(), b"= event # #", [owner, number, 0, 0]),
+        Err(why) => put_no(why),
+        Ok(event) => put_hex(
+            put_form(empty(), b"= event # #", [event.owner, event.number, 0, 0]),
             room,
-            written,
+            event.written,
         ),
     }
 }
 
 // What happened goes into the journal.
-fn kept(w: Told, answer: Answer, t: &[u8], d: &mut [u8]) -> Told {
+fn kept(w: Told, answer: Result<Event, Refusal>, t: &[u8], d: &mut [u8]) -> Told {
     match answer {
-        Answer::Refused(_) => w,
-        Answer::Event {
-            owner,
-            number,
-            written: _,
-        } => keep_record(w, t, d, owner, number),
+        Err(_) => w,
+        Ok(event) => keep_record(w, t, d, event.owner, event.number),
     }
 }
 
 // The numbers of a request: op, key, second key, edit.
-fn ask(v: [usize; NUMBERS], w: Told, t: &mut [u8], room: &mut [u8]) -> Answer {
+fn ask(v: [usize; NUMBERS], w: Told, t: &mut [u8], room: &mut [u8]) -> Result<Event, Refusal> {
     let key = low32(v[2]);
     let second = low32(v[3]);
     let edit = wide(v[4]);
@@ -48,7 +40,7 @@ fn ask(v: [usize; NUMBERS], w: Told, t: &mut [u8], room: &mut [u8]) -> Answer {
 }
 
 // The library's answer, by the place of the call's form.
-fn answer_of(got: Read, w: Told, t: &mut [u8], room: &mut [u8]) -> Answer {
+fn answer_of(got: Read, w: Told, t: &mut [u8], room: &mut [u8]) -> Result<Event, Refusal> {
     let v = got.v;
     let bytes = got.bytes;
     let form = got.form;

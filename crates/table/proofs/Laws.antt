@@ -36,6 +36,9 @@ setup-bounds n s c h =
     let m = and-true (leb 1 s) (leb s 64) q.1 in
     (k.0, k.1, leb-true 1 s m.0, leb-true s 64 m.1, ltb-true c n p.1)
 
+pub setup_small : (n s c : ℕ) → setup_ok n s c ≡ true → (n ≤ 7) × (s ≤ 64)
+setup_small n s c h = let b = setup-bounds n s c h in (b.1, b.3)
+
 pub sizes : (n s c : ℕ) (t : List ℕ) → fits_setup n s c t ≡ true → Sizes n s c t
 unfolding fits_setup
 sizes n s c t h =

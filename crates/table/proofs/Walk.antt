@@ -49,61 +49,22 @@ past-few n s t o (suc i) = go (idle_ok n s (part_at t (place_at s o i))) (past-f
     go true h = omega arith
     go false h = omega arith
 
--- the first `left` of the k records are still to be looked at, and end at `at`
-pub record PastLeft (n s o k : ℕ) (t : List ℕ) (left at : ℕ) : Type 0 where
-  pub names : Names n s o k
-  pub long : length t ≡ table_length n s
-  pub so : past_idle n s t o k ≡ past_idle n s t o left
-  pub few : left ≤ k
-  pub end : at ≡ place_at s o left
+-- one record of the walk down
+step : (n s o : ℕ) (t : List ℕ) (left : ℕ) → 0 < left → past_idle n s t o left ≡ cond (idle_ok n s (part_at t (place_of s o left))) (past_idle n s t o (left - 1)) left
+unfolding past_idle
+step n s o t zero h = absurd (omega arith)
+step n s o t (suc i) h = let e : suc i - 1 ≡ i = omega arith in rw e
 
-module _ (n s o k : ℕ) (t : List ℕ) where
-  pub past-start : Names n s o k → length t ≡ table_length n s → {p : ℕ} → p ≡ place_of s o k → PastLeft n s o k t k (p + record_length)
-  unfolding place_at
-  past-start h l e = let f = h.first in record { names = h; long = l; so = refl; few = omega arith; end = omega arith }
+module _ (n s o : ℕ) (t : List ℕ) (left : ℕ) {x : ℕ} (so : x ≡ past_idle n s t o left) where
+  pub past_next : 0 < left → idle_ok n s (part_at t (place_of s o left)) ≡ true → x ≡ past_idle n s t o (left - 1)
+  past_next h p = so ∙ step n s o t left h ∙ rw p
 
-  -- the bounds that the walk needs
-  pub past-bounds : (left at : ℕ) → PastLeft n s o k t left at → 0 < left → (record_length ≤ at) × (at ≤ length t) × (at - (at - record_length) ≡ record_length)
-  unfolding place_at
-  past-bounds left at j h =
-      let e = j.end in
-      let l = j.long in
-      let r = row-end n s o j.names.owner in
-      let f = j.few in
-      let g = j.names.last in
-      (omega arith, omega arith, omega arith)
+  pub past_stop : 0 < left → idle_ok n s (part_at t (place_of s o left)) ≡ false → left ≡ x
+  past_stop h p = sym (so ∙ step n s o t left h ∙ rw p)
 
-  -- the part that was looked at is the record's
-  past-part : (left at : ℕ) → PastLeft n s o k t left at → 0 < left → take (at - (at - record_length)) (drop (at - record_length) t) ≡ part_at t (place_at s o (left - 1))
-  unfolding place_at
-  past-part left at j h =
-      let e = j.end in
-      let b = (past-bounds left at j h).2 in
-      let p : at - record_length ≡ head_length + record_length * (o * s + (left - 1)) = omega arith in
-      ap (λ (k : ℕ). take k (drop (at - record_length) t)) b ∙ ap (λ (k : ℕ). take record_length (drop k t)) p
-
-  step : (left : ℕ) → 0 < left → past_idle n s t o left ≡ cond (idle_ok n s (part_at t (place_at s o (left - 1)))) (past_idle n s t o (left - 1)) left
+  pub past-none : left ≡ 0 → 0 ≡ x
   unfolding past_idle
-  step zero h = absurd (omega arith)
-  step (suc i) h = let e : suc i - 1 ≡ i = omega arith in rw e
-
-  pub past_next : (left at : ℕ) → PastLeft n s o k t left at → 0 < left → idle_ok n s (take (at - (at - record_length)) (drop (at - record_length) t)) ≡ true
-      → PastLeft n s o k t (left - 1) (at - record_length)
-  unfolding place_at
-  past_next left at j h p =
-      let q : idle_ok n s (part_at t (place_at s o (left - 1))) ≡ true = sym (ap (idle_ok n s) (past-part left at j h)) ∙ p in
-      let e = j.end in
-      record { names = j.names; long = j.long; so = j.so ∙ step left h ∙ rw q; few = omega (arith, j.few); end = omega arith }
-
-  pub past_stop : (left at : ℕ) → PastLeft n s o k t left at → 0 < left → idle_ok n s (take (at - (at - record_length)) (drop (at - record_length) t)) ≡ false
-      → left ≡ past_idle n s t o k
-  past_stop left at j h p =
-      let q : idle_ok n s (part_at t (place_at s o (left - 1))) ≡ false = sym (ap (idle_ok n s) (past-part left at j h)) ∙ p in
-      sym (j.so ∙ step left h ∙ rw q)
-
-  pub past-none : (left at : ℕ) → PastLeft n s o k t left at → left ≡ 0 → 0 ≡ past_idle n s t o k
-  unfolding past_idle
-  past-none left at j e = sym (j.so ∙ rw e)
+  past-none e = sym (so ∙ rw e)
 
 -- the first `left` records of the row are still to be judged
 pub record RowLeft (n s c o : ℕ) (t : List ℕ) (left : ℕ) : Type 0 where

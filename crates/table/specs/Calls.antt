@@ -1,30 +1,26 @@
 -- What the calls on a whole table answer, and every lent byte after. Assumes nothing.
-use Rattle.std.specs.Prelude.{ℕ, ◌&&◌, not, cond, List, []}
+use Rattle.std.specs.Prelude.{ℕ, ◌&&◌, not, cond, List, [], Result, Ok, Err}
 use Rattle.numbers.specs.Num.{splice}
 use Rattle.paper.specs.Setup.{setup_ok}
 use Rattle.paper.specs.Instance.{instance_ok}
 use Rattle.paper.specs.Refusal.{number_of}
+use Rattle.paper.specs.declared.Refusal.{Refusal}
 use Rattle.paper.specs.declared.Refusal.TheVariants.{Setup, Unsound}
 use Rattle.paper.specs.declared.Record.{Record}
 use Rattle.record.specs.Layout.{record_length, record_at}
-use Rattle.table.specs.declared.Blanking.{Blanking}
-use Rattle.table.specs.declared.Blanking.TheVariants as blanking
-use Rattle.table.specs.declared.Judging.{Judging}
-use Rattle.table.specs.declared.Judging.TheVariants as judging
 use Rattle.table.specs.Place.{table_length, place_of, part_at}
 use Rattle.table.specs.Table.{fits_setup, sound_table, blank_table}
 
 -- refusal 1 only, and nothing is written then
-unfoldable pub blanked : ℕ → ℕ → ℕ → List ℕ → Blanking
-blanked n s c t = cond (fits_setup n s c t) blanking.Blank (blanking.Refused Setup)
+unfoldable pub blanked : ℕ → ℕ → ℕ → List ℕ → Result Unit Refusal
+blanked n s c t = cond (fits_setup n s c t) (Ok tt) (Err Setup)
 
 unfoldable pub blanked_table : ℕ → ℕ → ℕ → List ℕ → List ℕ
 blanked_table n s c t = cond (fits_setup n s c t) (blank_table n s c) t
 
 -- 1, then 11
-unfoldable pub judged : ℕ → ℕ → ℕ → List ℕ → Judging
-judged n s c t =
-    cond (not (fits_setup n s c t)) (judging.Refused Setup) (cond (not (sound_table n s c t)) (judging.Refused Unsound) judging.Sound)
+unfoldable pub judged : ℕ → ℕ → ℕ → List ℕ → Result Unit Refusal
+judged n s c t = cond (not (fits_setup n s c t)) (Err Setup) (cond (not (sound_table n s c t)) (Err Unsound) (Ok tt))
 
 -- what a host saves of o.j: its record's bytes, none where setup or instance is bad
 unfoldable pub part_of : ℕ → ℕ → ℕ → List ℕ → ℕ → ℕ → List ℕ
@@ -54,10 +50,10 @@ unfoldable pub put_part : ℕ → List ℕ → ℕ → ℕ → List ℕ → List
 put_part s t o j part = splice t (place_of s o j) part
 
 -- the paper's number of an answer, 0 for none
-abbrev pub blanking_number : Blanking → ℕ
-blanking_number blanking.Blank = 0
-blanking_number (blanking.Refused r) = number_of r
+abbrev pub blanking_number : Result Unit Refusal → ℕ
+blanking_number (Ok x) = 0
+blanking_number (Err r) = number_of r
 
-abbrev pub judging_number : Judging → ℕ
-judging_number judging.Sound = 0
-judging_number (judging.Refused r) = number_of r
+abbrev pub judging_number : Result Unit Refusal → ℕ
+judging_number (Ok x) = 0
+judging_number (Err r) = number_of r

@@ -11,7 +11,6 @@ ghost use Rattle.table.specs.Table.{fits_setup, head_is, past_idle, sound_row, s
 ghost use Rattle.table.specs.Calls.{blanked, blanked_table, judged, part_of, part_start, part_length, length_of};
 ghost use Rattle.table.specs.Sizes.{Sizes, Row, Names, Has};
 
-use nouns::logic::{both, equal, wide8};
 use nouns::setup::{instance_ok, setup_ok};
 use paper::Refusal;
 use record::places::LENGTH;
@@ -30,18 +29,6 @@ pub const HEAD: usize = COPY + 1;
 // The longest table.
 pub const LONGEST: usize = HEAD + LENGTH * nouns::setup::INSTANCES;
 
-#[derive(Clone, Copy)]
-pub enum Blanking {
-    Blank,
-    Refused(Refusal),
-}
-
-#[derive(Clone, Copy)]
-pub enum Judging {
-    Sound,
-    Refused(Refusal),
-}
-
 fn times(n: usize, s: usize) -> usize
     requires { (n ≤ 7) × (s ≤ 64) }
     ensures { (result ≡ n * s) × (result ≤ 448) }
@@ -57,6 +44,7 @@ fn table_length(n: usize, s: usize) -> usize
 }
 
 // How long a table of the setup is; 0 of a bad setup.
+#[tactic(auto, unfolding(crate::specs::Calls::length_of), using(crate::proofs::Laws::setup_small))]
 pub fn length_of(n: usize, s: usize) -> usize
     ensures { result ≡ length_of n s }
 {
@@ -67,6 +55,7 @@ pub fn length_of(n: usize, s: usize) -> usize
 }
 
 // What refusal 1 asks.
+#[tactic(auto, unfolding(crate::specs::Table::fits_setup), using(crate::proofs::Laws::setup_small))]
 pub fn fits_setup(t: &[u8], n: usize, s: usize, c: usize) -> bool
     ensures { result ≡ fits_setup n s c t.now }
 {
@@ -95,16 +84,14 @@ fn part(t: &[u8], n: usize, s: usize, o: usize, j: usize) -> &[u8]
     &t[at..end]
 }
 
+#[tactic(auto, unfolding(crate::specs::Table::head_is, numbers::specs::Num::num_at))]
 fn head_is(t: &[u8], n: usize, s: usize, c: usize) -> bool
     requires { head_length ≤ length t.now }
     ensures { result ≡ head_is n s c t.now }
 {
-    let copies = equal(wide8(numbers::get_u8(t, COPIES)), n);
-    let numbers = equal(wide8(numbers::get_u8(t, NUMBERS)), s);
-    both(
-        both(copies, numbers),
-        equal(wide8(numbers::get_u8(t, COPY)), c),
-    )
+    t[COPIES] as usize == n
+        && t[NUMBERS] as usize == s
+        && t[COPY] as usize == c
 }
 
 // What is left of the first k records of owner o's row when those at their end that are idle and right are passed over:
@@ -113,15 +100,10 @@ fn past_idle(t: &[u8], n: usize, s: usize, o: usize, k: usize) -> usize
     requires { Names n s o k × (length t.now ≡ table_length n s) }
     ensures { result ≡ past_idle n s t.now o k }
 {
-    let mut left = k;
-    let mut at = place_of(n, s, o, k) + LENGTH;
-    while 0 < left {
-        let end = at;
-        at -= LENGTH;
-        if !record::idle_ok(&t[at..end], n, s) {
+    for left in (1..k + 1).rev() {
+        if !record::idle_ok(part(t, n, s, o, left), n, s) {
             return left;
         }
-        left -= 1;
     }
     0
 }
@@ -156,10 +138,8 @@ fn rows_sound(t: &[u8], n: usize, s: usize, c: usize) -> bool
     requires { Sizes n s c t.now }
     ensures { result ≡ all_below n (sound_row n s c t.now) }
 {
-    let mut left = n;
-    while 0 < left {
-        left -= 1;
-        if !sound_row(t, n, s, c, left) {
+    for o in (0..n).rev() {
+        if !sound_row(t, n, s, c, o) {
             return false;
         }
     }
@@ -167,41 +147,26 @@ fn rows_sound(t: &[u8], n: usize, s: usize, c: usize) -> bool
 }
 
 // The table is sound; its setup and length were asked before.
+#[tactic(auto, unfolding(crate::specs::Table::sound_table))]
 pub fn sound_table(t: &[u8], n: usize, s: usize, c: usize) -> bool
     requires { Sizes n s c t.now }
     ensures { result ≡ sound_table n s c t.now }
 {
-    both(head_is(t, n, s, c), rows_sound(t, n, s, c))
+    head_is(t, n, s, c) && rows_sound(t, n, s, c)
 }
 
 // Judges a table: 1, then 11.
-pub fn judge_table(t: &[u8], n: usize, s: usize, c: usize) -> Judging
+#[tactic(auto, unfolding(crate::specs::Calls::judged), using(crate::proofs::Laws::sizes))]
+pub fn judge_table(t: &[u8], n: usize, s: usize, c: usize) -> Result<(), Refusal>
     ensures { result ≡ judged n s c t.now }
 {
     if !fits_setup(t, n, s, c) {
-        return Judging::Refused(Refusal::Setup);
+        return Err(Refusal::Setup);
     }
     if !sound_table(t, n, s, c) {
-        return Judging::Refused(Refusal::Unsound);
+        return Err(Refusal::Unsound);
     }
-    Judging::Sound
-}
-
-fn clear(t: &mut [u8])
-    ensures { t.new ≡ replicate (length t.old) 0 }
-{
-    let mut i = 0;
-    while i < t.len() {
-        t[i] = 0;
-        i += 1;
-    }
-}
-
-fn small(x: usize) -> u8
-    requires { x < 256 }
-    ensures { result ≡ x }
-{
-    x as u8
+    Ok(())
 }
 
 // The head and blank records.
@@ -209,31 +174,33 @@ fn put_blank(t: &mut [u8], n: usize, s: usize, c: usize)
     requires { Sizes n s c t.old }
     ensures { t.new ≡ blank_table n s c }
 {
-    clear(&mut *t);
-    numbers::put_u8(&mut *t, COPIES, small(n));
-    numbers::put_u8(&mut *t, NUMBERS, small(s));
-    numbers::put_u8(&mut *t, COPY, small(c));
+    t.fill(0);
+    t[COPIES] = n as u8;
+    t[NUMBERS] = s as u8;
+    t[COPY] = c as u8;
 }
 
 // Writes a blank table.
-pub fn blank_table(t: &mut [u8], n: usize, s: usize, c: usize) -> Blanking
+#[tactic(auto, unfolding(crate::specs::Calls::blanked, crate::specs::Calls::blanked_table), using(crate::proofs::Laws::sizes))]
+pub fn blank_table(t: &mut [u8], n: usize, s: usize, c: usize) -> Result<(), Refusal>
     ensures answers { result ≡ blanked n s c t.old }
     ensures table { t.new ≡ blanked_table n s c t.old }
 {
     if !fits_setup(&*t, n, s, c) {
-        return Blanking::Refused(Refusal::Setup);
+        return Err(Refusal::Setup);
     }
     put_blank(t, n, s, c);
-    Blanking::Blank
+    Ok(())
 }
 
 fn has_part(t: &[u8], n: usize, s: usize, c: usize, o: usize, j: usize) -> bool
     ensures { result ≡ (fits_setup n s c t.now && instance_ok n s o j) }
 {
-    both(fits_setup(t, n, s, c), instance_ok(n, s, o, j))
+    fits_setup(t, n, s, c) && instance_ok(n, s, o, j)
 }
 
 // What a host saves of o.j: its record's bytes, none where setup or instance is bad.
+#[tactic(auto, unfolding(crate::specs::Calls::part_of), using(crate::proofs::Laws::has))]
 pub fn record_part(t: &[u8], n: usize, s: usize, c: usize, o: usize, j: usize) -> &[u8]
     ensures { result.now ≡ part_of n s c t.now o j }
 {
@@ -244,6 +211,7 @@ pub fn record_part(t: &[u8], n: usize, s: usize, c: usize, o: usize, j: usize) -
 }
 
 // Where that part starts; 0 where it is empty.
+#[tactic(auto, unfolding(crate::specs::Calls::part_start), using(crate::proofs::Laws::has))]
 pub fn part_start(t: &[u8], n: usize, s: usize, c: usize, o: usize, j: usize) -> usize
     ensures { result ≡ part_start n s c t.now o j }
 {
@@ -254,6 +222,7 @@ pub fn part_start(t: &[u8], n: usize, s: usize, c: usize, o: usize, j: usize) ->
 }
 
 // How long it is.
+#[tactic(auto, unfolding(crate::specs::Calls::part_length))]
 pub fn part_length(t: &[u8], n: usize, s: usize, c: usize, o: usize, j: usize) -> usize
     ensures { result ≡ part_length n s c t.now o j }
 {

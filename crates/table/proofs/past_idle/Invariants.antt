@@ -1,8 +1,7 @@
-use Rattle.table.proofs.Walk.{PastLeft}
+use mathlib.Core.Path.{◌≡◌}
+use Prim.Native.Nat.{◌-◌, ◌≤◌}
+use Rattle.table.specs.Table.{past_idle}
 use Rattle.table.proofs.past_idle.Given as goal
 
 abbrev pub invariant-loop-left : goal.invariant-loop-left
-invariant-loop-left l = PastLeft l.n l.s l.o l.k l.t l.left l.at
-
-abbrev pub decreases-loop-left : goal.decreases-loop-left
-decreases-loop-left l = l.left
+invariant-loop-left l = (past_idle l.n l.s l.t l.o l.k ≡ past_idle l.n l.s l.t l.o (l.left - 1)) × (1 ≤ l.left)

@@ -1,12 +1,20 @@
+use mathlib.Core.Path.{◌≡◌, refl, sym, ◌∙◌}
+use mathlib.Core.List.{List}
+use Prim.Native.Nat.{ℕ, ◌<◌}
+use native.Mathlib.Omega.{arith}
+use lib.ListN.{length, replicate, get_or, length-replicate}
+use lib.Seq.{ext_get_or}
+use borrow.Author.Rules.{rules}
+use Rattle.std.proofs.Common.{slice_index}
+use Rattle.std.proofs.lemmas.Grind.{common_steps}
 use Rattle.table.proofs.Blank.{head-written}
 use Rattle.table.proofs.put_blank.Goals as goal
 
 pub returns : goal.returns
 returns c =
-    let c3 = c in
-    let c2 = c3 in
-    let c1 = c2 in
-    let z = c1 in
-    let e = z in
-    head-written e.args.n e.args.s e.args.c e.args.t.now e.requires z.clear.ensures c1.small.ensures c1.put_u8.ensures
-    c2.small-2.ensures c2.put_u8-2.ensures c3.small-3.ensures c3.put_u8-3.ensures
+    let t = c.args.t.now in
+    let z = c.fill.new.self in
+    let long : length z ≡ length t = search rules in
+    let zeros : (k : ℕ) → k < length t → slice_index z k ≡ 0 = search rules in
+    let e : z ≡ replicate (length t) 0 = ext_get_or 0 z (replicate (length t) 0) (long ∙ sym (length-replicate (length t) 0)) (λ i m. grind (arith, common_steps, zeros i)) in
+    head-written c.args.n c.args.s c.args.c t c.requires e

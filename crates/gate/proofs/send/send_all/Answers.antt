@@ -1,4 +1,3 @@
-use Prim.Native.Nat.{◌-◌}
 use native.Mathlib.Omega.{arith}
 use Rattle.gate.proofs.Sent.{start, turn, turned, ended}
 use Rattle.gate.proofs.send.send_all.Goals as goal
@@ -8,12 +7,6 @@ loop-q-init c = start _ _ _ c.requires.0 c.requires.1
 
 pub send_one-at-requires : goal.send_one-at-requires
 send_one-at-requires c = turn _ _ _ _ _ _ c.loop-q.invariant c.loop-q-test.true
-
-pub overflow_add-q : goal.overflow_add-q
-overflow_add-q c = omega arith
-
-pub loop-q-smaller : goal.loop-q-smaller
-loop-q-smaller c = omega arith
 
 pub loop-q-preserved : goal.loop-q-preserved
 loop-q-preserved c =

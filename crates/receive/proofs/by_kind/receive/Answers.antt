@@ -17,15 +17,15 @@ returns-in-PreAccept c = with_body _ _ _ _ _ _ c.in-PreAccept.is c.on_proposal.e
 
 pub returns-in-PreAcceptOk : goal.returns-in-PreAcceptOk
 unfolding by_kind
-returns-in-PreAcceptOk c = with_body _ _ _ _ _ _ c.in-PreAcceptOk.is (c.on_pre_accept_ok.ensures ∙ rw c.byte-own.ensures)
+returns-in-PreAcceptOk c = with_body _ _ _ _ _ _ c.in-PreAcceptOk.is c.on_pre_accept_ok.ensures
 
 pub returns-in-Accept : goal.returns-in-Accept
 unfolding by_kind
-returns-in-Accept c = with_body _ _ _ _ _ _ c.in-Accept.is (c.accept.ensures ∙ rw c.byte-own.ensures)
+returns-in-Accept c = with_body _ _ _ _ _ _ c.in-Accept.is c.accept.ensures
 
 pub returns-in-AcceptOk : goal.returns-in-AcceptOk
 unfolding by_kind
-returns-in-AcceptOk c = with_body _ _ _ _ _ _ c.in-AcceptOk.is (c.on_accept_ok.ensures ∙ rw c.byte-own.ensures)
+returns-in-AcceptOk c = with_body _ _ _ _ _ _ c.in-AcceptOk.is c.on_accept_ok.ensures
 
 pub returns-in-Commit : goal.returns-in-Commit
 unfolding by_kind
@@ -33,7 +33,7 @@ returns-in-Commit c = with_body _ _ _ _ _ _ c.in-Commit.is c.commit.ensures
 
 pub returns-in-Prepare : goal.returns-in-Prepare
 unfolding by_kind
-returns-in-Prepare c = with_body _ _ _ _ _ _ c.in-Prepare.is (c.prepare.ensures ∙ rw c.byte-own.ensures)
+returns-in-Prepare c = with_body _ _ _ _ _ _ c.in-Prepare.is c.prepare.ensures
 
 pub returns-in-PrepareOk : goal.returns-in-PrepareOk
 unfolding by_kind

@@ -1,6 +1,7 @@
-use mathlib.Core.Path.{◌∙◌}
+use mathlib.Core.Path.{refl, ◌∙◌}
+use Prim.Native.Nat.{◌-◌}
 use Rattle.request.proofs.Laws.{request-step}
 use Rattle.request.proofs.ask.on_request.Goals as goal
 
 pub returns : goal.returns
-returns c = c.afresh.ensures ∙ request-step _ _ _ _ _ c.requires.2 c.byte-own.ensures c.short.ensures c.blank.ensures c.seen-seen.ensures
+returns c = c.afresh.ensures ∙ request-step _ _ _ _ _ c.requires.2 refl refl c.blank.ensures c.seen-seen.ensures
