@@ -1,7 +1,7 @@
 -- The clauses of "valid" in the groups in which the code tries them. Assumes nothing.
 -- n, s: the setup; c: the copy that receives; m: the message; w: the row of its kind; v: the vote that it carries; o: the op's
 -- number as it stands in the bytes; j: the joined ballot that it carries.
-use Rattle.std.specs.Prelude.{ℕ, zero, suc, ◌+◌, Bool, true, false, ◌&&◌, cond, List, eqb, ltb, Result, Ok, Err}
+use Rattle.std.specs.Prelude.{ℕ, zero, suc, ◌+◌, Bool, ◌&&◌, cond, List, eqb, ltb, Result, Ok, Err}
 use Rattle.paper.specs.Logic.{implies}
 use Rattle.paper.specs.Command.{key_ok, second_ok, edit_ok}
 use Rattle.paper.specs.Deps.{entry_ok}

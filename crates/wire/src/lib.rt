@@ -225,7 +225,7 @@ pub fn offset_of(p: Parts, f: Field) -> usize
         Field::Key => command_start(p, HEAD) + 1,
         Field::Second => command_start(p, HEAD) + 5,
         Field::Edit => command_start(p, HEAD) + edit_in_command(p.second),
-        Field::Entry(i) => deps_start(p, HEAD) + 2 * wide8(i),
+        Field::Entry(i) => deps_start(p, HEAD) + 2 * (i as usize),
         Field::Joined => joined_start(p, HEAD),
     }
 }
@@ -362,7 +362,13 @@ pub fn message_bytes(out: &mut [u8], at: usize, m: Message)
 }
 
 // Writes a message into lent room of 256 bytes or more.
-pub fn write_message(n: usize, s: usize, c: usize, out: &mut [u8], m: Message) -> Result<usize, Refusal>
+pub fn write_message(
+    n: usize,
+    s: usize,
+    c: usize,
+    out: &mut [u8],
+    m: Message,
+) -> Result<usize, Refusal>
     ensures answers { result ≡ (wrote n s c out.old m).answer }
     ensures room { out.new ≡ (wrote n s c out.old m).out }
 {
@@ -374,7 +380,7 @@ pub fn write_message(n: usize, s: usize, c: usize, out: &mut [u8], m: Message) -
     }
     let body = m.body;
     let row = row_in(body);
-    verdict_on(n, s, wide8(m.to), row, op_in(m), m).map_err(|why| refusal_of(row.parts, why))?;
+    verdict_on(n, s, m.to as usize, row, op_in(m), m).map_err(|why| refusal_of(row.parts, why))?;
     message_bytes(out, 0, m);
     Ok(rest_end(row.parts, HEAD))
 }

@@ -1,4 +1,3 @@
-use Prim.Native.Nat.{◌-◌}
 use Rattle.valid.proofs.Laws.{Left}
 use Rattle.valid.proofs.entries_verdict.Given as goal
 
