@@ -11,7 +11,7 @@ use gate::{Answer, Gate};
 use nouns::logic::{wide8, wide16};
 use paper::{Message, Refusal};
 use table::records::load;
-use wire::{Reading, read_message};
+use wire::read_message;
 
 // A valid message.
 fn hear(t: &mut [u8], out: &mut [u8], n: usize, s: usize, c: usize, m: Message) -> Answer
@@ -37,13 +37,10 @@ fn message_open(t: &mut [u8], out: &mut [u8], n: usize, s: usize, c: usize, b: &
     ensures table { t.new ≡ (receive_open interfere n s c t.old out.old b.now).table }
     ensures room { out.new ≡ (receive_open interfere n s c t.old out.old b.now).out }
 {
-    let x = read_message(n, s, c, b);
-    let reading = x.answer;
-    if let Reading::Refused(why) = reading {
-        return Answer::Refused(why);
+    match read_message(n, s, c, b) {
+        Ok(m) => hear(t, out, n, s, c, m),
+        Err(why) => Answer::Refused(why),
     }
-    let m = x.message;
-    hear(t, out, n, s, c, m)
 }
 
 pub fn message(t: &mut [u8], n: usize, s: usize, c: usize, out: &mut [u8], b: &[u8]) -> Answer
