@@ -9,19 +9,18 @@ use lib.ListN.{length, take, drop, length-append}
 use lib.Seq.{take_at, drop_at}
 use Rattle.numbers.specs.Num.{splice}
 use Rattle.numbers.proofs.Laws.{splice-same}
+use Rattle.std.specs.Prelude.{Result, Ok, Err}
 use Rattle.paper.specs.Setup.{setup_ok}
 use Rattle.paper.specs.Message.{kind_of}
 use Rattle.paper.specs.Valid.{valid}
 use Rattle.paper.proofs.Bodies.{kind-small}
 use Rattle.paper.specs.Vote.{member}
 use Rattle.paper.specs.declared.Message.{Message}
+use Rattle.paper.specs.declared.Refusal.{Refusal}
 use Rattle.rules.specs.declared.Step.{Step}
 use Rattle.rules.specs.Events.{addressed, messages_from, messages}
 use Rattle.wire.specs.Wire.{length_of, kind_at, head_bytes, message_at, message_bytes, valid_bytes}
-use Rattle.wire.specs.Calls.{unread, read_message}
-use Rattle.wire.specs.declared.Received.{Received}
-use Rattle.wire.specs.declared.Reading.{Reading}
-use Rattle.wire.specs.declared.Reading.TheVariants as reading
+use Rattle.wire.specs.Calls.{read_message}
 use Rattle.wire.proofs.Laws.{ten, length-message_bytes, why_read, read_is}
 use Rattle.wire.proofs.Round.{written-reads-back}
 use Rattle.paper.specs.Fits.{MessageFits}
@@ -72,20 +71,16 @@ pub record Read (n s c : ℕ) (m : Message) : Type 0 where
 pub reads : (n s c : ℕ) (m : Message) → MessageFits m → setup_ok n s c ≡ true → valid n s c m ≡ true → Read n s c m
 reads n s c m f p v = go (valid_bytes n s c (message_bytes m)) refl
   where
-    read : read_message n s c (message_bytes m) ≡ record { answer = reading.Valid; message = m }
+    read : read_message n s c (message_bytes m) ≡ Ok m
     read = written-reads-back n s c m f p v
-
-    number : Reading → ℕ
-    number reading.Valid = 0
-    number (reading.Refused r) = 1
 
     go : (b : Bool) → valid_bytes n s c (message_bytes m) ≡ b → Read n s c m
     go true e =
-        let x : read_message n s c (message_bytes m) ≡ record { answer = reading.Valid; message = message_at (message_bytes m) } = read_is n s c (message_bytes m) ∙ rw (p, e) in
-        record { is = ap (λ (z : Received). z.message) (sym x ∙ read); taken = e }
+        let x : ◌≡◌ {A = Result Message Refusal} (Ok (message_at (message_bytes m))) (Ok m) = sym (read_is n s c (message_bytes m) ∙ rw (p, e)) ∙ read in
+        record { is = cc; taken = e }
     go false e =
-        let x : read_message n s c (message_bytes m) ≡ unread (why_read n s c (message_bytes m)) = read_is n s c (message_bytes m) ∙ rw (p, e) in
-        clash (sym (ap (λ (z : Received). number z.answer) (sym x ∙ read)))
+        let x : ◌≡◌ {A = Result Message Refusal} (Err (why_read n s c (message_bytes m))) (Ok m) = sym (read_is n s c (message_bytes m) ∙ rw (p, e)) ∙ read in
+        clash (cc)
 
 -- bytes that are a valid message of this list
 pub record Carried (n s : ℕ) (l : List Message) (b : List ℕ) : Type 0 where

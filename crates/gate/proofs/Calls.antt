@@ -17,7 +17,6 @@ use Rattle.rules.specs.Received.{refused10}
 use Rattle.rules.specs.Events.{on_message}
 use Rattle.wire.specs.Wire.{message_at, valid_bytes}
 use Rattle.wire.specs.Calls as wire
-use Rattle.wire.specs.declared.Reading.TheVariants as reading
 use Rattle.wire.proofs.Laws.{why_read, read_is}
 use Rattle.seen.specs.Records.{records_in}
 use Rattle.numbers.specs.Num.{splice}
@@ -109,8 +108,8 @@ receive-open w n s c t out b p = go (valid_bytes n s c b) refl
         ≡ cond (not (valid_bytes n s c b)) (refuse (why_read n s c b) t out)
         (cond (refused10 (record_in s t (message_at b).owner (message_at b).number) (message_at b)) (refuse why.OtherCommit t out)
         (acted s t out (message_at b).owner (message_at b).number (on_message w n s c (records_in s t) (message_at b))))
-    go true e = let x : wire.read_message n s c b ≡ record { answer = reading.Valid; message = message_at b } = read_is n s c b ∙ rw (p, e) in rw (x, e)
-    go false e = let x : wire.read_message n s c b ≡ wire.unread (why_read n s c b) = read_is n s c b ∙ rw (p, e) in rw (x, e)
+    go true e = let x : wire.read_message n s c b ≡ Ok (message_at b) = read_is n s c b ∙ rw (p, e) in rw (x, e)
+    go false e = let x : wire.read_message n s c b ≡ Err (why_read n s c b) = read_is n s c b ∙ rw (p, e) in rw (x, e)
 
 -- a setup has three copies or more
 pub three : (n s c : ℕ) (t : List ℕ) → fits_setup n s c t ≡ true → 3 ≤ n

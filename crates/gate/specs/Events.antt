@@ -17,8 +17,6 @@ use Rattle.rules.specs.Received.{refused10}
 use Rattle.rules.specs.Recover.{out_of_ballots}
 use Rattle.rules.specs.Nudge.{nothing_to_nudge}
 use Rattle.rules.specs.Events.{request_number, on_request, on_message, on_recover, on_nudge}
-use Rattle.wire.specs.declared.Reading.{Reading}
-use Rattle.wire.specs.declared.Reading.TheVariants as reading
 use Rattle.wire.specs.Calls as wire
 use Rattle.table.specs.Table.{fits_setup, sound_table, record_in, put_record}
 use Rattle.seen.specs.Records.{records_in}
@@ -84,9 +82,9 @@ abbrev pub requested : ℕ → ℕ → ℕ → List ℕ → List ℕ → ℕ →
 requested n s c t out op key second edit = gated n s c t out (request_open n s c t out op key second edit)
 
 -- what the reader refuses is refused
-abbrev pub unless_refused : Reading → List ℕ → List ℕ → Outcome → Outcome
-unless_refused reading.Valid t out rest = rest
-unless_refused (reading.Refused r) t out rest = refuse r t out
+abbrev pub unless_refused : Result Message Refusal → List ℕ → List ℕ → (Message → Outcome) → Outcome
+unless_refused (Ok m) t out rest = rest m
+unless_refused (Err r) t out rest = refuse r t out
 
 -- a message that the reader takes: 10
 unfoldable pub heard : Interference → ℕ → ℕ → ℕ → List ℕ → List ℕ → Message → Outcome
@@ -96,7 +94,7 @@ heard w n s c t out m =
 
 -- a received message: what the reader says of it, then 10
 unfoldable pub receive_open : Interference → ℕ → ℕ → ℕ → List ℕ → List ℕ → List ℕ → Outcome
-receive_open w n s c t out b = unless_refused (wire.read_message n s c b).answer t out (heard w n s c t out (wire.read_message n s c b).message)
+receive_open w n s c t out b = unless_refused (wire.read_message n s c b) t out (heard w n s c t out)
 
 abbrev pub received : ℕ → ℕ → ℕ → List ℕ → List ℕ → List ℕ → Outcome
 received n s c t out b = gated n s c t out (receive_open interfere n s c t out b)

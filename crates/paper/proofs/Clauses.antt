@@ -7,6 +7,7 @@ use mathlib.Core.Bool.{Bool, true, false}
 use mathlib.Core.List.{List, [], ◌∷◌}
 use lib.Count.{ones}
 use lib.ListN.{replicate, set}
+use Rattle.std.specs.Prelude.{Result, Err}
 use Rattle.paper.specs.Logic.{all_below}
 use Rattle.paper.specs.Command.{noop, on_one, on_two, same_command, command_ok}
 use Rattle.paper.specs.Deps.{no_deps, deps_ok, same_deps}
@@ -18,8 +19,6 @@ use Rattle.paper.specs.Valid.{Clause, FromRange, ToRange, OwnerRange, NumberRang
 use Rattle.paper.specs.declared.Field.TheVariants as field
 use Rattle.paper.specs.declared.Blame.{Blame}
 use Rattle.paper.specs.declared.Blame.TheVariants as blame
-use Rattle.paper.specs.declared.Verdict.{Verdict}
-use Rattle.paper.specs.declared.Verdict.TheVariants as verdict
 use Rattle.paper.specs.declared.Op.TheVariants.{Noop, Read, Write}
 use Rattle.paper.specs.declared.Command.{Command}
 use Rattle.paper.specs.declared.Vote.{Vote}
@@ -263,13 +262,13 @@ unfolding computed_of written_of valid_lines entry_clauses first_failing first_o
 valid-clauses = refl
 
 -- what copy c of five, with four numbers each, finds a message by value to be
-abbrev found : ℕ → Message → Verdict
+abbrev found : ℕ → Message → Result (Unit {0}) Blame
 found c m = verdict_on 5 4 c (op_in m) m
 
-abbrev blames : Blame → Verdict → Line Verdict
-blames b x = record { computed = x; written = verdict.Blamed b }
+abbrev blames : Blame → Result (Unit {0}) Blame → Line (Result (Unit {0}) Blame)
+blames b x = record { computed = x; written = Err b }
 
-blame_lines : List (Line Verdict)
+blame_lines : List (Line (Result (Unit {0}) Blame))
 blame_lines =
     -- beside a kind without dependencies
     blames blame.Length (found 2 (message 0 10 AcceptOk (entry 3 4)))

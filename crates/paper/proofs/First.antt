@@ -9,6 +9,7 @@ use native.Mathlib.Omega.{arith}
 use lib.Dec.{leb, ltb, eqb}
 use lib.ListN.{get_or, get_or-replicate}
 use borrow.Author.Tests.{leb-true, ltb-true, le-leb, eqb-true}
+use Rattle.std.specs.Prelude.{Result, Err}
 use Rattle.paper.specs.Logic.{implies}
 use Rattle.paper.specs.Ballot.{ballot_ok}
 use Rattle.paper.specs.Deps.{no_deps, entry_limit, same_deps}
@@ -18,7 +19,6 @@ use Rattle.paper.specs.declared.Field.{Field}
 use Rattle.paper.specs.declared.Field.TheVariants as field
 use Rattle.paper.specs.declared.Blame.{Blame}
 use Rattle.paper.specs.declared.Blame.TheVariants as blame
-use Rattle.paper.specs.declared.Verdict.TheVariants as verdict
 use Rattle.paper.specs.declared.Message.{Message}
 use Rattle.paper.proofs.Laws.{and-true, all_below-at}
 use Rattle.paper.proofs.Bodies.{untold-voted, untold-status, no-command, no_second, second_is, unjoined, stale}
@@ -127,14 +127,14 @@ pub record Named (n s c o : ℕ) (m : Message) (x : Blame) : Type 0 where
   pub failing : first_failing n s c o m ≡ first clause
   pub is : First each (λ y. turn (blame_of y)) (holds n s c o m) clauses clause
 
-pub named : (n s c o : ℕ) (m : Message) (x : Blame) → verdict_on n s c o m ≡ verdict.Blamed x → Named n s c o m x
+pub named : (n s c o : ℕ) (m : Message) (x : Blame) → verdict_on n s c o m ≡ Err x → Named n s c o m x
 unfolding verdict_on first_failing entry_clauses rising blame_of
 named n s c o m x e = go (first_failing n s c o m) refl e
   where
-    same : {a b : Blame} → verdict.Blamed a ≡ verdict.Blamed b → a ≡ b
+    same : {a b : Blame} → ◌≡◌ {A = Result (Unit {0}) Blame} (Err a) (Err b) → a ≡ b
     same h = cc
 
-    go : (y : Failing) → first_failing n s c o m ≡ y → verdict_of y ≡ verdict.Blamed x → Named n s c o m x
+    go : (y : Failing) → first_failing n s c o m ≡ y → verdict_of y ≡ Err x → Named n s c o m x
     go none p h = absurd (let z : ◌≡◌ {A = ℕ} 0 1 = cc in omega arith)
     go (first y) p h = record { clause = y; blames = same h; failing = p; is = first-of each (λ y. turn (blame_of y)) (holds n s c o m) 0 clauses y refl p }
 

@@ -12,13 +12,13 @@ use Rattle.paper.specs.Vote.{voted_ok, status_ok, vote_ok, none_voted, none_op, 
 use Rattle.paper.specs.Message.{row_in, parts_in, command_in, vote_in, joined_in}
 use Rattle.paper.specs.Valid.{from_range, to_range, owner_range, number_range, ballot_range, recovery_ballot, to_here, from_another, from_lead, to_lead, told_below, fresh_op, joined_range, joined_above, deps_carried, second_carried, op_range, Clause, EntryRange, ToldEntry, carried_clauses, head_clauses, way_clauses, told_clauses, command_clauses, entry_clauses, deps_clauses, joined_clauses, Failing, none, first, holds_of, holds, clauses, first_of, first_failing, is_none, op_in, valid, verdict_of, verdict_on}
 use lib.Dec.{eqb}
+use Rattle.std.specs.Prelude.{Result, Ok, Err}
+use Rattle.paper.specs.declared.Blame.{Blame}
 use Rattle.paper.specs.declared.Op.{Op}
 use Rattle.paper.specs.declared.Op.TheVariants.{Noop, Read, Write, Rewire}
 use Rattle.paper.specs.declared.Command.{Command}
 use Rattle.paper.specs.declared.Body.{Body}
 use Rattle.paper.specs.declared.Vote.{Vote}
-use Rattle.paper.specs.declared.Verdict.{Verdict}
-use Rattle.paper.specs.declared.Verdict.TheVariants as verdict
 use Rattle.paper.specs.declared.Row.{Row}
 use Rattle.paper.specs.declared.Message.{Message}
 use Rattle.paper.proofs.Laws.{and-true, all_below-at}
@@ -225,9 +225,9 @@ module _ (n s c : ℕ) (m : Message) where
       alike _ _ (λ h. let (e, k) = from-none o h in rw e (valid-of k)) (λ h. let (e, v) = and-true (op_range (parts_in m.body).second o) (valid n s c m) h in to_none o e (clauses-of v))
 
 -- the verdict is valid where none fails
-abbrev pub is_valid : Verdict → Bool
-is_valid verdict.Valid = true
-is_valid (verdict.Blamed x) = false
+abbrev pub is_valid : Result (Unit {0}) Blame → Bool
+is_valid (Ok u) = true
+is_valid (Err x) = false
 
 pub valid-verdict : (n s c o : ℕ) (m : Message) → is_valid (verdict_on n s c o m) ≡ (op_range (parts_in m.body).second o && valid n s c m)
 unfolding verdict_on

@@ -2,7 +2,7 @@
 -- fails, and whom it blames. Kind byte and length are the bytes' own: the wire asks them. Assumes nothing.
 -- n, s: the setup; c: the copy that receives; m: the message; w: the row of its kind; v: the vote that it carries; o: the op's
 -- number as it stands in the bytes; j: the joined ballot that it carries.
-use Rattle.std.specs.Prelude.{ℕ, zero, suc, ◌+◌, Bool, true, false, ◌&&◌, ◌||◌, not, cond, List, [], ◌∷◌, ◌++◌, leb, ltb, eqb}
+use Rattle.std.specs.Prelude.{ℕ, zero, suc, ◌+◌, Bool, true, false, ◌&&◌, ◌||◌, not, cond, List, [], ◌∷◌, ◌++◌, leb, ltb, eqb, Result, Ok, Err}
 use Rattle.paper.specs.Logic.{implies}
 use Rattle.paper.specs.Instance.{owner_ok, number_ok}
 use Rattle.paper.specs.Setup.{copy_ok}
@@ -19,8 +19,6 @@ use Rattle.paper.specs.declared.Field.{Field}
 use Rattle.paper.specs.declared.Field.TheVariants as field
 use Rattle.paper.specs.declared.Blame.{Blame}
 use Rattle.paper.specs.declared.Blame.TheVariants as blame
-use Rattle.paper.specs.declared.Verdict.{Verdict}
-use Rattle.paper.specs.declared.Verdict.TheVariants as verdict
 
 abbrev pub lead_of : Message → ℕ
 lead_of m = lead m.owner m.ballot
@@ -221,12 +219,12 @@ blame_of (ToldEntry i) = blame.Of (field.Entry i)
 blame_of JoinedRange = blame.Of field.Joined
 blame_of JoinedAbove = blame.Of field.Joined
 
-abbrev pub verdict_of : Failing → Verdict
-verdict_of none = verdict.Valid
-verdict_of (first x) = verdict.Blamed (blame_of x)
+abbrev pub verdict_of : Failing → Result (Unit {0}) Blame
+verdict_of none = Ok tt
+verdict_of (first x) = Err (blame_of x)
 
 -- what a message, received by copy c with this op in its bytes, is found to be
-unfoldable pub verdict_on : ℕ → ℕ → ℕ → ℕ → Message → Verdict
+unfoldable pub verdict_on : ℕ → ℕ → ℕ → ℕ → Message → Result (Unit {0}) Blame
 verdict_on n s c o m = verdict_of (first_failing n s c o m)
 
 -- whether a message with these parts has such a field

@@ -142,13 +142,6 @@ pub enum Blame {
     Of(Field),
 }
 
-// What a message is found to be.
-#[derive(Clone, Copy)]
-pub enum Verdict {
-    Valid,
-    Blamed(Blame),
-}
-
 // Why a call is refused, in the order in which the reasons are tried. A bad field comes with the offset of its first byte.
 #[derive(Clone, Copy)]
 pub enum Refusal {

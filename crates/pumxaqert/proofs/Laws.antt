@@ -7,6 +7,7 @@ use native.Mathlib.Omega.{arith}
 use lib.Dec.{leb, eqb}
 use borrow.Author.Tests.{lt-ltb, le-ltb, ne_eqb}
 use lib.ListN.{length, get_or, replicate}
+use Rattle.std.specs.Prelude.{Result, Ok, Err}
 use Rattle.paper.specs.Setup.{setup_ok}
 use Rattle.paper.specs.Message.{row_of, parts_of, parts_in, voted_in, joined_in}
 use Rattle.paper.specs.Refusal.{number_of, offset_in}
@@ -19,10 +20,6 @@ use Rattle.paper.specs.declared.Blame.{Blame}
 use Rattle.paper.specs.declared.Blame.TheVariants as blame
 use Rattle.paper.specs.declared.Refusal.{Refusal}
 use Rattle.paper.specs.declared.Refusal.TheVariants.{Setup, Room, UnknownKind, WrongLength}
-use Rattle.wire.specs.declared.Reading.{Reading}
-use Rattle.wire.specs.declared.Reading.TheVariants as reading
-use Rattle.wire.specs.declared.Received.{Received}
-use Rattle.wire.specs.declared.Writing.{Writing}
 use Rattle.wire.specs.Calls.{refusal_of, unwritten, reading_number, reading_offset, Wrote, wrote, writing_number, writing_count, writing_offset}
 use Rattle.order.specs.declared.Settling.TheVariants as settling
 use Rattle.paper.specs.Command.{op_number}
@@ -39,27 +36,11 @@ unfolding other_ballot
 other-voted b e = rw e
 
 -- what the reader ensures of its number, the fields and the offset, and the writer of its number, the count, the offset and the room
-abbrev pub Reads : Received → ℕ → List ℕ → ℕ → Type 0
-Reads x r f a = (r ≡ reading_number x.answer) × ((f ≡ read_values x.answer x.message) × (a ≡ reading_offset x.answer))
+abbrev pub Reads : Result Message Refusal → ℕ → List ℕ → ℕ → Type 0
+Reads x r f a = (r ≡ reading_number x) × ((f ≡ read_values x) × (a ≡ reading_offset x))
 
 abbrev pub Writes : Wrote → ℕ → ℕ → ℕ → List ℕ → Type 0
 Writes x r k a o = (r ≡ writing_number x.answer) × ((k ≡ writing_count x.answer) × ((a ≡ writing_offset x.answer) × (o ≡ x.out)))
-
-module _ {x y : Received} (e : x ≡ y) where
-  answers : x.answer ≡ y.answer
-  answers = ap (λ (z : Received). z.answer) e
-
-  pub read-valid : {f : List ℕ} → x.answer ≡ reading.Valid → f ≡ fields_of x.message → Reads y 0 f 0
-  read-valid v ef =
-      let q : reading.Valid ≡ y.answer = sym v ∙ answers in (
-        ap reading_number q,
-        (ef ∙ ap (λ (z : Received). fields_of z.message) e ∙ ap (λ (a : Reading). read_values a y.message) q, ap reading_offset q),
-      )
-
-  pub read-refused : (r : Refusal) {k : ℕ} {f : List ℕ} {a : ℕ} → x.answer ≡ reading.Refused r → k ≡ number_of r → f ≡ replicate 19 0 → a ≡ offset_in r → Reads y k f a
-  read-refused r v ek ef ea =
-      let q : reading.Refused r ≡ y.answer = sym v ∙ answers in
-      (ek ∙ ap reading_number q, (ef ∙ ap (λ (a : Reading). read_values a y.message) q, ea ∙ ap reading_offset q))
 
 -- numbers that are a message's, and others
 module _ (n s c : ℕ) (out fs g : List ℕ) {m : Message} (em : m ≡ message_from fs) (eg : g ≡ fields_of m) where
@@ -112,7 +93,7 @@ module _ (fs : List ℕ) {r : Row} (row : r ≡ row_of (get_or fs 0 0)) where
         rw (ex, q, known, c)
 
 -- a written message, as numbers
-pub wrote_as : {x : Writing} {o : List ℕ} {w : Wrote} → x ≡ w.answer → o ≡ w.out → (y : Writing) → x ≡ y
+pub wrote_as : {x : Result ℕ Refusal} {o : List ℕ} {w : Wrote} → x ≡ w.answer → o ≡ w.out → (y : Result ℕ Refusal) → x ≡ y
     → Writes w (writing_number y) (writing_count y) (writing_offset y) o
 wrote_as ex eo y e = let q = sym e ∙ ex in (ap writing_number q, (ap writing_count q, (ap writing_offset q, eo)))
 

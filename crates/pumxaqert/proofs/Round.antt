@@ -8,6 +8,7 @@ use native.Mathlib.Omega.{arith}
 use lib.Dec.{eqb, ltb}
 use lib.ListN.{length, get_or, take, drop}
 use lib.Seq.{ext_get_or}
+use Rattle.std.specs.Prelude.{Result, Ok, Err}
 use borrow.Author.Tests.{eqb-true, eq-eqb}
 use Rattle.numbers.specs.Num.{splice}
 use Rattle.codec.specs.Parts.{op_of, deps_numbers}
@@ -27,13 +28,8 @@ use Rattle.paper.specs.declared.Carried.{Carried}
 use Rattle.paper.specs.declared.Message.{Message}
 use Rattle.paper.specs.declared.Refusal.{Refusal}
 use Rattle.paper.specs.declared.Refusal.TheVariants as why
-use Rattle.wire.specs.declared.Reading.{Reading}
-use Rattle.wire.specs.declared.Reading.TheVariants as reading
-use Rattle.wire.specs.declared.Received.{Received}
-use Rattle.wire.specs.declared.Writing.{Writing}
-use Rattle.wire.specs.declared.Writing.TheVariants as writing
 use Rattle.wire.specs.Wire.{message_at, framed, op_fits, valid_bytes}
-use Rattle.wire.specs.Calls.{unread, refusal_of, read_message, unwritten, Wrote, wrote, reading_number, writing_number, writing_count}
+use Rattle.wire.specs.Calls.{refusal_of, read_message, unwritten, Wrote, wrote, reading_number, writing_number, writing_count}
 use Rattle.wire.proofs.Laws.{framed_is, why_read, read_is}
 use Rattle.wire.proofs.Fits.{message_at-fits}
 use Rattle.wire.proofs.Round.{written_read, read-written}
@@ -207,10 +203,10 @@ message_from-fits fs h = record {
 }
 
 -- a count is answered for fields of a message alone
-module _ (n s c : ℕ) (out fs : List ℕ) (k : ℕ) (e : (wrote_fields n s c out fs).answer ≡ writing.Bytes k) where
+module _ (n s c : ℕ) (out fs : List ℕ) (k : ℕ) (e : (wrote_fields n s c out fs).answer ≡ Ok k) where
   refused : {A : Type 0} (r : Refusal) → wrote_fields n s c out fs ≡ unwritten r out → A
   refused r h =
-      let x : writing.Refused r ≡ writing.Bytes k = ap (λ (w : Wrote). w.answer) (sym h) ∙ e in
+      let x : ◌≡◌ {A = Result ℕ Refusal} (Err r) (Ok k) = ap (λ (w : Wrote). w.answer) (sym h) ∙ e in
       let z : ◌≡◌ {A = ℕ} 0 1 = cc in
       absurd (omega arith)
 
@@ -231,13 +227,18 @@ unfolding wrote_fields
 as-message n s c out fs e = rw e
 
 -- number 0 stands for a count, and for a message that was read
-writing-zero : (a : Writing) → 0 ≡ writing_number a → a ≡ writing.Bytes (writing_count a)
-writing-zero (writing.Bytes k) e = refl
-writing-zero (writing.Refused r) e = absurd (omega (arith, number_of-pos r))
+writing-zero : (a : Result ℕ Refusal) → 0 ≡ writing_number a → a ≡ Ok (writing_count a)
+writing-zero (Ok k) e = refl
+writing-zero (Err r) e = absurd (omega (arith, number_of-pos r))
 
-reading-zero : (a : Reading) → 0 ≡ reading_number a → a ≡ reading.Valid
-reading-zero reading.Valid e = refl
-reading-zero (reading.Refused r) e = absurd (omega (arith, number_of-pos r))
+-- what was read where the number is 0
+record Found (a : Result Message Refusal) : Type 0 where
+  message : Message
+  is : a ≡ Ok message
+
+reading-zero : (a : Result Message Refusal) → 0 ≡ reading_number a → Found a
+reading-zero (Ok m) e = record { message = m; is = refl }
+reading-zero (Err r) e = absurd (omega (arith, number_of-pos r))
 
 to_is : (m : Message) (fs : List ℕ) → fields_of m ≡ fs → m.to ≡ get_or fs 2 0
 unfolding fields_of
@@ -249,36 +250,37 @@ pub written-fields-read : (n s c : ℕ) (out fs : List ℕ) (k a : ℕ) (o : Lis
     → Writes (wrote_fields n s c out fs) 0 k a o → Reads (read_message n s (get_or fs 2 0) (take k o)) r gs i → (r ≡ 0) × (gs ≡ fs)
 written-fields-read n s c out fs k a o r gs i l small (w0, (wk, (wa, wo))) (rn, (rf, ra)) =
     let m : Message = message_from fs in
-    let f : (wrote_fields n s c out fs).answer ≡ writing.Bytes k = writing-zero (wrote_fields n s c out fs).answer w0 ∙ ap writing.Bytes (sym wk) in
+    let f : (wrote_fields n s c out fs).answer ≡ Ok k = writing-zero (wrote_fields n s c out fs).answer w0 ∙ ap Ok (sym wk) in
     let same = some-message n s c out fs k f in
     let told : wrote_fields n s c out fs ≡ wrote n s c out m = as-message n s c out fs same in
-    let e : (wrote n s c out m).answer ≡ writing.Bytes k = sym (ap (λ (w : Wrote). w.answer) told) ∙ f in
+    let e : (wrote n s c out m).answer ≡ Ok k = sym (ap (λ (w : Wrote). w.answer) told) ∙ f in
     let fits : MessageFits m = message_from-fits fs (small 11) in
     let back : fields_of m ≡ fs = message-fields fs l same in
     let to : m.to ≡ get_or fs 2 0 = to_is m fs back in
     let room : o ≡ (wrote n s c out m).out = wo ∙ ap (λ (w : Wrote). w.out) told in
-    let x : read_message n s m.to (take k (wrote n s c out m).out) ≡ record { answer = reading.Valid; message = m } = written_read n s c out m k fits e in
-    let y : read_message n s (get_or fs 2 0) (take k o) ≡ record { answer = reading.Valid; message = m } = rw (← to, room) x in
-    (rn ∙ ap (λ (z : Received). reading_number z.answer) y, rf ∙ ap (λ (z : Received). read_values z.answer z.message) y ∙ back)
+    let x : read_message n s m.to (take k (wrote n s c out m).out) ≡ Ok m = written_read n s c out m k fits e in
+    let y : read_message n s (get_or fs 2 0) (take k o) ≡ Ok m = rw (← to, room) x in
+    (rn ∙ ap reading_number y, rf ∙ ap read_values y ∙ back)
 
 -- what was read fits
-read_fits : (n s c : ℕ) (b : List ℕ) → ((i : ℕ) → get_or b i 0 < 256) → (read_message n s c b).answer ≡ reading.Valid → MessageFits (read_message n s c b).message
+read_fits : (n s c : ℕ) (b : List ℕ) → ((i : ℕ) → get_or b i 0 < 256) → (m : Message) → read_message n s c b ≡ Ok m → MessageFits m
 unfolding valid_bytes
-read_fits n s c b byte e = go (setup_ok n s c) refl (valid_bytes n s c b) refl
+read_fits n s c b byte m e = go (setup_ok n s c) refl (valid_bytes n s c b) refl
   where
-    no : {A : Type 0} (r : Refusal) → read_message n s c b ≡ unread r → A
+    no : {A : Type 0} (r : Refusal) → read_message n s c b ≡ Err r → A
     no r h =
-        let x : reading.Refused r ≡ reading.Valid = ap (λ (z : Received). z.answer) (sym h) ∙ e in
+        let x : ◌≡◌ {A = Result Message Refusal} (Err r) (Ok m) = sym h ∙ e in
         let z : ◌≡◌ {A = ℕ} 0 1 = cc in
         absurd (omega arith)
 
-    go : (a : Bool) → setup_ok n s c ≡ a → (v : Bool) → valid_bytes n s c b ≡ v → MessageFits (read_message n s c b).message
+    go : (a : Bool) → setup_ok n s c ≡ a → (v : Bool) → valid_bytes n s c b ≡ v → MessageFits m
     go false q v h = no why.Setup (read_is n s c b ∙ rw q)
     go true q false h = no (why_read n s c b) (read_is n s c b ∙ rw (q, h))
     go true q true h =
         let p = (and-true (framed b && op_fits b) _ h).0 in
-        let x : read_message n s c b ≡ record { answer = reading.Valid; message = message_at b } = read_is n s c b ∙ rw (q, h) in
-        rw x (message_at-fits b byte (framed_is b (and-true (framed b) (op_fits b) p).0))
+        let x : ◌≡◌ {A = Result Message Refusal} (Ok (message_at b)) (Ok m) = sym (read_is n s c b ∙ rw (q, h)) ∙ e in
+        let y : message_at b ≡ m = cc in
+        rw (← y) (message_at-fits b byte (framed_is b (and-true (framed b) (op_fits b) p).0))
 
 front : (l v : List ℕ) → splice l 0 v ≡ v ++ drop (length v) l
 unfolding splice
@@ -289,13 +291,14 @@ front l v = let n : 0 + length v ≡ length v = omega arith in rw n
 pub accepted-bytes-written : (n s c d : ℕ) (b out fs : List ℕ) (i r k a : ℕ) (o : List ℕ) → ((i : ℕ) → get_or b i 0 < 256) → setup_ok n s d ≡ true → 256 ≤ length out
     → Reads (read_message n s c b) 0 fs i → Writes (wrote_fields n s d out fs) r k a o → (r ≡ 0) × ((k ≡ length b) × (o ≡ b ++ drop (length b) out))
 accepted-bytes-written n s c d b out fs i r k a o byte p l (r0, (rf, ra)) (wn, (wk, (wa, wo))) =
-    let m : Message = (read_message n s c b).message in
-    let e : (read_message n s c b).answer ≡ reading.Valid = reading-zero (read_message n s c b).answer r0 in
-    let f : fs ≡ fields_of m = rf ∙ ap (λ (a : Reading). read_values a m) e in
-    let fit = read_fits n s c b byte e in
+    let found = reading-zero (read_message n s c b) r0 in
+    let m : Message = found.message in
+    let e : read_message n s c b ≡ Ok m = found.is in
+    let f : fs ≡ fields_of m = rf ∙ ap read_values e in
+    let fit = read_fits n s c b byte m e in
     let q : wrote_fields n s d out (fields_of m) ≡ wrote n s d out m = as-message n s d out (fields_of m) (fields-same m fit) ∙ ap (wrote n s d out) (fields-message m fit) in
-    let w : wrote_fields n s d out fs ≡ record { answer = writing.Bytes (length b); out = splice out 0 b } =
-    ap (wrote_fields n s d out) f ∙ q ∙ read-written n s c d b out byte p l e in (
+    let w : wrote_fields n s d out fs ≡ record { answer = Ok (length b); out = splice out 0 b } =
+    ap (wrote_fields n s d out) f ∙ q ∙ read-written n s c d b out byte p l m e in (
       wn ∙ ap (λ (z : Wrote). writing_number z.answer) w,
       (wk ∙ ap (λ (z : Wrote). writing_count z.answer) w, wo ∙ ap (λ (z : Wrote). z.out) w ∙ front out b),
     )

@@ -1,6 +1,6 @@
 -- A message as nineteen numbers: kind, from, to, owner, number, ballot, voted or joined, status, op, key, second key, edit, dependencies.
 -- Assumes nothing.
-use Rattle.std.specs.Prelude.{ℕ, zero, suc, ◌+◌, ◌%◌, Bool, ◌||◌, not, cond, List, [], ◌∷◌, leb, ltb, eqb, length, get_or, replicate}
+use Rattle.std.specs.Prelude.{ℕ, zero, suc, ◌+◌, ◌%◌, Bool, ◌||◌, not, cond, List, [], ◌∷◌, leb, ltb, eqb, length, get_or, replicate, Result, Ok, Err}
 use Rattle.codec.specs.Parts.{op_of}
 use Rattle.paper.specs.Logic.{all_below}
 use Rattle.paper.specs.Command.{op_number}
@@ -14,10 +14,9 @@ use Rattle.paper.specs.declared.Field.{Field}
 use Rattle.paper.specs.declared.Field.TheVariants as field
 use Rattle.paper.specs.declared.Blame.{Blame}
 use Rattle.paper.specs.declared.Blame.TheVariants as blame
+use Rattle.paper.specs.declared.Refusal.{Refusal}
 use Rattle.paper.specs.declared.Refusal.TheVariants.{Setup, Room}
 use Rattle.paper.specs.declared.Message.{Message}
-use Rattle.wire.specs.declared.Reading.{Reading}
-use Rattle.wire.specs.declared.Reading.TheVariants as reading
 use Rattle.wire.specs.Calls.{refusal_of, unwritten, Wrote, wrote}
 
 -- voted, or joined where the body carries that
@@ -31,9 +30,9 @@ fields_of m =
     ∷ get_or m.deps 1 0 ∷ get_or m.deps 2 0 ∷ get_or m.deps 3 0 ∷ get_or m.deps 4 0 ∷ get_or m.deps 5 0 ∷ get_or m.deps 6 0 ∷ []
 
 -- the numbers of a message that was read; all 0 for a refusal
-abbrev pub read_values : Reading → Message → List ℕ
-read_values reading.Valid m = fields_of m
-read_values (reading.Refused r) m = replicate 19 0
+abbrev pub read_values : Result Message Refusal → List ℕ
+read_values (Ok m) = fields_of m
+read_values (Err r) = replicate 19 0
 
 -- back, each number cut to its place
 unfoldable pub command_from : List ℕ → Command

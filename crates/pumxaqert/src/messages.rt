@@ -7,7 +7,6 @@ use crate::fields::{fields_of, message_from, misfit, same_fields};
 use nouns::refusal::{number_of, offset_in};
 use nouns::setup::setup_ok;
 use paper::Refusal;
-use wire::{Reading, Writing};
 
 #[unsafe(no_mangle)]
 pub extern "C" fn pumxaqert_read_message(
@@ -18,20 +17,17 @@ pub extern "C" fn pumxaqert_read_message(
     fields: &mut [u64; 19],
     offset: &mut usize,
 ) -> u32
-    ensures number { result ≡ reading_number (read_message n s c bytes.now).answer }
-    ensures fields { fields.new ≡ read_values (read_message n s c bytes.now).answer (read_message n s c bytes.now).message }
-    ensures offset { offset.new ≡ reading_offset (read_message n s c bytes.now).answer }
+    ensures number { result ≡ reading_number (read_message n s c bytes.now) }
+    ensures fields { fields.new ≡ read_values (read_message n s c bytes.now) }
+    ensures offset { offset.new ≡ reading_offset (read_message n s c bytes.now) }
 {
-    let x = wire::read_message(n, s, c, bytes);
-    let answer = x.answer;
-    let m = x.message;
-    match answer {
-        Reading::Valid => {
+    match wire::read_message(n, s, c, bytes) {
+        Ok(m) => {
             *fields = fields_of(m);
             *offset = 0;
             0
         }
-        Reading::Refused(why) => {
+        Err(why) => {
             *fields = [0; 19];
             *offset = offset_in(why);
             number_of(why)
@@ -40,7 +36,7 @@ pub extern "C" fn pumxaqert_read_message(
 }
 
 // Writes what these numbers say.
-fn write_fields(n: usize, s: usize, c: usize, out: &mut [u8], f: &[u64; 19]) -> Writing
+fn write_fields(n: usize, s: usize, c: usize, out: &mut [u8], f: &[u64; 19]) -> Result<usize, Refusal>
     ensures answers { result ≡ (wrote_fields n s c out.old f.now).answer }
     ensures room { out.new ≡ (wrote_fields n s c out.old f.now).out }
 {
@@ -50,12 +46,12 @@ fn write_fields(n: usize, s: usize, c: usize, out: &mut [u8], f: &[u64; 19]) -> 
         return wire::write_message(n, s, c, out, m);
     }
     if !setup_ok(n, s, c) {
-        return Writing::Refused(Refusal::Setup);
+        return Err(Refusal::Setup);
     }
     if out.len() < 256 {
-        return Writing::Refused(Refusal::Room);
+        return Err(Refusal::Room);
     }
-    Writing::Refused(misfit(f))
+    Err(misfit(f))
 }
 
 #[unsafe(no_mangle)]
@@ -73,14 +69,13 @@ pub extern "C" fn pumxaqert_write_message(
     ensures offset { offset.new ≡ writing_offset (wrote_fields n s c out.old fields.now).answer }
     ensures room { out.new ≡ (wrote_fields n s c out.old fields.now).out }
 {
-    let x = write_fields(n, s, c, out, fields);
-    match x {
-        Writing::Bytes(k) => {
+    match write_fields(n, s, c, out, fields) {
+        Ok(k) => {
             *written = k;
             *offset = 0;
             0
         }
-        Writing::Refused(why) => {
+        Err(why) => {
             *written = 0;
             *offset = offset_in(why);
             number_of(why)

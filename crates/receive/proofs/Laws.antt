@@ -5,6 +5,7 @@ use mathlib.Core.List.{List}
 use Prim.Native.Nat.{ℕ, zero, suc, ◌^◌, ◌≤◌, ◌<◌}
 use native.Mathlib.Omega.{arith}
 use lib.ListN.{length}
+use Rattle.std.specs.Prelude.{Result, Ok, Err}
 use Rattle.paper.specs.Setup.{setup_ok}
 use Rattle.paper.specs.Message.{is_commit, command_in, vote_in}
 use Rattle.paper.specs.Valid.{valid}
@@ -31,9 +32,6 @@ use Rattle.table.proofs.Laws.{sizes, names}
 use Rattle.seen.specs.Records.{records_in}
 use Rattle.wire.specs.Wire.{framed, op_fits, message_at, valid_bytes}
 use Rattle.wire.specs.Calls as calls
-use Rattle.wire.specs.declared.Received.{Received}
-use Rattle.wire.specs.declared.Reading.{Reading}
-use Rattle.wire.specs.declared.Reading.TheVariants as reading
 use Rattle.wire.proofs.Laws.{framed_is, why_read, read_is}
 use Rattle.closed.proofs.Closed.{message-event}
 use Rattle.closed.proofs.Heard.{heard, valid-instance}
@@ -136,21 +134,20 @@ module _ (n s c : ℕ) (t out : List ℕ) where
   message-step m eo ej er ex = rw (ex, er, eo, ej)
 
   -- a reading that was refused, and one that was not
-  module _ (b : List ℕ) {x : Received} (e : x ≡ calls.read_message n s c b) (setup : setup_ok n s c ≡ true) where
-    pub unread : (r : Refusal) → x.answer ≡ reading.Refused r → refuse r t out ≡ receive_open interfere n s c t out b
+  module _ (b : List ℕ) where
+    pub unread : (r : Refusal) → Err r ≡ calls.read_message n s c b → refuse r t out ≡ receive_open interfere n s c t out b
     unfolding receive_open
-    unread r f = let g : (calls.read_message n s c b).answer ≡ reading.Refused r = ap (λ (z : Received). z.answer) (sym e) ∙ f in rw g
+    unread r e = rw (← e)
 
-    pub read : x.answer ≡ reading.Valid → (valid_bytes n s c b ≡ true) × (x.message ≡ message_at b)
-    read f = go (valid_bytes n s c b) refl
+    pub read : (m : Message) → Ok m ≡ calls.read_message n s c b → setup_ok n s c ≡ true → (valid_bytes n s c b ≡ true) × (m ≡ message_at b)
+    read m e setup = go (valid_bytes n s c b) refl
       where
-        go : (v : Bool) → valid_bytes n s c b ≡ v → (valid_bytes n s c b ≡ true) × (x.message ≡ message_at b)
+        go : (v : Bool) → valid_bytes n s c b ≡ v → (valid_bytes n s c b ≡ true) × (m ≡ message_at b)
         go true p =
-            let q : x ≡ record { answer = reading.Valid; message = message_at b } = e ∙ read_is n s c b ∙ rw (setup, p) in
-            (p, ap (λ (z : Received). z.message) q)
+            let q : ◌≡◌ {A = Result Message Refusal} (Ok m) (Ok (message_at b)) = e ∙ read_is n s c b ∙ rw (setup, p) in
+            (p, cc)
         go false p =
-            let q : x ≡ calls.unread (why_read n s c b) = e ∙ read_is n s c b ∙ rw (setup, p) in
-            let g : reading.Valid ≡ reading.Refused (why_read n s c b) = sym f ∙ ap (λ (z : Received). z.answer) q in
+            let q : ◌≡◌ {A = Result Message Refusal} (Ok m) (Err (why_read n s c b)) = e ∙ read_is n s c b ∙ rw (setup, p) in
             let z : ◌≡◌ {A = ℕ} 0 1 = cc in
             absurd (omega arith)
 

@@ -11,7 +11,7 @@ use gate::entrance::gate_of;
 use nouns::logic::{wide8, wide16};
 use paper::{Message, Refusal};
 use table::records::load;
-use wire::{Reading, read_message};
+use wire::read_message;
 
 // A valid message.
 fn hear(
@@ -51,12 +51,7 @@ fn message_open(
     ensures table { t.new ≡ (receive_open interfere n s c t.old out.old b.now).table }
     ensures room { out.new ≡ (receive_open interfere n s c t.old out.old b.now).out }
 {
-    let x = read_message(n, s, c, b);
-    let reading = x.answer;
-    if let Reading::Refused(why) = reading {
-        return Err(why);
-    }
-    let m = x.message;
+    let m = read_message(n, s, c, b)?;
     hear(t, out, n, s, c, m)
 }
 

@@ -4,13 +4,12 @@ use codec::op_of;
 use nouns::command::op_number;
 use nouns::logic::{both, equal, wide8, wide16, wide32};
 use nouns::message::{body_of, command_in, joined_in, kind_of, status_in, voted_in};
-use paper::{Body, Carried, Command, Message};
+use paper::{Body, Carried, Command, Message, Refusal};
 use text::bytes::{front, front_mut, low8, low32, size};
 use text::forms::{BYTES, NUMBERS, Read};
 use text::put::{
     Text, bad_line, empty, put_bytes, put_form, put_hex, put_number, put_refused, wide,
 };
-use wire::{Reading, Writing};
 
 fn put_names(out: Text, m: Message) -> Text {
     let body = m.body;
@@ -53,8 +52,8 @@ fn put_message(out: Text, m: Message) -> Text {
 fn put_again(out: Text, w: Setup, m: Message) -> Text {
     let mut room = [0u8; 256];
     match wire::write_message(w.n, w.s, w.c, &mut room, m) {
-        Writing::Refused(why) => put_refused(out, why),
-        Writing::Bytes(k) => put_hex(out, &room, k),
+        Ok(k) => put_hex(out, &room, k),
+        Err(why) => put_refused(out, why),
     }
 }
 
@@ -64,11 +63,9 @@ fn put_read(m: Message, w: Setup) -> Text {
 }
 
 fn read_bytes(b: &[u8], w: Setup) -> Text {
-    let got = wire::read_message(w.n, w.s, w.c, b);
-    let answer = got.answer;
-    match answer {
-        Reading::Refused(why) => put_refused(put_bytes(empty(), b"="), why),
-        Reading::Valid => put_read(got.message, w),
+    match wire::read_message(w.n, w.s, w.c, b) {
+        Ok(m) => put_read(m, w),
+        Err(why) => put_refused(put_bytes(empty(), b"="), why),
     }
 }
 
@@ -146,10 +143,10 @@ fn fit(v: [usize; NUMBERS]) -> bool {
     v[2] > 0
 }
 
-fn put_writing(answer: Writing) -> Text {
+fn put_writing(answer: Result<usize, Refusal>) -> Text {
     match answer {
-        Writing::Refused(why) => put_refused(put_bytes(empty(), b"="), why),
-        Writing::Bytes(k) => put_number(put_bytes(empty(), b"= written"), k),
+        Ok(k) => put_number(put_bytes(empty(), b"= written"), k),
+        Err(why) => put_refused(put_bytes(empty(), b"="), why),
     }
 }
 

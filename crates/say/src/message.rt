@@ -5,7 +5,6 @@ use nouns::logic::{wide8, wide16, wide32};
 use nouns::message::kind_of;
 use paper::{Body, Command, Message, Vote};
 use text::put::{Text, put_bytes, put_form, put_hex, put_text};
-use wire::Reading;
 
 fn put_carried(out: Text, n: usize, k: Command, deps: [u16; 7]) -> Text {
     put_proposal(put_bytes(out, b": "), n, k, deps)
@@ -60,10 +59,8 @@ fn put_fields(out: Text, n: usize, m: Message) -> Text {
 
 // The message in these bytes, as copy c reads it; the bytes where it cannot.
 pub fn put_message(out: Text, n: usize, s: usize, c: usize, b: &[u8]) -> Text {
-    let got = wire::read_message(n, s, c, b);
-    let answer = got.answer;
-    match answer {
-        Reading::Refused(_) => put_hex(put_bytes(out, b"invalid bytes"), b, b.len()),
-        Reading::Valid => put_fields(out, n, got.message),
+    match wire::read_message(n, s, c, b) {
+        Ok(m) => put_fields(out, n, m),
+        Err(_) => put_hex(put_bytes(out, b"invalid bytes"), b, b.len()),
     }
 }

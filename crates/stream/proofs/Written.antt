@@ -5,6 +5,7 @@ use mathlib.Core.List.{List, [], ◌++◌, append-nil}
 use Prim.Native.Nat.{ℕ}
 use native.Mathlib.Omega.{arith}
 use lib.ListN.{length, take}
+use Rattle.std.specs.Prelude.{Result, Ok, Err}
 use Rattle.paper.specs.Setup.{setup_ok}
 use Rattle.paper.specs.Valid.{valid}
 use Rattle.paper.specs.declared.Message.{Message}
@@ -12,9 +13,7 @@ use Rattle.paper.specs.declared.Refusal.{Refusal}
 use Rattle.paper.specs.declared.Refusal.TheVariants.{Setup}
 use Rattle.paper.proofs.Laws.{and-true}
 use Rattle.wire.specs.Wire.{framed, op_fits, valid_bytes, message_at}
-use Rattle.wire.specs.declared.Reading.TheVariants as reading
-use Rattle.wire.specs.declared.Received.{Received}
-use Rattle.wire.specs.Calls.{unread, read_message, wrote}
+use Rattle.wire.specs.Calls.{read_message, wrote}
 use Rattle.wire.proofs.Laws.{framed_is, why_read, read_is}
 use Rattle.wire.proofs.Round.{written_read}
 use Rattle.stream.specs.Stream.{is_stopped}
@@ -23,13 +22,13 @@ use Rattle.stream.proofs.Cutting.{Exact, AllExact, no_bytes, uncut-all}
 use Rattle.stream.proofs.Kept.{any-cutting}
 
 -- what is read as a message is one, and nothing else
-read-exact : (n s c : ℕ) (b : List ℕ) → (read_message n s c b).answer ≡ reading.Valid → Exact b
+read-exact : (n s c : ℕ) (b : List ℕ) (m : Message) → read_message n s c b ≡ Ok m → Exact b
 unfolding valid_bytes
-read-exact n s c b e = go (setup_ok n s c) refl (valid_bytes n s c b) refl
+read-exact n s c b m e = go (setup_ok n s c) refl (valid_bytes n s c b) refl
   where
-    refused : (r : Refusal) → read_message n s c b ≡ unread r → Exact b
+    refused : (r : Refusal) → read_message n s c b ≡ Err r → Exact b
     refused r h =
-        let x : reading.Refused r ≡ reading.Valid = ap (λ (w : Received). w.answer) (sym h) ∙ e in
+        let x : ◌≡◌ {A = Result Message Refusal} (Err r) (Ok m) = sym h ∙ e in
         let z : ◌≡◌ {A = ℕ} 0 1 = cc in
         absurd (omega arith)
 
@@ -47,7 +46,7 @@ each_read {n} {s} {c} (more m out k f e w) = (written_read n s c out m k f e, ea
 each-exact : {n s c : ℕ} {ms : List Message} {bs : List (List ℕ)} → Written n s c ms bs → AllExact bs
 each-exact none = tt
 each-exact {n} {s} {c} (more m out k f e w) =
-    (read-exact n s m.to (take k (wrote n s c out m).out) (ap (λ (r : Received). r.answer) (written_read n s c out m k f e)), each-exact w)
+    (read-exact n s m.to (take k (wrote n s c out m).out) m (written_read n s c out m k f e), each-exact w)
 
 pub written-through : WrittenThrough
 unfolding is_stopped

@@ -1,11 +1,9 @@
 -- 2/12: what an uncut stream is, what a run of calls makes of bytes that are cut anywhere, and that the two agree; proofs/Kept, Reached and
 -- Written show the statements. Assumes nothing.
-use Rattle.std.specs.Prelude.{ℕ, zero, suc, ◌+◌, ◌≤◌, ◌<◌, ◌≡◌, Bool, true, false, cond, List, [], ◌∷◌, ◌++◌, length, take, drop}
+use Rattle.std.specs.Prelude.{ℕ, zero, suc, ◌+◌, ◌≤◌, ◌<◌, ◌≡◌, Bool, true, false, cond, List, [], ◌∷◌, ◌++◌, Option, Some, None, Result, Ok, Err, length, take, drop}
 use Rattle.paper.specs.Fits.{MessageFits}
 use Rattle.paper.specs.declared.Message.{Message}
 use Rattle.wire.specs.Wire.{length_of, kind_at}
-use Rattle.wire.specs.declared.Reading.TheVariants as reading
-use Rattle.wire.specs.declared.Writing.TheVariants as writing
 use Rattle.wire.specs.Calls.{read_message, wrote}
 use Rattle.stream.specs.declared.place.Place.{Place}
 use Rattle.stream.specs.declared.taking.Took.{Took}
@@ -148,7 +146,7 @@ Reached = (l : ℕ) → 64 ≤ l → ((b : List ℕ) (cs : List Call) → length
 -- messages that the writer took, and the bytes that it wrote for each
 pub data Written (n s c : ℕ) : List Message → List (List ℕ) → Type 0 where
   none : Written n s c [] []
-  more : {ms : List Message} {bs : List (List ℕ)} (m : Message) (out : List ℕ) (k : ℕ) → MessageFits m → (wrote n s c out m).answer ≡ writing.Bytes k → Written n s c ms bs
+  more : {ms : List Message} {bs : List (List ℕ)} (m : Message) (out : List ℕ) (k : ℕ) → MessageFits m → (wrote n s c out m).answer ≡ Ok k → Written n s c ms bs
       → Written n s c (m ∷ ms) (take k (wrote n s c out m).out ∷ bs)
 
 -- each is read as its message by the copy named in `to`
@@ -156,7 +154,7 @@ abbrev pub EachRead : ℕ → ℕ → List Message → List (List ℕ) → Type 
 EachRead n s [] [] = Unit {0}
 EachRead n s [] (b ∷ bs) = ⊥
 EachRead n s (m ∷ ms) [] = ⊥
-EachRead n s (m ∷ ms) (b ∷ bs) = (read_message n s m.to b ≡ record { answer = reading.Valid; message = m }) × EachRead n s ms bs
+EachRead n s (m ∷ ms) (b ∷ bs) = (read_message n s m.to b ≡ Ok m) × EachRead n s ms bs
 
 -- written messages one after another come out as they were through any cutting, and each reads back equal
 abbrev pub WrittenThrough : Type 0

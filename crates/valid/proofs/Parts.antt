@@ -6,6 +6,7 @@ use mathlib.Core.List.{List, [], ◌∷◌, ◌++◌}
 use native.Mathlib.Omega.{arith}
 use lib.Dec.{leb, ltb, eqb}
 use lib.ListN.{get_or, get_or-replicate}
+use Rattle.std.specs.Prelude.{Result, Ok, Err}
 use borrow.Author.Tests.{eqb-true, le-leb, leb-true, eq-eqb}
 use Rattle.paper.specs.Logic.{implies}
 use Rattle.paper.specs.Command.{key_ok, second_ok, edit_ok}
@@ -20,15 +21,13 @@ use Rattle.paper.specs.declared.Message.{Message}
 use Rattle.paper.specs.declared.Field.TheVariants as field
 use Rattle.paper.specs.declared.Blame.{Blame}
 use Rattle.paper.specs.declared.Blame.TheVariants as blame
-use Rattle.paper.specs.declared.Verdict.{Verdict}
-use Rattle.paper.specs.declared.Verdict.TheVariants as verdict
 use Rattle.paper.proofs.Laws.{and-true, all_below-at}
 use Rattle.paper.proofs.Bodies.{untold-voted, untold-status, no-command, unjoined, stale}
 use Rattle.valid.specs.Groups.{unless, and_then, all_carried, head_verdict, way_verdict, told_verdict, command_verdict, highest, entries_verdict, deps_verdict, joined_verdict, body_verdict}
 
 -- the verdict on a list of clauses
-chain : (Clause → Bool) → List Clause → Verdict
-chain f [] = verdict.Valid
+chain : (Clause → Bool) → List Clause → Result (Unit {0}) Blame
+chain f [] = Ok tt
 chain f (x ∷ xs) = unless (f x) (blame_of x) (chain f xs)
 
 chain-is : (f : Clause → Bool) (xs : List Clause) → verdict_of (first_of f xs) ≡ chain f xs
@@ -40,13 +39,13 @@ chain-is f (x ∷ xs) = go (f x) (chain-is f xs)
     go true e = e
     go false e = refl
 
-then-unless : (b : Bool) (x : Blame) (y z : Verdict) → and_then (unless b x y) z ≡ unless b x (and_then y z)
+then-unless : (b : Bool) (x : Blame) (y z : Result (Unit {0}) Blame) → and_then (unless b x y) z ≡ unless b x (and_then y z)
 then-unless true x y z = refl
 then-unless false x y z = refl
 
-then-then : (x y z : Verdict) → and_then (and_then x y) z ≡ and_then x (and_then y z)
-then-then verdict.Valid y z = refl
-then-then (verdict.Blamed x) y z = refl
+then-then : (x y z : Result (Unit {0}) Blame) → and_then (and_then x y) z ≡ and_then x (and_then y z)
+then-then (Ok u) y z = refl
+then-then (Err x) y z = refl
 
 chain-join : (f : Clause → Bool) (xs ys : List Clause) → chain f (xs ++ ys) ≡ and_then (chain f xs) (chain f ys)
 unfolding chain
@@ -54,7 +53,7 @@ chain-join f [] ys = refl
 chain-join f (x ∷ xs) ys = ap (unless (f x) (blame_of x)) (chain-join f xs ys) ∙ sym (then-unless (f x) (blame_of x) (chain f xs) (chain f ys))
 
 -- two tests that blame the same
-merge : (a b : Bool) (x : Blame) (y : Verdict) → unless a x (unless b x y) ≡ unless (a && b) x y
+merge : (a b : Bool) (x : Blame) (y : Result (Unit {0}) Blame) → unless a x (unless b x y) ≡ unless (a && b) x y
 merge true b x y = refl
 merge false b x y = refl
 
@@ -83,10 +82,10 @@ both_true true false = refl
 both_true false e = refl
 
 -- a group that is tried, or not
-on : (p : Bool) (x : Verdict) → p ≡ true → x ≡ cond p x verdict.Valid
+on : (p : Bool) (x : Result (Unit {0}) Blame) → p ≡ true → x ≡ cond p x (Ok tt)
 on p x e = rw e
 
-off : (p : Bool) (x : Verdict) → p ≡ false → verdict.Valid ≡ cond p x verdict.Valid
+off : (p : Bool) (x : Result (Unit {0}) Blame) → p ≡ false → Ok tt ≡ cond p x (Ok tt)
 off p x e = rw e
 
 -- seven zeros
@@ -118,11 +117,11 @@ entries-chain n s w v f r t (suc k) i =
     let b : (f (EntryRange i) && f (ToldEntry i)) ≡ entry_ok n (highest s w v) v.deps i =
     ap₂ ◌&&◌ (r i) (t i) ∙ entry-as w.parts.told (eqb v.status 0) (get_or v.deps i 0) n s i in
     merge (f (EntryRange i)) (f (ToldEntry i)) x (chain f (entry_clauses k (i + 1)))
-    ∙ ap₂ (λ (c : Bool) (y : Verdict). unless c x y) b (entries-chain n s w v f r t k (i + 1))
+    ∙ ap₂ (λ (c : Bool) (y : Result (Unit {0}) Blame). unless c x y) b (entries-chain n s w v f r t k (i + 1))
 
 -- entries that are all zero
 zeros-chain : (f : Clause → Bool) → ((i : ℕ) → i < 7 → f (EntryRange i) ≡ true) → ((i : ℕ) → i < 7 → f (ToldEntry i) ≡ true) → (k i : ℕ) → i + k ≤ 7
-    → chain f (entry_clauses k i) ≡ verdict.Valid
+    → chain f (entry_clauses k i) ≡ Ok tt
 unfolding chain entry_clauses
 zeros-chain f r t zero i l = refl
 zeros-chain f r t (suc k) i l = rw (r i (omega arith), t i (omega arith)) (zeros-chain f r t k (i + 1) (omega arith))
@@ -141,14 +140,14 @@ module _ (n s c o : ℕ) (m : Message) (w : Row) (ew : w ≡ row_in m.body) wher
   unfolding chain holds_of blame_of head_verdict
   head-chain =
       merge (deps_carried w m) (second_carried w v) blame.Length (chain f head_clauses)
-      ∙ ap (unless (all_carried w m) blame.Length) (rw (merge _ _ (blame.Of field.Ballot) verdict.Valid))
+      ∙ ap (unless (all_carried w m) blame.Length) (rw (merge _ _ (blame.Of field.Ballot) (Ok tt)))
 
   way-chain : chain f way_clauses ≡ way_verdict c w m
   unfolding chain holds_of blame_of way_verdict
   way-chain =
-      let lead = unless (from_lead w m) blame.Lead (unless (to_lead w m) blame.Lead verdict.Valid) in
+      let lead = unless (from_lead w m) blame.Lead (unless (to_lead w m) blame.Lead (Ok tt)) in
       merge (to_here c m) (from_another c m) blame.Way lead
-      ∙ ap (unless (to_here c m && from_another c m) blame.Way) (merge (from_lead w m) (to_lead w m) blame.Lead verdict.Valid)
+      ∙ ap (unless (to_here c m && from_another c m) blame.Way) (merge (from_lead w m) (to_lead w m) blame.Lead (Ok tt))
 
   flags : {A : Type 0} (g : Row → A) → g w ≡ g (row_in m.body)
   flags g = ap g ew
@@ -159,10 +158,10 @@ module _ (n s c o : ℕ) (m : Message) (w : Row) (ew : w ≡ row_in m.body) wher
     where
       go : (t : Bool) → w.parts.told ≡ t → chain f told_clauses ≡ told_verdict n w m v
       go true e =
-          let status = unless (status_ok 3 v) (blame.Of field.Status) (unless (none_voted v) (blame.Of field.Status) verdict.Valid) in
+          let status = unless (status_ok 3 v) (blame.Of field.Status) (unless (none_voted v) (blame.Of field.Status) (Ok tt)) in
           rw e
           (merge (voted_ok n v) (voted_below m.ballot v) (blame.Of field.Voted) status
-          ∙ ap (unless (voted_ok n v && voted_below m.ballot v) (blame.Of field.Voted)) (merge (status_ok 3 v) (none_voted v) (blame.Of field.Status) verdict.Valid))
+          ∙ ap (unless (voted_ok n v && voted_below m.ballot v) (blame.Of field.Voted)) (merge (status_ok 3 v) (none_voted v) (blame.Of field.Status) (Ok tt)))
       go false e =
           let p : (parts_in m.body).told ≡ false = sym (flags (λ r. r.parts.told)) ∙ e in
           rw (e, untold-voted m.body p, untold-status m.body p)
@@ -173,7 +172,7 @@ module _ (n s c o : ℕ) (m : Message) (w : Row) (ew : w ≡ row_in m.body) wher
     where
       go : (t : Bool) → w.parts.command ≡ t → chain f command_clauses ≡ unless (op_range w.parts.second o) (blame.Of field.Op) (command_verdict w m v)
       go true e =
-          let more = unless (second_ok v.command) (blame.Of field.Second) (unless (edit_ok v.command) (blame.Of field.Edit) verdict.Valid) in
+          let more = unless (second_ok v.command) (blame.Of field.Second) (unless (edit_ok v.command) (blame.Of field.Edit) (Ok tt)) in
           let keys = unless (key_ok v.command) (blame.Of field.Key) more in
           rw e (ap (unless (op_range w.parts.second o) (blame.Of field.Op)) (merge (fresh_op w m v) (implies w.parts.told (none_op v)) (blame.Of field.Op) keys))
       go false e =
@@ -198,12 +197,12 @@ module _ (n s c o : ℕ) (m : Message) (w : Row) (ew : w ≡ row_in m.body) wher
   joined-chain = go w.parts.joined refl
     where
       go : (t : Bool) → w.parts.joined ≡ t → chain f joined_clauses ≡ joined_verdict n w m j
-      go true e = rw e (merge (joined_range n j) (ltb m.ballot j) (blame.Of field.Joined) verdict.Valid)
+      go true e = rw e (merge (joined_range n j) (ltb m.ballot j) (blame.Of field.Joined) (Ok tt))
       go false e =
           let p : (parts_in m.body).joined ≡ false = sym (flags (λ r. r.parts.joined)) ∙ e in
           rw (e, unjoined m.body p)
 
-  abbrev rest : Verdict
+  abbrev rest : Result (Unit {0}) Blame
   rest = and_then (chain f told_clauses) (and_then (chain f command_clauses) (and_then (chain f deps_clauses) (chain f joined_clauses)))
 
   -- the body, where no dependencies stand beside a kind that has none
@@ -222,33 +221,33 @@ module _ (n s c o : ℕ) (m : Message) (w : Row) (ew : w ≡ row_in m.body) wher
       let abc = ab ++ told_clauses in
       let abcd = abc ++ command_clauses in
       chain-join f (abcd ++ deps_clauses) joined_clauses
-      ∙ ap (λ (x : Verdict). and_then x (chain f joined_clauses)) (chain-join f abcd deps_clauses)
+      ∙ ap (λ (x : Result (Unit {0}) Blame). and_then x (chain f joined_clauses)) (chain-join f abcd deps_clauses)
       ∙ then-then (chain f abcd) (chain f deps_clauses) (chain f joined_clauses)
-      ∙ ap (λ (x : Verdict). and_then x (and_then (chain f deps_clauses) (chain f joined_clauses))) (chain-join f abc command_clauses)
+      ∙ ap (λ (x : Result (Unit {0}) Blame). and_then x (and_then (chain f deps_clauses) (chain f joined_clauses))) (chain-join f abc command_clauses)
       ∙ then-then (chain f abc) (chain f command_clauses) (and_then (chain f deps_clauses) (chain f joined_clauses))
-      ∙ ap (λ (x : Verdict). and_then x (and_then (chain f command_clauses) (and_then (chain f deps_clauses) (chain f joined_clauses)))) (chain-join f ab told_clauses)
+      ∙ ap (λ (x : Result (Unit {0}) Blame). and_then x (and_then (chain f command_clauses) (and_then (chain f deps_clauses) (chain f joined_clauses)))) (chain-join f ab told_clauses)
       ∙ then-then (chain f ab) (chain f told_clauses) (and_then (chain f command_clauses) (and_then (chain f deps_clauses) (chain f joined_clauses)))
-      ∙ ap (λ (x : Verdict). and_then x rest) (chain-join f a way_clauses)
+      ∙ ap (λ (x : Result (Unit {0}) Blame). and_then x rest) (chain-join f a way_clauses)
       ∙ then-then (chain f a) (chain f way_clauses) rest
 
   -- past the head no dependencies stand beside a kind that has none
-  head-carried : head_verdict n s w m ≡ verdict.Valid → deps_carried w m ≡ true
+  head-carried : head_verdict n s w m ≡ Ok tt → deps_carried w m ≡ true
   unfolding head_verdict
   head-carried h = go (deps_carried w m) refl
     where
       go : (b : Bool) → deps_carried w m ≡ b → deps_carried w m ≡ true
       go true e = e
-      go false e = absurd (let q : verdict.Blamed blame.Length ≡ verdict.Valid = rw e at h in let z : ◌≡◌ {A = ℕ} 0 1 = cc in omega arith)
+      go false e = absurd (let q : Err blame.Length ≡ Ok tt = rw e at h in let z : ◌≡◌ {A = ℕ} 0 1 = cc in omega arith)
 
   by-groups : chain f clauses ≡ and_then (head_verdict n s w m) (and_then (way_verdict c w m) (body_verdict n s w o m v j))
   by-groups = grouped ∙ rw (head-chain, way-chain) (go (head_verdict n s w m) refl)
     where
-      go : (h : Verdict) → head_verdict n s w m ≡ h → and_then h (and_then (way_verdict c w m) rest) ≡ and_then h (and_then (way_verdict c w m) (body_verdict n s w o m v j))
-      go verdict.Valid e = ap (and_then (way_verdict c w m)) (body-chain (head-carried e))
-      go (verdict.Blamed x) e = refl
+      go : (h : Result (Unit {0}) Blame) → head_verdict n s w m ≡ h → and_then h (and_then (way_verdict c w m) rest) ≡ and_then h (and_then (way_verdict c w m) (body_verdict n s w o m v j))
+      go (Ok u) e = ap (and_then (way_verdict c w m)) (body-chain (head-carried e))
+      go (Err x) e = refl
 
-pub verdict-parts : (n s c o : ℕ) (m : Message) (w : Row) → w ≡ row_in m.body
+pub verdict_parts : (n s c o : ℕ) (m : Message) (w : Row) → w ≡ row_in m.body
     → verdict_on n s c o m ≡ and_then (head_verdict n s w m) (and_then (way_verdict c w m) (body_verdict n s w o m (vote_in m) (joined_in m.body)))
 unfolding verdict_on first_failing
-verdict-parts n s c o m w ew =
+verdict_parts n s c o m w ew =
     chain-is (holds n s c o m) clauses ∙ ap (λ (r : Row). chain (holds_of n s c r m (vote_in m) o (joined_in m.body)) clauses) (sym ew) ∙ by-groups n s c o m w ew

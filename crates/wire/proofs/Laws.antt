@@ -7,6 +7,7 @@ use native.Mathlib.Omega.{arith}
 use lib.Dec.{leb, ltb, eqb}
 use lib.ListN.{length, length-append}
 use borrow.Author.Tests.{leb-true, eqb-true, eq-eqb, ne_eqb, lt-ltb, le-ltb}
+use Rattle.std.specs.Prelude.{Result, Ok, Err}
 use Rattle.numbers.specs.Num.{splice}
 use Rattle.numbers.specs.Fields.{size_of}
 use Rattle.codec.specs.Parts.{sent_widths, deps_widths, sent_bytes, deps_bytes}
@@ -23,17 +24,13 @@ use Rattle.paper.specs.declared.Carried.{Carried}
 use Rattle.paper.specs.declared.Parts.{Parts}
 use Rattle.paper.specs.declared.Row.{Row}
 use Rattle.paper.specs.declared.Message.{Message}
-use Rattle.wire.specs.declared.Reading.TheVariants as reading
-use Rattle.wire.specs.declared.Writing.TheVariants as writing
 use Rattle.paper.specs.declared.Blame.{Blame}
 use Rattle.paper.specs.declared.Blame.TheVariants as blame
-use Rattle.paper.specs.declared.Verdict.{Verdict}
-use Rattle.paper.specs.declared.Verdict.TheVariants as verdict
 use Rattle.paper.proofs.Laws.{and-true}
 use Rattle.paper.proofs.Valid.{is_valid, valid-verdict, op_fits_lem}
 use Rattle.paper.proofs.Bodies.{all_of, every_row, every-row, kind-is}
 use Rattle.wire.specs.Wire.{told_widths, joined_widths, head_size, past, command_start, deps_start, joined_start, rest_end, kind_at, length_of, part, told_bytes, joined_bytes, rest_bytes, head_bytes, carried_at, body_at, message_at, message_bytes, framed, OfKind, op_at, edit_in_command, valid_bytes, verdict_at}
-use Rattle.wire.specs.Calls.{unread, refusal_of, unless_blamed, read_message, unwritten, Wrote, write_unless_blamed, wrote}
+use Rattle.wire.specs.Calls.{refusal_of, unless_blamed, read_message, unwritten, Wrote, write_unless_blamed, wrote}
 
 -- a part moves what stands after it by its bytes or not at all
 module _ (b : Bool) (ws : List ℕ) (at : ℕ) where
@@ -224,16 +221,16 @@ length-message_bytes m = rest-ends (parts_in m.body) (carried_in m.body) m.deps 
 
 -- the reader's outcomes, in the order in which they are tried
 module _ (n s c : ℕ) (b : List ℕ) where
-  pub received-1 : setup_ok n s c ≡ false → unread Setup ≡ read_message n s c b
+  pub received-1 : setup_ok n s c ≡ false → Err Setup ≡ read_message n s c b
   unfolding read_message
   received-1 p = rw p
 
-  pub received-31 : setup_ok n s c ≡ true → (row_of (kind_at b)).known ≡ false → unread why.UnknownKind ≡ read_message n s c b
+  pub received-31 : setup_ok n s c ≡ true → (row_of (kind_at b)).known ≡ false → Err why.UnknownKind ≡ read_message n s c b
   unfolding read_message verdict_at
   received-31 p q = rw (p, q)
 
   pub received-32 : setup_ok n s c ≡ true → (row_of (kind_at b)).known ≡ true → eqb (length b) (length_of (kind_at b)) ≡ false
-      → unread why.WrongLength ≡ read_message n s c b
+      → Err why.WrongLength ≡ read_message n s c b
   unfolding read_message verdict_at
   received-32 p q r = rw (p, q, r)
 
@@ -259,21 +256,21 @@ module _ (n s c : ℕ) (b : List ℕ) where
           rw (p, q) (valid-verdict n s c (op_at (parts_of (kind_at b)) b) (message_at b) ∙ ap (λ (t : Bool). op_range t (op_at (parts_of (kind_at b)) b) && valid n s c (message_at b)) held)
 
 -- the refusal of a verdict that blames; of one that does not it is never asked
-pub why_of : Parts → Verdict → Refusal
-why_of p verdict.Valid = why.UnknownKind
-why_of p (verdict.Blamed x) = refusal_of p x
+pub why_of : Parts → Result (Unit {0}) Blame → Refusal
+why_of p (Ok u) = why.UnknownKind
+why_of p (Err x) = refusal_of p x
 
 -- it is 31 to 35
-pub why-number : (p : Parts) (v : Verdict) → (31 ≤ number_of (why_of p v)) × (number_of (why_of p v) ≤ 35)
+pub why-number : (p : Parts) (v : Result (Unit {0}) Blame) → (31 ≤ number_of (why_of p v)) × (number_of (why_of p v) ≤ 35)
 unfolding why_of
-why-number p verdict.Valid = (omega arith, omega arith)
-why-number p (verdict.Blamed blame.Kind) = (omega arith, omega arith)
-why-number p (verdict.Blamed blame.Length) = (omega arith, omega arith)
-why-number p (verdict.Blamed blame.Way) = (omega arith, omega arith)
-why-number p (verdict.Blamed blame.Lead) = (omega arith, omega arith)
-why-number p (verdict.Blamed (blame.Of f)) = (omega arith, omega arith)
+why-number p (Ok u) = (omega arith, omega arith)
+why-number p (Err blame.Kind) = (omega arith, omega arith)
+why-number p (Err blame.Length) = (omega arith, omega arith)
+why-number p (Err blame.Way) = (omega arith, omega arith)
+why-number p (Err blame.Lead) = (omega arith, omega arith)
+why-number p (Err (blame.Of f)) = (omega arith, omega arith)
 
-pub why-other : (p : Parts) (v : Verdict) (k : ℕ) → k < 31 → eqb (number_of (why_of p v)) k ≡ false
+pub why-other : (p : Parts) (v : Result (Unit {0}) Blame) (k : ℕ) → k < 31 → eqb (number_of (why_of p v)) k ≡ false
 why-other p v k l = ne_eqb _ k (λ e. omega (arith, e, (why-number p v).0))
 
 abbrev pub why_read : ℕ → ℕ → ℕ → List ℕ → Refusal
@@ -284,16 +281,16 @@ why_written n s m = why_of (parts_in m.body) (verdict_on n s m.to (op_in m) m)
 
 -- the reader by what is valid
 pub read_is : (n s c : ℕ) (b : List ℕ) → read_message n s c b
-    ≡ cond (not (setup_ok n s c)) (unread Setup) (cond (not (valid_bytes n s c b)) (unread (why_read n s c b)) (record { answer = reading.Valid; message = message_at b }))
+    ≡ cond (not (setup_ok n s c)) (Err Setup) (cond (not (valid_bytes n s c b)) (Err (why_read n s c b)) (Ok (message_at b)))
 unfolding read_message why_of
-read_is n s c b = ap (cond (not (setup_ok n s c)) (unread Setup)) (go (verdict_at n s c b) (valid_bytes n s c b) (valid-bytes n s c b))
+read_is n s c b = ap (cond (not (setup_ok n s c)) (Err Setup)) (go (verdict_at n s c b) (valid_bytes n s c b) (valid-bytes n s c b))
   where
-    go : (v : Verdict) (t : Bool) → is_valid v ≡ t
-        → unless_blamed (parts_of (kind_at b)) v (message_at b) ≡ cond (not t) (unread (why_of (parts_of (kind_at b)) v)) (record { answer = reading.Valid; message = message_at b })
-    go verdict.Valid true e = refl
-    go verdict.Valid false e = absurd (let z : ◌≡◌ {A = ℕ} 0 1 = cc in omega arith)
-    go (verdict.Blamed x) true e = absurd (let z : ◌≡◌ {A = ℕ} 0 1 = cc in omega arith)
-    go (verdict.Blamed x) false e = refl
+    go : (v : Result (Unit {0}) Blame) (t : Bool) → is_valid v ≡ t
+        → unless_blamed (parts_of (kind_at b)) v (message_at b) ≡ cond (not t) (Err (why_of (parts_of (kind_at b)) v)) (Ok (message_at b))
+    go (Ok u) true e = refl
+    go (Ok u) false e = absurd (let z : ◌≡◌ {A = ℕ} 0 1 = cc in omega arith)
+    go (Err x) true e = absurd (let z : ◌≡◌ {A = ℕ} 0 1 = cc in omega arith)
+    go (Err x) false e = refl
 
 -- the writer's outcomes
 module _ (n s c : ℕ) (out : List ℕ) (m : Message) where
@@ -305,54 +302,48 @@ module _ (n s c : ℕ) (out : List ℕ) (m : Message) where
   unfolding wrote
   wrote-2 p q = rw (p, lt-ltb (length out) 256 q)
 
-  pub wrote-rest : setup_ok n s c ≡ true → 256 ≤ length out → (v : Verdict) → v ≡ verdict_on n s m.to (op_in m) m
+  pub wrote-rest : setup_ok n s c ≡ true → 256 ≤ length out → (v : Result (Unit {0}) Blame) → v ≡ verdict_on n s m.to (op_in m) m
       → write_unless_blamed v out m ≡ wrote n s c out m
   unfolding wrote
   wrote-rest p q v e = rw (e, p, le-ltb (length out) 256 q)
-
-  pub wrote-blamed : setup_ok n s c ≡ true → 256 ≤ length out → {x : Blame} → verdict.Blamed x ≡ verdict_on n s m.to (op_in m) m → {w : Row} → w ≡ row_in m.body
-      → {r : Refusal} → r ≡ refusal_of w.parts x → unwritten r out ≡ wrote n s c out m
-  wrote-blamed p q {x} e {w} ew er =
-      let f : refusal_of w.parts x ≡ refusal_of (parts_in m.body) x = ap (λ (w : Row). refusal_of w.parts x) ew in
-      ap (λ (z : Refusal). unwritten z out) (er ∙ f) ∙ wrote-rest p q (verdict.Blamed x) e
 
   -- the writer by what is valid
   pub wrote-is : wrote n s c out m
       ≡ cond (not (setup_ok n s c)) (unwritten Setup out)
       (cond (ltb (length out) 256) (unwritten Room out)
       (cond (not (valid n s m.to m)) (unwritten (why_written n s m) out)
-      (record { answer = writing.Bytes (length_of (kind_of m.body)); out = splice out 0 (message_bytes m) })))
+      (record { answer = Ok (length_of (kind_of m.body)); out = splice out 0 (message_bytes m) })))
   unfolding wrote why_of
   wrote-is =
       let e : is_valid (verdict_on n s m.to (op_in m) m) ≡ valid n s m.to m = valid-verdict n s m.to (op_in m) m ∙ rw (op_fits_lem n s m.to m) in
       ap (λ (x : Wrote). cond (not (setup_ok n s c)) (unwritten Setup out) (cond (ltb (length out) 256) (unwritten Room out) x))
       (go (verdict_on n s m.to (op_in m) m) (valid n s m.to m) e)
     where
-      go : (v : Verdict) (t : Bool) → is_valid v ≡ t
+      go : (v : Result (Unit {0}) Blame) (t : Bool) → is_valid v ≡ t
           → write_unless_blamed v out m
-          ≡ cond (not t) (unwritten (why_of (parts_in m.body) v) out) (record { answer = writing.Bytes (length_of (kind_of m.body)); out = splice out 0 (message_bytes m) })
-      go verdict.Valid true e = refl
-      go verdict.Valid false e = absurd (let z : ◌≡◌ {A = ℕ} 0 1 = cc in omega arith)
-      go (verdict.Blamed x) true e = absurd (let z : ◌≡◌ {A = ℕ} 0 1 = cc in omega arith)
-      go (verdict.Blamed x) false e = refl
+          ≡ cond (not t) (unwritten (why_of (parts_in m.body) v) out) (record { answer = Ok (length_of (kind_of m.body)); out = splice out 0 (message_bytes m) })
+      go (Ok u) true e = refl
+      go (Ok u) false e = absurd (let z : ◌≡◌ {A = ℕ} 0 1 = cc in omega arith)
+      go (Err x) true e = absurd (let z : ◌≡◌ {A = ℕ} 0 1 = cc in omega arith)
+      go (Err x) false e = refl
 
   pub wrote-ok : setup_ok n s c ≡ true → 256 ≤ length out → valid n s m.to m ≡ true
-      → ◌≡◌ {A = Wrote} (record { answer = writing.Bytes (length_of (kind_of m.body)); out = splice out 0 (message_bytes m) }) (wrote n s c out m)
+      → ◌≡◌ {A = Wrote} (record { answer = Ok (length_of (kind_of m.body)); out = splice out 0 (message_bytes m) }) (wrote n s c out m)
   wrote-ok p q r = sym (wrote-is ∙ rw (p, le-ltb (length out) 256 q, r))
 
 -- what the reader goes by: the kind, its row, and where its rest ends
 module _ (n s c : ℕ) (b : List ℕ) (setup : setup_ok n s c ≡ true) {k : ℕ} {r : Row} (kind : k ≡ kind_at b) (row : r ≡ row_of k) where
-  pub not_known : r.known ≡ false → unread why.UnknownKind ≡ read_message n s c b
+  pub not_known : r.known ≡ false → Err why.UnknownKind ≡ read_message n s c b
   not_known h = received-31 n s c b setup (sym (ap (λ (w : Row). w.known) (row ∙ ap row_of kind)) ∙ h)
 
-  pub not-exact : r.known ≡ true → {e : ℕ} → e ≡ rest_end r.parts head_size → (length b ≡ e → ⊥) → unread why.WrongLength ≡ read_message n s c b
+  pub not-exact : r.known ≡ true → {e : ℕ} → e ≡ rest_end r.parts head_size → (length b ≡ e → ⊥) → Err why.WrongLength ≡ read_message n s c b
   unfolding length_of
   not-exact h e d =
       let q : r ≡ row_of (kind_at b) = row ∙ ap row_of kind in
       let l : (length b ≡ length_of (kind_at b) → ⊥) = λ g. d (g ∙ sym (e ∙ ap (λ (w : Row). rest_end w.parts head_size) q)) in
       received-32 n s c b setup (sym (ap (λ (w : Row). w.known) q) ∙ h) (ne_eqb _ _ l)
 
-  pub judged-read : framed b ≡ true → {o : ℕ} → o ≡ op_at r.parts b → {m : Message} → m ≡ message_at b → {v : Verdict} → v ≡ verdict_on n s c o m
+  pub judged-read : framed b ≡ true → {o : ℕ} → o ≡ op_at r.parts b → {m : Message} → m ≡ message_at b → {v : Result (Unit {0}) Blame} → v ≡ verdict_on n s c o m
       → unless_blamed r.parts v m ≡ read_message n s c b
   judged-read h {o} eo {m} em {v} ev =
       let q : r.parts ≡ parts_of (kind_at b) = ap (λ (w : Row). w.parts) (row ∙ ap row_of kind) in

@@ -8,6 +8,7 @@ use native.Mathlib.Omega.{arith}
 use lib.Dec.{eqb}
 use lib.ListN.{length}
 use borrow.Author.Tests.{ltb-true}
+use Rattle.std.specs.Prelude.{Result, Ok, Err}
 use Rattle.numbers.specs.Fields.{size_of}
 use Rattle.codec.specs.Parts.{sent_widths}
 use Rattle.paper.specs.Setup.{setup_ok}
@@ -18,17 +19,14 @@ use Rattle.paper.specs.declared.Field.{Field}
 use Rattle.paper.specs.declared.Field.TheVariants as field
 use Rattle.paper.specs.declared.Blame.{Blame}
 use Rattle.paper.specs.declared.Blame.TheVariants as blame
-use Rattle.paper.specs.declared.Verdict.{Verdict}
-use Rattle.paper.specs.declared.Verdict.TheVariants as verdict
+use Rattle.paper.specs.declared.Message.{Message}
 use Rattle.paper.specs.declared.Refusal.{Refusal}
 use Rattle.paper.specs.declared.Refusal.TheVariants as why
 use Rattle.paper.proofs.Laws.{and-true}
 use Rattle.paper.proofs.Bodies.{all_of, every_row, every-row}
 use Rattle.paper.proofs.First.{In, rising, first-of, named, named-carried, named-short, blamed-has}
-use Rattle.wire.specs.declared.Reading.TheVariants as reading
-use Rattle.wire.specs.declared.Received.{Received}
 use Rattle.wire.specs.Wire.{head_size, past, rest_end, length_of, kind_at, message_at, framed, op_at, offset_of, width_of, verdict_at}
-use Rattle.wire.specs.Calls.{unread, unless_blamed, read_message}
+use Rattle.wire.specs.Calls.{unless_blamed, read_message}
 use Rattle.wire.proofs.Laws.{begins, told-room, command-room, sent-least, edit-last, deps-room, joined-room, framed_is, kind-held}
 
 -- a field stands within a message that has it
@@ -99,7 +97,7 @@ module _ (n s c : ℕ) (b : List ℕ) (h : framed b ≡ true) where
   unfolding op_at
   no-op e = let q : p.command ≡ false = sym (ap (λ (x : Parts). x.command) (parts_held b h)) ∙ e in rw q
 
-  first-bad : (g : Field) → verdict_on n s c (op_at p b) (message_at b) ≡ verdict.Blamed (blame.Of g) → FirstBad n s c b (offset_of p g)
+  first-bad : (g : Field) → verdict_on n s c (op_at p b) (message_at b) ≡ Err (blame.Of g) → FirstBad n s c b (offset_of p g)
   unfolding first_failing length_of
   first-bad g e =
       let k = named n s c (op_at p b) (message_at b) (blame.Of g) e in
@@ -124,21 +122,21 @@ module _ (n s c : ℕ) (b : List ℕ) (h : framed b ≡ true) where
             r.before counts y i (ap (about_field p) eq ∙ hq) (let z : offset_in p (blame_of y) ≡ offset_of p q = ap (offset_in p) eq in omega arith);
       }
 
-  by-blame : (v : Verdict) → verdict_on n s c (op_at p b) (message_at b) ≡ v → (a : ℕ) → (unless_blamed p v (message_at b)).answer ≡ reading.Refused (why.WrongField a)
+  by-blame : (v : Result (Unit {0}) Blame) → verdict_on n s c (op_at p b) (message_at b) ≡ v → (a : ℕ) → unless_blamed p v (message_at b) ≡ Err (why.WrongField a)
       → FirstBad n s c b a
-  by-blame verdict.Valid e a r = absurd (let z : ◌≡◌ {A = ℕ} 0 1 = cc in omega arith)
-  by-blame (verdict.Blamed blame.Kind) e a r = absurd (let z : ◌≡◌ {A = ℕ} 0 1 = cc in omega arith)
-  by-blame (verdict.Blamed blame.Length) e a r = absurd (let z : ◌≡◌ {A = ℕ} 0 1 = cc in omega arith)
-  by-blame (verdict.Blamed blame.Way) e a r = absurd (let z : ◌≡◌ {A = ℕ} 0 1 = cc in omega arith)
-  by-blame (verdict.Blamed blame.Lead) e a r = absurd (let z : ◌≡◌ {A = ℕ} 0 1 = cc in omega arith)
-  by-blame (verdict.Blamed (blame.Of g)) e a r = let q : offset_of p g ≡ a = cc in rw (← q) (first-bad g e)
+  by-blame (Ok u) e a r = absurd (let z : ◌≡◌ {A = ℕ} 0 1 = cc in omega arith)
+  by-blame (Err blame.Kind) e a r = absurd (let z : ◌≡◌ {A = ℕ} 0 1 = cc in omega arith)
+  by-blame (Err blame.Length) e a r = absurd (let z : ◌≡◌ {A = ℕ} 0 1 = cc in omega arith)
+  by-blame (Err blame.Way) e a r = absurd (let z : ◌≡◌ {A = ℕ} 0 1 = cc in omega arith)
+  by-blame (Err blame.Lead) e a r = absurd (let z : ◌≡◌ {A = ℕ} 0 1 = cc in omega arith)
+  by-blame (Err (blame.Of g)) e a r = let q : offset_of p g ≡ a = cc in rw (← q) (first-bad g e)
 
-pub wrong-field : (n s c : ℕ) (b : List ℕ) (a : ℕ) → setup_ok n s c ≡ true → (read_message n s c b).answer ≡ reading.Refused (why.WrongField a) → FirstBad n s c b a
+pub wrong-field : (n s c : ℕ) (b : List ℕ) (a : ℕ) → setup_ok n s c ≡ true → read_message n s c b ≡ Err (why.WrongField a) → FirstBad n s c b a
 unfolding read_message verdict_at framed
 wrong-field n s c b a setup e = go (row_of (kind_at b)).known refl (eqb (length b) (length_of (kind_at b))) refl
   where
-    no : {A : Type 0} (r : Refusal) → read_message n s c b ≡ unread r → (why.WrongField a ≡ r → ⊥) → A
-    no r q d = let x : reading.Refused r ≡ reading.Refused (why.WrongField a) = ap (λ (z : Received). z.answer) (sym q) ∙ e in absurd (d cc)
+    no : {A : Type 0} (r : Refusal) → read_message n s c b ≡ Err r → (why.WrongField a ≡ r → ⊥) → A
+    no r q d = let x : ◌≡◌ {A = Result Message Refusal} (Err r) (Err (why.WrongField a)) = sym q ∙ e in absurd (d cc)
 
     go : (k : Bool) → (row_of (kind_at b)).known ≡ k → (l : Bool) → eqb (length b) (length_of (kind_at b)) ≡ l → FirstBad n s c b a
     go false q l t = no why.UnknownKind (rw (setup, q)) (λ x. let z : ◌≡◌ {A = ℕ} 0 1 = cc in omega arith)

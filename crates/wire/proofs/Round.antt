@@ -8,6 +8,7 @@ use lib.Dec.{ltb}
 use lib.ListN.{length, get_or, take, drop, take-append-drop, length-drop}
 use lib.Seq.{take_all, take-add, drop-drop}
 use borrow.Author.Tests.{eq-eqb, eqb-true, ltb-false}
+use Rattle.std.specs.Prelude.{Result, Ok, Err}
 use Rattle.numbers.specs.Num.{num_at, splice}
 use Rattle.numbers.specs.Fields.{size_of, fields_at, FieldsFit}
 use Rattle.numbers.proofs.Laws.{splice-same}
@@ -29,11 +30,8 @@ use Rattle.paper.specs.declared.Parts.{Parts}
 use Rattle.paper.specs.declared.Message.{Message}
 use Rattle.paper.specs.declared.Refusal.{Refusal}
 use Rattle.paper.specs.declared.Refusal.TheVariants as why
-use Rattle.wire.specs.declared.Reading.TheVariants as reading
-use Rattle.wire.specs.declared.Received.{Received}
-use Rattle.wire.specs.declared.Writing.TheVariants as writing
 use Rattle.wire.specs.Wire.{head_widths, told_widths, joined_widths, head_numbers, past, command_start, deps_start, joined_start, rest_end, length_of, part, told_bytes, joined_bytes, head_bytes, rest_bytes, message_bytes, kind_at, carried_at, beside_at, body_at, message_at, framed, op_at, op_fits, valid_bytes}
-use Rattle.wire.specs.Calls.{unread, read_message, unwritten, Wrote, wrote, writing_count}
+use Rattle.wire.specs.Calls.{read_message, unwritten, Wrote, wrote, writing_count}
 use Rattle.wire.proofs.Laws.{past-over, told-room, command-room, deps-room, joined-room, ten, long-enough, Framed, framed_is, kind-held, length-head_bytes, told-ends, command-ends, deps-ends, length-message_bytes, why_read, why_written, read_is, wrote-is, wrote-ok}
 
 -- each number fits its field
@@ -283,15 +281,15 @@ valid-written n s c b f o v = rw (f, o) v
 
 -- Written messages read back equal: what a message that the writer takes is written as, its receiver reads as that message.
 pub written-reads-back : (n s c : ℕ) (m : Message) → MessageFits m → setup_ok n s c ≡ true → valid n s c m ≡ true
-    → read_message n s c (message_bytes m) ≡ record { answer = reading.Valid; message = m }
+    → read_message n s c (message_bytes m) ≡ Ok m
 written-reads-back n s c m f p v =
     let h = valid-short n s c m v in
     let e : message_at (message_bytes m) ≡ m = message_at-message_bytes m f h (valid-carried n s c m v) in
     let w : valid_bytes n s c (message_bytes m) ≡ true = valid-written n s c (message_bytes m) (framed-written m f h) (op-written m f h) (ap (valid n s c) e ∙ v) in
-    read_is n s c (message_bytes m) ∙ rw (p, w) (ap (λ (x : Message). record { answer = reading.Valid; message = x }) e)
+    read_is n s c (message_bytes m) ∙ rw (p, w) (ap (λ (x : Message). Ok x) e)
 
 write-then-read : (n s c : ℕ) (out : List ℕ) (m : Message) → MessageFits m → setup_ok n s c ≡ true → setup_ok n s m.to ≡ true → 256 ≤ length out
-    → valid n s m.to m ≡ true → read_message n s m.to (take (length_of (kind_of m.body)) (wrote n s c out m).out) ≡ record { answer = reading.Valid; message = m }
+    → valid n s m.to m ≡ true → read_message n s m.to (take (length_of (kind_of m.body)) (wrote n s c out m).out) ≡ Ok m
 write-then-read n s c out m f p q r v =
     let w = ap (λ (x : Wrote). x.out) (wrote-ok n s c out m p r v) in
     let l = length-message_bytes m in
@@ -302,25 +300,25 @@ write-then-read n s c out m f p q r v =
 
 -- The same of the calls: where the writer answers a count, so many bytes of the room are read by the copy named in `to` as that
 -- message.
-pub written_read : (n s c : ℕ) (out : List ℕ) (m : Message) (k : ℕ) → MessageFits m → (wrote n s c out m).answer ≡ writing.Bytes k
-    → read_message n s m.to (take k (wrote n s c out m).out) ≡ record { answer = reading.Valid; message = m }
+pub written_read : (n s c : ℕ) (out : List ℕ) (m : Message) (k : ℕ) → MessageFits m → (wrote n s c out m).answer ≡ Ok k
+    → read_message n s m.to (take k (wrote n s c out m).out) ≡ Ok m
 unfolding setup_ok
 written_read n s c out m k f e = go (setup_ok n s c) refl (ltb (length out) 256) refl (valid n s m.to m) refl
   where
     refused : {A : Type 0} (r : Refusal) → wrote n s c out m ≡ unwritten r out → A
     refused r h =
-        let x : writing.Refused r ≡ writing.Bytes k = ap (λ (w : Wrote). w.answer) (sym h) ∙ e in
+        let x : ◌≡◌ {A = Result ℕ Refusal} (Err r) (Ok k) = ap (λ (w : Wrote). w.answer) (sym h) ∙ e in
         let z : ◌≡◌ {A = ℕ} 0 1 = cc in
         absurd (omega arith)
 
     go : (a : Bool) → setup_ok n s c ≡ a → (b : Bool) → ltb (length out) 256 ≡ b → (v : Bool) → valid n s m.to m ≡ v
-        → read_message n s m.to (take k (wrote n s c out m).out) ≡ record { answer = reading.Valid; message = m }
+        → read_message n s m.to (take k (wrote n s c out m).out) ≡ Ok m
     go false p b q v r = refused why.Setup (wrote-is n s c out m ∙ rw p)
     go true p true q v r = refused why.Room (wrote-is n s c out m ∙ rw (p, q))
     go true p false q false r = refused (why_written n s m) (wrote-is n s c out m ∙ rw (p, q, r))
     go true p false q true r =
         let long : 256 ≤ length out = ltb-false (length out) 256 q in
-        let a : writing.Bytes (length_of (kind_of m.body)) ≡ writing.Bytes k = ap (λ (w : Wrote). w.answer) (wrote-ok n s c out m p long r) ∙ e in
+        let a : ◌≡◌ {A = Result ℕ Refusal} (Ok (length_of (kind_of m.body))) (Ok k) = ap (λ (w : Wrote). w.answer) (wrote-ok n s c out m p long r) ∙ e in
         let count : length_of (kind_of m.body) ≡ k = ap writing_count a in
         let sizes = (and-true (copies_ok n && numbers_ok s) (copy_ok n c) p).0 in
         let there : setup_ok n s m.to ≡ true = rw (sizes, (clauses-of n s m.to m r).to) in
@@ -335,7 +333,7 @@ accepted-writes-back n s c b byte h =
     message_bytes-message_at b byte (framed_is b q.0) q.1
 
 read-then-write : (n s c d : ℕ) (b out : List ℕ) → ((i : ℕ) → get_or b i 0 < 256) → setup_ok n s d ≡ true → 256 ≤ length out → valid_bytes n s c b ≡ true
-    → wrote n s d out (message_at b) ≡ record { answer = writing.Bytes (length b); out = splice out 0 b }
+    → wrote n s d out (message_at b) ≡ record { answer = Ok (length b); out = splice out 0 b }
 unfolding valid_bytes
 read-then-write n s c d b out byte p r h =
     let e : message_bytes (message_at b) ≡ b = accepted-writes-back n s c b byte h in
@@ -344,24 +342,25 @@ read-then-write n s c d b out byte p r h =
     let u : valid n s (message_at b).to (message_at b) ≡ true = ap (λ (x : ℕ). valid n s x (message_at b)) t ∙ v in
     let l : length_of (kind_of (message_at b).body) ≡ length b = sym (length-message_bytes (message_at b)) ∙ ap length e in
     sym (wrote-ok n s d out (message_at b) p r u)
-    ∙ ap₂ (λ (k : ℕ) (x : List ℕ). record { answer = writing.Bytes k; out = splice out 0 x }) l e
+    ∙ ap₂ (λ (k : ℕ) (x : List ℕ). record { answer = Ok k; out = splice out 0 x }) l e
 
 -- The same of the calls: what the reader hands back where it answers that it is valid, the writer takes, counts as many bytes as were
 -- read, and writes them.
-pub read-written : (n s c d : ℕ) (b out : List ℕ) → ((i : ℕ) → get_or b i 0 < 256) → setup_ok n s d ≡ true → 256 ≤ length out → (read_message n s c b).answer ≡ reading.Valid
-    → wrote n s d out (read_message n s c b).message ≡ record { answer = writing.Bytes (length b); out = splice out 0 b }
-read-written n s c d b out byte p r e = go (setup_ok n s c) refl (valid_bytes n s c b) refl
+pub read-written : (n s c d : ℕ) (b out : List ℕ) → ((i : ℕ) → get_or b i 0 < 256) → setup_ok n s d ≡ true → 256 ≤ length out → (m : Message) → read_message n s c b ≡ Ok m
+    → wrote n s d out m ≡ record { answer = Ok (length b); out = splice out 0 b }
+read-written n s c d b out byte p r m e = go (setup_ok n s c) refl (valid_bytes n s c b) refl
   where
-    refused : {A : Type 0} (r : Refusal) → read_message n s c b ≡ unread r → A
+    refused : {A : Type 0} (r : Refusal) → read_message n s c b ≡ Err r → A
     refused r h =
-        let x : reading.Refused r ≡ reading.Valid = ap (λ (w : Received). w.answer) (sym h) ∙ e in
+        let x : ◌≡◌ {A = Result Message Refusal} (Err r) (Ok m) = sym h ∙ e in
         let z : ◌≡◌ {A = ℕ} 0 1 = cc in
         absurd (omega arith)
 
     go : (a : Bool) → setup_ok n s c ≡ a → (v : Bool) → valid_bytes n s c b ≡ v
-        → wrote n s d out (read_message n s c b).message ≡ record { answer = writing.Bytes (length b); out = splice out 0 b }
+        → wrote n s d out m ≡ record { answer = Ok (length b); out = splice out 0 b }
     go false q v h = refused why.Setup (read_is n s c b ∙ rw q)
     go true q false h = refused (why_read n s c b) (read_is n s c b ∙ rw (q, h))
     go true q true h =
-        let x : read_message n s c b ≡ record { answer = reading.Valid; message = message_at b } = read_is n s c b ∙ rw (q, h) in
-        rw x (read-then-write n s c d b out byte p r h)
+        let x : ◌≡◌ {A = Result Message Refusal} (Ok (message_at b)) (Ok m) = sym (read_is n s c b ∙ rw (q, h)) ∙ e in
+        let y : message_at b ≡ m = cc in
+        rw (← y) (read-then-write n s c d b out byte p r h)

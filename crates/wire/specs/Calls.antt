@@ -1,8 +1,8 @@
 -- What the reader and the writer answer, and every lent byte after. Assumes nothing.
-use Rattle.std.specs.Prelude.{ℕ, not, cond, List, ltb, length}
+use Rattle.std.specs.Prelude.{ℕ, not, cond, List, ltb, length, Result, Ok, Err}
 use Rattle.numbers.specs.Num.{splice}
 use Rattle.paper.specs.Setup.{setup_ok}
-use Rattle.paper.specs.Message.{no_message, kind_of, parts_of, parts_in}
+use Rattle.paper.specs.Message.{kind_of, parts_of, parts_in}
 use Rattle.paper.specs.Valid.{op_in, verdict_on}
 use Rattle.paper.specs.Refusal.{number_of, offset_in}
 use Rattle.paper.specs.declared.Refusal.{Refusal}
@@ -12,18 +12,7 @@ use Rattle.paper.specs.declared.Parts.{Parts}
 use Rattle.paper.specs.declared.Message.{Message}
 use Rattle.paper.specs.declared.Blame.{Blame}
 use Rattle.paper.specs.declared.Blame.TheVariants as blame
-use Rattle.paper.specs.declared.Verdict.{Verdict}
-use Rattle.paper.specs.declared.Verdict.TheVariants as verdict
-use Rattle.wire.specs.declared.Reading.{Reading}
-use Rattle.wire.specs.declared.Reading.TheVariants as reading
-use Rattle.wire.specs.declared.Received.{Received}
-use Rattle.wire.specs.declared.Writing.{Writing}
-use Rattle.wire.specs.declared.Writing.TheVariants as writing
 use Rattle.wire.specs.Wire.{length_of, kind_at, message_at, message_bytes, verdict_at, offset_of}
-
--- a refused reader hands back no message
-abbrev pub unread : Refusal → Received
-unread r = record { answer = reading.Refused r; message = no_message }
 
 -- the refusal that a blame is, in a message with these parts
 abbrev pub refusal_of : Parts → Blame → Refusal
@@ -34,27 +23,27 @@ refusal_of p blame.Lead = why.WrongLead
 refusal_of p (blame.Of f) = why.WrongField (offset_of p f)
 
 -- the message, unless it is blamed
-abbrev pub unless_blamed : Parts → Verdict → Message → Received
-unless_blamed p verdict.Valid m = record { answer = reading.Valid; message = m }
-unless_blamed p (verdict.Blamed x) m = unread (refusal_of p x)
+abbrev pub unless_blamed : Parts → Result (Unit {0}) Blame → Message → Result Message Refusal
+unless_blamed p (Ok u) m = Ok m
+unless_blamed p (Err x) m = Err (refusal_of p x)
 
 -- 1, then what is wrong with the bytes
-unfoldable pub read_message : ℕ → ℕ → ℕ → List ℕ → Received
+unfoldable pub read_message : ℕ → ℕ → ℕ → List ℕ → Result Message Refusal
 read_message n s c b =
-    cond (not (setup_ok n s c)) (unread Setup) (unless_blamed (parts_of (kind_at b)) (verdict_at n s c b) (message_at b))
+    cond (not (setup_ok n s c)) (Err Setup) (unless_blamed (parts_of (kind_at b)) (verdict_at n s c b) (message_at b))
 
 -- the writer's answer and the room after it
 pub record Wrote : Type 0 where
-  pub answer : Writing
+  pub answer : Result ℕ Refusal
   pub out : List ℕ
 
 abbrev pub unwritten : Refusal → List ℕ → Wrote
-unwritten r out = record { answer = writing.Refused r; out = out }
+unwritten r out = record { answer = Err r; out = out }
 
 -- a message that nobody blames is written; later bytes keep their contents
-abbrev pub write_unless_blamed : Verdict → List ℕ → Message → Wrote
-write_unless_blamed verdict.Valid out m = record { answer = writing.Bytes (length_of (kind_of m.body)); out = splice out 0 (message_bytes m) }
-write_unless_blamed (verdict.Blamed x) out m = unwritten (refusal_of (parts_in m.body) x) out
+abbrev pub write_unless_blamed : Result (Unit {0}) Blame → List ℕ → Message → Wrote
+write_unless_blamed (Ok u) out m = record { answer = Ok (length_of (kind_of m.body)); out = splice out 0 (message_bytes m) }
+write_unless_blamed (Err x) out m = unwritten (refusal_of (parts_in m.body) x) out
 
 -- 1, then 2, then what the copy that it goes to would say
 unfoldable pub wrote : ℕ → ℕ → ℕ → List ℕ → Message → Wrote
@@ -63,23 +52,23 @@ wrote n s c out m =
     (cond (ltb (length out) 256) (unwritten Room out) (write_unless_blamed (verdict_on n s m.to (op_in m) m) out m))
 
 -- the paper's number of an answer, 0 for none, and the count beside it
-abbrev pub reading_number : Reading → ℕ
-reading_number reading.Valid = 0
-reading_number (reading.Refused r) = number_of r
+abbrev pub reading_number : Result Message Refusal → ℕ
+reading_number (Ok m) = 0
+reading_number (Err r) = number_of r
 
 -- the offset of a bad field, 0 for none
-abbrev pub reading_offset : Reading → ℕ
-reading_offset reading.Valid = 0
-reading_offset (reading.Refused r) = offset_in r
+abbrev pub reading_offset : Result Message Refusal → ℕ
+reading_offset (Ok m) = 0
+reading_offset (Err r) = offset_in r
 
-abbrev pub writing_number : Writing → ℕ
-writing_number (writing.Bytes k) = 0
-writing_number (writing.Refused r) = number_of r
+abbrev pub writing_number : Result ℕ Refusal → ℕ
+writing_number (Ok k) = 0
+writing_number (Err r) = number_of r
 
-abbrev pub writing_count : Writing → ℕ
-writing_count (writing.Bytes k) = k
-writing_count (writing.Refused r) = 0
+abbrev pub writing_count : Result ℕ Refusal → ℕ
+writing_count (Ok k) = k
+writing_count (Err r) = 0
 
-abbrev pub writing_offset : Writing → ℕ
-writing_offset (writing.Bytes k) = 0
-writing_offset (writing.Refused r) = offset_in r
+abbrev pub writing_offset : Result ℕ Refusal → ℕ
+writing_offset (Ok k) = 0
+writing_offset (Err r) = offset_in r

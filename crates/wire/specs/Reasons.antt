@@ -1,9 +1,8 @@
 -- 1/12, in bytes: what copy 2 of five, with four numbers each, says of bytes that break each clause. Assumes nothing.
-use Rattle.std.specs.Prelude.{ℕ, ◌*◌, List, [], ◌∷◌, ◌++◌, replicate, set}
+use Rattle.std.specs.Prelude.{ℕ, ◌*◌, List, [], ◌∷◌, ◌++◌, replicate, set, Result, Err}
+use Rattle.paper.specs.declared.Message.{Message}
 use Rattle.paper.specs.declared.Refusal.{Refusal}
 use Rattle.paper.specs.declared.Refusal.TheVariants as why
-use Rattle.wire.specs.declared.Reading.{Reading}
-use Rattle.wire.specs.declared.Reading.TheVariants as reading
 use Rattle.wire.specs.Calls.{read_message}
 
 abbrev pub head : ℕ → ℕ → ℕ → ℕ → ℕ → ℕ → List ℕ
@@ -43,11 +42,11 @@ abbrev pub tells_long : ℕ → ℕ → List ℕ → List ℕ → List ℕ
 tells_long v t k d = head 12 0 2 1 3 18 ++ v ∷ 0 ∷ 0 ∷ 0 ∷ t ∷ [] ++ k ++ d
 
 pub record Reason : Type 0 where
-  pub answer : Reading
-  pub is : Reading
+  pub answer : Result Message Refusal
+  pub is : Result Message Refusal
 
 abbrev pub refuses : Refusal → List ℕ → Reason
-refuses r b = record { answer = (read_message 5 4 2 b).answer; is = reading.Refused r }
+refuses r b = record { answer = read_message 5 4 2 b; is = Err r }
 
 unfoldable pub reasons : List Reason
 reasons =
@@ -119,10 +118,10 @@ reasons =
     ∷ refuses (why.WrongField 10) (head 1 1 2 1 3 0 ++ noop ++ entry 0 5)
     ∷ []
 
-unfoldable pub answers_of : List Reason → List Reading
+unfoldable pub answers_of : List Reason → List (Result Message Refusal)
 answers_of [] = []
 answers_of (x ∷ xs) = x.answer ∷ answers_of xs
 
-unfoldable pub refusals_of : List Reason → List Reading
+unfoldable pub refusals_of : List Reason → List (Result Message Refusal)
 refusals_of [] = []
 refusals_of (x ∷ xs) = x.is ∷ refusals_of xs

@@ -1,6 +1,6 @@
 -- "Messages": the bytes of each kind: the head, then the parts that its row has, in their order. Length, reader and writer go by
 -- the places that follow from the parts' widths. Assumes nothing.
-use Rattle.std.specs.Prelude.{ℕ, ◌+◌, ◌*◌, ◌≡◌, Bool, true, false, ◌&&◌, not, cond, List, [], ◌∷◌, ◌++◌, eqb, length, take}
+use Rattle.std.specs.Prelude.{ℕ, ◌+◌, ◌*◌, ◌≡◌, Bool, true, false, ◌&&◌, not, cond, List, [], ◌∷◌, ◌++◌, eqb, length, take, Result, Err}
 use Rattle.numbers.specs.Num.{num_at}
 use Rattle.numbers.specs.Fields.{size_of, fields_bytes}
 use Rattle.codec.specs.Parts.{sent_widths, deps_widths, sent_at, deps_at, sent_bytes, deps_bytes}
@@ -13,9 +13,8 @@ use Rattle.paper.specs.declared.Parts.{Parts}
 use Rattle.paper.specs.declared.Message.{Message}
 use Rattle.paper.specs.declared.Field.{Field}
 use Rattle.paper.specs.declared.Field.TheVariants as field
+use Rattle.paper.specs.declared.Blame.{Blame}
 use Rattle.paper.specs.declared.Blame.TheVariants as blame
-use Rattle.paper.specs.declared.Verdict.{Verdict}
-use Rattle.paper.specs.declared.Verdict.TheVariants as verdict
 
 -- kind, from, to, owner, number, ballot
 abbrev pub head_widths : List ℕ
@@ -134,10 +133,10 @@ unfoldable pub valid_bytes : ℕ → ℕ → ℕ → List ℕ → Bool
 valid_bytes n s c b = framed b && op_fits b && valid n s c (message_at b)
 
 -- 1/12: what copy c finds these bytes to be: the kind first, then the length, then the clauses
-unfoldable pub verdict_at : ℕ → ℕ → ℕ → List ℕ → Verdict
+unfoldable pub verdict_at : ℕ → ℕ → ℕ → List ℕ → Result (Unit {0}) Blame
 verdict_at n s c b =
-    cond (not (row_of (kind_at b)).known) (verdict.Blamed blame.Kind)
-    (cond (not (eqb (length b) (length_of (kind_at b)))) (verdict.Blamed blame.Length)
+    cond (not (row_of (kind_at b)).known) (Err blame.Kind)
+    (cond (not (eqb (length b) (length_of (kind_at b)))) (Err blame.Length)
     (verdict_on n s c (op_at (parts_of (kind_at b)) b) (message_at b)))
 
 -- the edit stands in a command behind the keys

@@ -6,16 +6,16 @@ ghost use Rattle.numbers.specs.Num.{num_at, splice};
 ghost use Rattle.numbers.specs.Fields.{size_of};
 ghost use Rattle.codec.specs.Parts.{sent_widths, sent_at, sent_bytes, deps_bytes};
 ghost use Rattle.paper.specs.Command.{noop};
-ghost use Rattle.paper.specs.Message.{kind_of, body_of, no_message};
+ghost use Rattle.paper.specs.Message.{kind_of, body_of};
 ghost use Rattle.wire.specs.Wire.{head_size, command_start, deps_start, joined_start, rest_end, length_of, kind_at, carried_at, beside_at, message_at, OfKind, op_at, edit_in_command, offset_of, width_of, told_bytes, joined_bytes, part, head_bytes, rest_bytes, message_bytes};
-ghost use Rattle.wire.specs.Calls.{unread, refusal_of, read_message, wrote};
+ghost use Rattle.wire.specs.Calls.{refusal_of, read_message, wrote};
 
 use nouns::deps::no_deps;
 use nouns::logic::wide8;
 use nouns::message::{body_of, carried_in, kind_of, op_in, row_in, row_of};
 use nouns::setup::setup_ok;
 use nouns::vote::noop;
-use paper::{Blame, Body, Carried, Command, Field, Message, Parts, Refusal, Verdict};
+use paper::{Blame, Body, Carried, Command, Field, Message, Parts, Refusal};
 use valid::verdict_on;
 
 // How many bytes the head takes, and each part of the rest.
@@ -30,25 +30,6 @@ const LONG: usize = 17;
 const DEPS: usize = 14;
 
 const JOINED: usize = 4;
-
-#[derive(Clone, Copy)]
-pub enum Reading {
-    Valid,
-    Refused(Refusal),
-}
-
-// The message is the blank one where the answer is a refusal.
-#[derive(Clone, Copy)]
-pub struct Received {
-    pub answer: Reading,
-    pub message: Message,
-}
-
-#[derive(Clone, Copy)]
-pub enum Writing {
-    Bytes(usize),
-    Refused(Refusal),
-}
 
 // How many bytes a command takes, with its second key or without.
 fn command_length(second: bool) -> usize
@@ -222,31 +203,6 @@ fn message_at(k: usize, p: Parts, b: &[u8]) -> Message
     }
 }
 
-fn no_message() -> Message
-    ensures { result ≡ no_message }
-{
-    let deps = no_deps();
-    Message {
-        from: 0,
-        to: 0,
-        owner: 0,
-        number: 0,
-        ballot: 0,
-        body: Body::Prepare,
-        deps,
-    }
-}
-
-fn unread(why: Refusal) -> Received
-    ensures { result ≡ unread why }
-{
-    let message = no_message();
-    Received {
-        answer: Reading::Refused(why),
-        message,
-    }
-}
-
 fn edit_in_command(second: bool) -> usize
     ensures { result ≡ edit_in_command second }
 {
@@ -269,7 +225,7 @@ pub fn offset_of(p: Parts, f: Field) -> usize
         Field::Key => command_start(p, HEAD) + 1,
         Field::Second => command_start(p, HEAD) + 5,
         Field::Edit => command_start(p, HEAD) + edit_in_command(p.second),
-        Field::Entry(i) => deps_start(p, HEAD) + 2 * wide8(i),
+        Field::Entry(i) => deps_start(p, HEAD) + 2 * (i as usize),
         Field::Joined => joined_start(p, HEAD),
     }
 }
@@ -309,29 +265,24 @@ pub fn refusal_of(p: Parts, x: Blame) -> Refusal
 }
 
 // Reads a message of any bytes, as received by copy c under the setup n, s.
-pub fn read_message(n: usize, s: usize, c: usize, b: &[u8]) -> Received
+pub fn read_message(n: usize, s: usize, c: usize, b: &[u8]) -> Result<Message, Refusal>
     ensures { result ≡ read_message n s c b.now }
 {
     if !setup_ok(n, s, c) {
-        return unread(Refusal::Setup);
+        return Err(Refusal::Setup);
     }
     let k = kind_at(b);
     let row = row_of(k);
     if !row.known {
-        return unread(Refusal::UnknownKind);
+        return Err(Refusal::UnknownKind);
     }
     if b.len() != rest_end(row.parts, HEAD) {
-        return unread(Refusal::WrongLength);
+        return Err(Refusal::WrongLength);
     }
     let op = op_at(row.parts, b);
     let m = message_at(k, row.parts, b);
-    match verdict_on(n, s, c, row, op, m) {
-        Verdict::Valid => Received {
-            answer: Reading::Valid,
-            message: m,
-        },
-        Verdict::Blamed(why) => unread(refusal_of(row.parts, why)),
-    }
+    verdict_on(n, s, c, row, op, m).map_err(|why| refusal_of(row.parts, why))?;
+    Ok(m)
 }
 
 fn write_head(out: &mut [u8], at: usize, m: Message)
@@ -411,23 +362,25 @@ pub fn message_bytes(out: &mut [u8], at: usize, m: Message)
 }
 
 // Writes a message into lent room of 256 bytes or more.
-pub fn write_message(n: usize, s: usize, c: usize, out: &mut [u8], m: Message) -> Writing
+pub fn write_message(
+    n: usize,
+    s: usize,
+    c: usize,
+    out: &mut [u8],
+    m: Message,
+) -> Result<usize, Refusal>
     ensures answers { result ≡ (wrote n s c out.old m).answer }
     ensures room { out.new ≡ (wrote n s c out.old m).out }
 {
     if !setup_ok(n, s, c) {
-        return Writing::Refused(Refusal::Setup);
+        return Err(Refusal::Setup);
     }
     if out.len() < 256 {
-        return Writing::Refused(Refusal::Room);
+        return Err(Refusal::Room);
     }
     let body = m.body;
     let row = row_in(body);
-    match verdict_on(n, s, wide8(m.to), row, op_in(m), m) {
-        Verdict::Valid => {
-            message_bytes(out, 0, m);
-            Writing::Bytes(rest_end(row.parts, HEAD))
-        }
-        Verdict::Blamed(why) => Writing::Refused(refusal_of(row.parts, why)),
-    }
+    verdict_on(n, s, m.to as usize, row, op_in(m), m).map_err(|why| refusal_of(row.parts, why))?;
+    message_bytes(out, 0, m);
+    Ok(rest_end(row.parts, HEAD))
 }

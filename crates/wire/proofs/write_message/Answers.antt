@@ -1,31 +1,29 @@
-use mathlib.Core.Path.{sym, ap, ◌∙◌, ap₂}
+use mathlib.Core.Path.{sym, ap, ◌∙◌}
 use native.Mathlib.Omega.{arith}
 use Rattle.paper.specs.Message.{kind_of}
-use Rattle.paper.specs.declared.Verdict.TheVariants as verdict
-use Rattle.wire.specs.declared.Writing.TheVariants as writing
 use Rattle.wire.specs.Calls.{Wrote}
-use Rattle.wire.proofs.Laws.{long-enough, wrote-1, wrote-2, wrote-rest, wrote-blamed}
+use Rattle.wire.proofs.Laws.{long-enough, wrote-1, wrote-2, wrote-rest}
 use Prim.Native.Nat.{ℕ}
 use Rattle.paper.specs.Valid.{verdict_on}
 use Rattle.paper.specs.declared.Row.{Row}
 use Rattle.wire.specs.Wire.{head_size, rest_end, length_of}
 use Rattle.wire.proofs.write_message.Goals as goal
 
-pub returns-in-Valid : goal.returns-in-Valid
+pub returns : goal.returns
 unfolding length_of
-returns-in-Valid c =
+returns c =
     let a = c.args in
-    let v = sym c.in-Valid.is ∙ c.verdict_on.ensures ∙ ap₂ (λ (x o : ℕ). verdict_on a.n a.s x o a.m) c.wide8.ensures c.op_in.ensures in
-    let e = wrote-rest _ _ _ _ _ (sym c.setup_ok.ensures ∙ c.if-not-setup_ok.false) c.if-out-lt256.false verdict.Valid v in
+    let v = c.verdict_on.ensures ∙ ap (λ (o : ℕ). verdict_on a.n a.s a.m.to o a.m) c.op_in.ensures in
+    let e = wrote-rest a.n a.s a.c a.out.now a.m (sym c.setup_ok.ensures ∙ c.if-not-setup_ok.false) c.if-out-lt256.false c.verdict_on.result v in
     let k = c.rest_end.ensures ∙ ap (λ (w : Row). rest_end w.parts head_size) c.row_in-row.ensures in
-    record { answers = ap writing.Bytes k ∙ ap (λ (w : Wrote). w.answer) e; room = c.message_bytes.ensures ∙ ap (λ (w : Wrote). w.out) e }
+    record { answers = grind (arith, e, k); room = grind (arith, e, c.message_bytes.ensures) }
 
-pub returns-in-Blamed : goal.returns-in-Blamed
-returns-in-Blamed c =
+pub returns-in_err-map_err : goal.returns-in_err-map_err
+returns-in_err-map_err c =
     let a = c.args in
-    let v = sym c.in-Blamed.is ∙ c.verdict_on.ensures ∙ ap₂ (λ (x o : ℕ). verdict_on a.n a.s x o a.m) c.wide8.ensures c.op_in.ensures in
-    let e = wrote-blamed _ _ _ _ _ (sym c.setup_ok.ensures ∙ c.if-not-setup_ok.false) c.if-out-lt256.false v c.row_in-row.ensures c.refusal_of.ensures in
-    record { answers = ap (λ (w : Wrote). w.answer) e; room = ap (λ (w : Wrote). w.out) e }
+    let v = c.verdict_on.ensures ∙ ap (λ (o : ℕ). verdict_on a.n a.s a.m.to o a.m) c.op_in.ensures in
+    let e = wrote-rest a.n a.s a.c a.out.now a.m (sym c.setup_ok.ensures ∙ c.if-not-setup_ok.false) c.if-out-lt256.false c.verdict_on.result v in
+    record { answers = grind (arith, e, c.row_in-row.ensures, c.from_residual.ensures, c.map_err.ensures); room = grind (arith, e) }
 
 pub returns-then-not-setup_ok : goal.returns-then-not-setup_ok
 returns-then-not-setup_ok c =

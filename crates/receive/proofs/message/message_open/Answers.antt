@@ -1,30 +1,25 @@
-use borrow.Author.Rules.{rules}
+use mathlib.Core.Path.{sym, ◌∙◌}
 use native.Mathlib.Omega.{arith}
 use Rattle.numbers.specs.Num.{Bytes}
 use Rattle.gate.proofs.Calls.{met, refused, setup-of}
 use Rattle.receive.proofs.Laws.{unread, read, receive_ok, hearing}
 use Rattle.receive.proofs.message.message_open.Goals as goal
 
-pub returns-in-Refused : goal.returns-in-Refused
-returns-in-Refused c = let z = c in
-    let a = z.args in
-    let e = c.read_message-x.ensures in
-    let setup = setup-of _ _ _ _ z.requires.setup in
-    met (unread _ _ _ a.t.now a.out.now a.b.now e setup _ c.in-Refused.is) (refused _ _ _)
+pub returns-in_err-m : goal.returns-in_err-m
+returns-in_err-m c =
+    let a = c.args in
+    met (unread a.n a.s a.c a.t.now a.out.now a.b.now _ (sym c.in_err-m.is ∙ c.read_message-m.ensures)) (refused _ _ _)
 
 pub hear-requires : goal.hear-requires
-hear-requires c = let z = c in
-    let a = z.args in
-    let e = c.read_message-x.ensures in
-    let setup = setup-of _ _ _ _ z.requires.setup in
-    let rd = read _ _ _ a.t.now a.out.now a.b.now e setup c.in_default.is in
+hear-requires c =
+    let a = c.args in
+    let rd = read a.n a.s a.c a.t.now a.out.now a.b.now _ (sym c.in_ok-m.is ∙ c.read_message-m.ensures) (setup-of _ _ _ _ c.requires.setup) in
     let bt : Bytes a.b.now = λ i. omega (arith, c.type_inv.b i) in
-    hearing _ _ _ _ a.out.now a.b.now bt z.requires rd.1 rd.0
+    hearing _ _ _ _ a.out.now a.b.now bt c.requires rd.1 rd.0
 
 pub returns : goal.returns
-returns c = let z = c in
-    let a = z.args in
-    let e = c.read_message-x.ensures in
-    let setup = setup-of _ _ _ _ z.requires.setup in
-    let rd = read _ _ _ a.t.now a.out.now a.b.now e setup c.in_default.is in
+returns c =
+    let a = c.args in
+    let setup = setup-of _ _ _ _ c.requires.setup in
+    let rd = read a.n a.s a.c a.t.now a.out.now a.b.now _ (sym c.in_ok-m.is ∙ c.read_message-m.ensures) setup in
     met (receive_ok _ _ _ a.t.now a.out.now a.b.now setup rd.1 rd.0) c.hear.ensures

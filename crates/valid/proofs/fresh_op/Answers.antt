@@ -1,4 +1,0 @@
-use Rattle.valid.proofs.fresh_op.Goals as goal
-
-pub returns : goal.returns
-returns c = cc

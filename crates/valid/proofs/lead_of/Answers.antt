@@ -1,4 +1,0 @@
-use Rattle.valid.proofs.lead_of.Goals as goal
-
-pub returns : goal.returns
-returns c = cc
