@@ -8,12 +8,12 @@ use Rattle.receive.proofs.message.message_open.Goals as goal
 pub returns-in_err-m : goal.returns-in_err-m
 returns-in_err-m c =
     let a = c.args in
-    met (unread a.n a.s a.c a.t.now a.out.now a.b.now _ (sym c.in_err-m.is ∙ c.read_message.ensures)) (refused _ _ _)
+    met (unread a.n a.s a.c a.t.now a.out.now a.b.now _ (sym c.in_err-m.was ∙ c.read_message.ensures)) (refused _ _ _)
 
 pub hear-requires : goal.hear-requires
 hear-requires c =
     let a = c.args in
-    let rd = read a.n a.s a.c a.t.now a.out.now a.b.now _ (sym c.in_ok-m.is ∙ c.read_message.ensures) (setup-of _ _ _ _ c.requires.setup) in
+    let rd = read a.n a.s a.c a.t.now a.out.now a.b.now _ (sym c.in_ok-m.was ∙ c.read_message.ensures) (setup-of _ _ _ _ c.requires.setup) in
     let bt : Bytes a.b.now = λ i. omega (arith, c.type_inv.b i) in
     hearing _ _ _ _ a.out.now a.b.now bt c.requires rd.1 rd.0
 
@@ -21,5 +21,5 @@ pub returns : goal.returns
 returns c =
     let a = c.args in
     let setup = setup-of _ _ _ _ c.requires.setup in
-    let rd = read a.n a.s a.c a.t.now a.out.now a.b.now _ (sym c.in_ok-m.is ∙ c.read_message.ensures) setup in
+    let rd = read a.n a.s a.c a.t.now a.out.now a.b.now _ (sym c.in_ok-m.was ∙ c.read_message.ensures) setup in
     met (receive_ok _ _ _ a.t.now a.out.now a.b.now setup rd.1 rd.0) c.hear.ensures
