@@ -38,6 +38,7 @@ fn hear(
 }
 
 // Past the gate.
+#[tactic(auto, unfolding(gate::specs::Events::receive_open))]
 fn message_open(
     t: &mut [u8],
     out: &mut [u8],

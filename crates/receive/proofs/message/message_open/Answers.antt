@@ -5,11 +5,6 @@ use Rattle.gate.proofs.Calls.{met, refused, setup-of}
 use Rattle.receive.proofs.Laws.{unread, read, receive_ok, hearing}
 use Rattle.receive.proofs.message.message_open.Goals as goal
 
-pub returns-in_err-m : goal.returns-in_err-m
-returns-in_err-m c =
-    let a = c.args in
-    met (unread a.n a.s a.c a.t.now a.out.now a.b.now _ (sym c.in_err-m.was ∙ c.read_message.ensures)) (refused _ _ _)
-
 pub hear-requires : goal.hear-requires
 hear-requires c =
     let a = c.args in
