@@ -6,11 +6,10 @@ use Prim.Native.Nat.{ℕ, suc, ◌+◌, ◌-◌, ◌≤◌, ◌<◌}
 use native.Mathlib.Omega.{arith}
 use lib.Dec.{leb, eqb}
 use borrow.Author.Tests.{lt-ltb, le-ltb, ne_eqb}
-use lib.ListN.{length, get_or, replicate}
-use Rattle.std.specs.Prelude.{Result, Ok, Err}
+use lib.ListN.{length, get_or}
+use Rattle.std.specs.Prelude.{Result}
 use Rattle.paper.specs.Setup.{setup_ok}
 use Rattle.paper.specs.Message.{row_of, parts_of, parts_in, voted_in, joined_in}
-use Rattle.paper.specs.Refusal.{number_of, offset_in}
 use Rattle.paper.specs.declared.Body.{Body}
 use Rattle.paper.specs.declared.Message.{Message}
 use Rattle.paper.specs.declared.Parts.{Parts}
@@ -91,11 +90,6 @@ module _ (fs : List ℕ) {r : Row} (row : r ≡ row_of (get_or fs 0 0)) where
         let c : carried_only (parts_of (get_or fs 0 0)) fs ≡ true = sym only ∙ f in
         let q : r.parts ≡ parts_of (get_or fs 0 0) = ap (λ (w : Row). w.parts) row in
         rw (ex, q, known, c)
-
--- a written message, as numbers
-pub wrote_as : {x : Result ℕ Refusal} {o : List ℕ} {w : Wrote} → x ≡ w.answer → o ≡ w.out → (y : Result ℕ Refusal) → x ≡ y
-    → Writes w (writing_number y) (writing_count y) (writing_offset y) o
-wrote_as ex eo y e = let q = sym e ∙ ex in (ap writing_number q, (ap writing_count q, (ap writing_offset q, eo)))
 
 -- what is left of the numbers, from the i-th on
 module _ (p : Parts) (fs : List ℕ) where

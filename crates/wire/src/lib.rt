@@ -39,6 +39,7 @@ fn command_length(second: bool) -> usize
 }
 
 // The places of the parts of a rest that begins at `at`, and its end.
+#[tactic(auto, unfolding(crate::specs::Wire::past))]
 fn command_start(p: Parts, at: usize) -> usize
     requires { at + 36 < 18446744073709551616 }
     ensures { result ≡ command_start p at }
@@ -46,6 +47,7 @@ fn command_start(p: Parts, at: usize) -> usize
     if p.told { at + TOLD } else { at }
 }
 
+#[tactic(auto, unfolding(crate::specs::Wire::past))]
 fn deps_start(p: Parts, at: usize) -> usize
     requires { at + 36 < 18446744073709551616 }
     ensures { result ≡ deps_start p at }
@@ -58,6 +60,7 @@ fn deps_start(p: Parts, at: usize) -> usize
     }
 }
 
+#[tactic(auto, unfolding(crate::specs::Wire::past))]
 fn joined_start(p: Parts, at: usize) -> usize
     requires { at + 36 < 18446744073709551616 }
     ensures { result ≡ joined_start p at }
@@ -66,6 +69,7 @@ fn joined_start(p: Parts, at: usize) -> usize
     if p.deps { start + DEPS } else { start }
 }
 
+#[tactic(auto, unfolding(crate::specs::Wire::past))]
 fn rest_end(p: Parts, at: usize) -> usize
     requires { at + 40 < 18446744073709551616 }
     ensures { result ≡ rest_end p at }
@@ -75,6 +79,7 @@ fn rest_end(p: Parts, at: usize) -> usize
 }
 
 // The kind byte alone gives the length.
+#[tactic(auto, unfolding(crate::specs::Wire::length_of))]
 pub fn length_of(k: usize) -> usize
     ensures { result ≡ length_of k }
 {
@@ -146,6 +151,7 @@ fn read_joined(p: Parts, b: &[u8]) -> u32
     numbers::get_u32(b, at)
 }
 
+#[tactic(auto, unfolding(crate::specs::Wire::carried_at, paper::specs::Message::kept))]
 fn read_carried(p: Parts, b: &[u8]) -> Carried
     requires { length b.now ≡ rest_end p head_size }
     ensures { result ≡ carried_at p b.now }
@@ -162,6 +168,7 @@ fn read_carried(p: Parts, b: &[u8]) -> Carried
     }
 }
 
+#[tactic(auto, unfolding(crate::specs::Wire::beside_at))]
 fn read_beside(p: Parts, b: &[u8]) -> [u16; 7]
     requires { length b.now ≡ rest_end p head_size }
     ensures { result ≡ beside_at p b.now }

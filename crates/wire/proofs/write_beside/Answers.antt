@@ -7,8 +7,5 @@ pub write_deps-requires : goal.write_deps-requires
 unfolding deps_bytes
 write_deps-requires c = let s = c in let h = rw c.if-has.true at s.requires in omega (arith, h)
 
-pub returns-then-has : goal.returns-then-has
-returns-then-has c = rw c.if-has.true c.write_deps.ensures
-
 pub returns-else-has : goal.returns-else-has
 returns-else-has c = rw c.if-has.false (splice-nil _ _)

@@ -6,8 +6,5 @@ use Rattle.wire.proofs.write_command.Goals as goal
 pub write_sent-requires : goal.write_sent-requires
 write_sent-requires c = let s = c in let h = rw c.if-p.true at s.requires in omega (arith, h, length-sent_bytes s.args.p.second s.args.k)
 
-pub returns-then-p : goal.returns-then-p
-returns-then-p c = rw c.if-p.true c.write_sent.ensures
-
 pub returns-else-p : goal.returns-else-p
 returns-else-p c = rw c.if-p.false (splice-nil _ _)
