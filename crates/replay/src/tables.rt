@@ -41,7 +41,7 @@ fn judge_in(t: &mut [u8], w: Setup, got: Read) -> Text {
     let v = got.v;
     let bytes = got.bytes;
     fill(&mut *t, 0);
-    table::blank_table(&mut *t, w.n, w.s, w.c);
+    let _ = table::blank_table(&mut *t, w.n, w.s, w.c);
     set(&mut *t, w, v[2], v[3], v[4], front(&bytes, got.length));
     put_judging(table::judge_table(&*t, w.n, w.s, w.c))
 }

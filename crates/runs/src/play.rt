@@ -34,7 +34,7 @@ fn disk_of(disks: &mut [u8], c: usize) -> &mut [u8] {
 // Blanks the tables of copies 0 to 6, as far as the setup has them.
 fn blank_all(all: &mut [u8], w: Told) {
     for c in 0..7 {
-        table::blank_table(part_mut(&mut *all, start_of(c), w.length), w.n, w.s, c);
+        let _ = table::blank_table(part_mut(&mut *all, start_of(c), w.length), w.n, w.s, c);
     }
 }
 

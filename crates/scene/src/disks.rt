@@ -23,7 +23,7 @@ fn disk_in(all: &[u8], c: usize) -> &[u8] {
 // Each copy has a blank table, and begins its journal with it.
 pub fn blank_all(all: &mut [u8], w: Scene) {
     for c in 0..7 {
-        table::blank_table(table_mut(&mut *all, w, c), w.n, w.s, c);
+        let _ = table::blank_table(table_mut(&mut *all, w, c), w.n, w.s, c);
         begin_with_table(&mut *all, w, c);
     }
 }
