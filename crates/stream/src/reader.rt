@@ -1,13 +1,12 @@
-// The reader: a buffer that is lent to it, with the place up to which messages were handed back. Each function takes the struct apart
+// The reader: a buffer that is lent to it, with the place up to which messages were handed back. Each method takes the struct apart
 // and leaves the work to the call on a slice and a place.
 //
 // The buffer is held shared: what was handed back stays readable until the next bytes are taken, which asks for the buffer back.
 ghost use Rattle.std.specs.Prelude.{◌≡◌};
-ghost use Rattle.stream.specs.Stream.{yielded, message_in};
+ghost use Rattle.stream.specs.Stream.{front, passed, message_in};
 
-use crate::place::Place;
+use crate::place::{Halt, Place};
 use crate::yielding;
-use crate::yielding::Found;
 
 #[derive(Clone, Copy)]
 pub struct Reader<'a> {
@@ -29,9 +28,9 @@ pub fn place<'a>(r: Reader<'a>) -> Place
     r.place
 }
 
-// What stands in front: a message, nothing yet, or the stop.
-pub fn next<'a>(r: Reader<'a>) -> Found
-    ensures { result ≡ (yielded r.entry.buf.now r.entry.place).answer }
+// What stands in front: a message of this length, nothing yet, or the stop.
+pub fn next<'a>(r: Reader<'a>) -> Result<Option<usize>, Halt>
+    ensures { result ≡ front r.entry.buf.now r.entry.place }
 {
     yielding::front(r.buf, r.place)
 }
@@ -45,7 +44,7 @@ pub fn message<'a>(r: Reader<'a>) -> &'a [u8]
 
 // The reader behind that message, or where it was.
 pub fn passed<'a>(r: Reader<'a>) -> Reader<'a>
-    ensures { (result.buf ≡ r.entry.buf) × (result.place ≡ (yielded r.entry.buf.now r.entry.place).place) }
+    ensures { (result.buf ≡ r.entry.buf) × (result.place ≡ passed r.entry.buf.now r.entry.place) }
 {
     let place = yielding::passed(r.buf, r.place);
     Reader { buf: r.buf, place }
