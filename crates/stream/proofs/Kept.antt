@@ -7,7 +7,7 @@ use native.Mathlib.Nat.{le-min}
 use native.Mathlib.Omega.{arith}
 use borrow.Author.Tests.{eqb-true, leb-false}
 use lib.Dec.{eqb, leb}
-use Rattle.std.specs.Prelude.{Option, Some, None, Result, Ok, Err}
+use Rattle.std.specs.Prelude.{None, Result, Ok, Err}
 use lib.ListN.{length, take, drop, length-append, length-drop, take-append-drop}
 use lib.Seq.{length-take-le, drop-drop, drop_at, take-add}
 use Rattle.numbers.specs.Num.{splice}
@@ -16,10 +16,8 @@ use Rattle.paper.specs.Message.{row_of}
 use Rattle.wire.specs.Wire.{length_of, kind_at}
 use Rattle.wire.proofs.Laws.{ten, long-enough}
 use Rattle.stream.specs.declared.place.Place.{Place}
-use Rattle.stream.specs.declared.place.Halt.{Halt}
-use Rattle.stream.specs.declared.place.Halt.TheVariants.{Stopped, Refused}
+use Rattle.stream.specs.declared.place.Halt.TheVariants.{Refused}
 use Rattle.paper.specs.declared.Refusal.{Refusal}
-use Rattle.stream.specs.declared.yielding.Yielded.{Yielded}
 use Rattle.stream.specs.Place.{is_sum, held, gate_of, start}
 use Rattle.stream.specs.Stream.{is_stopped, is_whole, room_for, count, first, filled, fill, taken, behind, yielded, yielded_open}
 use Rattle.stream.specs.Cutting.{joined, uncut, Call, offer, ask, State, opened, count_in, is_message, is_stop, answer, after, run, Drained, shown, AnyCutting, TwoCuttings, InOrder, ForGood, Progress}

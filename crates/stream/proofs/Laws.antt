@@ -1,31 +1,26 @@
 -- What the calls' proofs cite of places and of what is held. Assumes nothing.
-use mathlib.Core.Path.{◌≡◌, refl, sym, ap, ◌∙◌}
-use mathlib.Core.Bool.{Bool, true, false, ◌&&◌, not, cond}
+use mathlib.Core.Path.{◌≡◌, refl, sym, ◌∙◌}
+use mathlib.Core.Bool.{Bool, true, false, ◌&&◌, not}
 use mathlib.Core.List.{List, []}
 use Prim.Native.Nat.{ℕ, ◌+◌, ◌-◌, ◌≤◌, ◌<◌, min}
 use native.Mathlib.Nat.{min-le_left, min-le_right, le_trans}
 use native.Mathlib.Omega.{arith}
-use borrow.Author.Tests.{ltb-true, ltb-false, leb-true, le-leb, lt-leb, le-ltb, lt-ltb, ne_eqb, not-true}
-use lib.Dec.{leb, ltb, eqb}
-use lib.ListN.{length, get_or, take, drop, length-drop}
+use borrow.Author.Tests.{ltb-true, ltb-false, leb-true, le-leb, le-ltb, lt-ltb}
+use lib.Dec.{ltb, eqb}
+use lib.ListN.{length, take, drop, length-drop}
 use lib.Seq.{length-take-le, take-take}
 use Rattle.std.specs.Prelude.{Option, Some, None, Ok, Err, unwrap_or}
 use Rattle.numbers.specs.Num.{splice}
-use Rattle.numbers.proofs.Laws.{num_at-part}
 use Rattle.paper.specs.Message.{row_of}
-use Rattle.paper.specs.declared.Row.{Row}
 use Rattle.paper.specs.declared.Refusal.{Refusal}
 use Rattle.paper.specs.declared.Refusal.TheVariants.{Unsound, Room}
 use Rattle.paper.proofs.Laws.{and-true}
 use Rattle.wire.specs.Wire.{length_of, kind_at}
-use Rattle.wire.proofs.Laws.{ten}
 use Rattle.stream.specs.declared.place.Place.{Place}
-use Rattle.stream.specs.declared.place.Halt.{Halt}
 use Rattle.stream.specs.declared.place.Halt.TheVariants.{Stopped, Refused}
 use Rattle.stream.specs.declared.taking.Taken.{Taken}
-use Rattle.stream.specs.declared.yielding.Yielded.{Yielded}
 use Rattle.stream.specs.Place.{is_sum, place_ok, held, gate_of, Within}
-use Rattle.stream.specs.Stream.{is_stopped, is_whole, whole_length, room_for, Filled, unchanged, count, filled, fill, taken_open, taken, behind, yielded_open, yielded, message_in}
+use Rattle.stream.specs.Stream.{is_stopped, is_whole, whole_length, room_for, unchanged, count, filled, fill, taken_open, taken, behind, yielded_open, yielded, message_in}
 
 module _ (l : ℕ) (p : Place) where
   pub counted-ok : p.at ≤ p.end → p.end ≤ l → p.at ≤ p.offset → p.offset + (p.end - p.at) ≤ 18446744073709551615 → place_ok l p ≡ (is_sum p.at && is_sum (p.offset - p.at))

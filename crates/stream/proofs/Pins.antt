@@ -12,7 +12,7 @@ use Rattle.wire.specs.Wire.{length_of, past}
 use Rattle.stream.specs.declared.place.Place.{Place}
 use Rattle.stream.specs.declared.place.Halt.TheVariants.{Stopped, Refused}
 use Rattle.stream.specs.Place.{sums, is_sum, place_ok, held, begun, gate_of}
-use Rattle.stream.specs.Stream.{is_stopped, is_whole, whole_length, room_for, unchanged, taken_open, taken, behind, yielded_open, yielded, passed, message_in}
+use Rattle.stream.specs.Stream.{is_stopped, is_whole, whole_length, room_for, unchanged, taken_open, taken, behind, yielded_open, yielded, message_in}
 use Rattle.stream.specs.Cutting.{whole_in, rest_in, uncut}
 
 abbrev at : ℕ → ℕ → ℕ → Place

@@ -1,6 +1,6 @@
 // The place in a buffer, and whether a run of calls can leave it behind.
 ghost use Rattle.std.specs.Prelude.{◌≡◌, length};
-ghost use Rattle.stream.specs.Place.{least, is_sum, place_ok, begun, gate_of};
+ghost use Rattle.stream.specs.Place.{least, is_sum, place_ok, Within, held, begun, gate_of};
 ghost use Rattle.stream.specs.declared.place.Halt.TheVariants.{Refused};
 
 use paper::Refusal;
@@ -85,6 +85,15 @@ pub fn gate_of(length: usize, p: Place) -> Result<(), Refusal>
         return Err(Refusal::Room);
     }
     Ok(())
+}
+
+// The bytes that are taken and not yielded.
+#[tactic(auto, unfolding(crate::specs::Place::held))]
+pub(crate) fn held(buf: &[u8], p: Place) -> &[u8]
+    requires { Within (length buf.now) p }
+    ensures { result.now ≡ held buf.now p }
+{
+    &buf[p.at..p.end]
 }
 
 // A new stream, whose first byte will stand at the buffer's front.

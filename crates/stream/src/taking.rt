@@ -4,8 +4,8 @@ ghost use Rattle.numbers.specs.Num.{splice};
 ghost use Rattle.stream.specs.Place.{Within, held};
 ghost use Rattle.stream.specs.Stream.{room_for, filled, fill, taken};
 
-use crate::place::{Halt, LONGEST, Place, gate_of};
-use crate::yielding::{held, is_stopped};
+use crate::place::{Halt, LONGEST, Place, gate_of, held};
+use crate::yielding::is_stopped;
 
 // How many bytes were taken, and the place after them.
 #[derive(Clone, Copy, Debug, PartialEq, Eq)]

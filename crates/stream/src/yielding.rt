@@ -1,9 +1,8 @@
 // Yielding the messages that stand whole in the buffer, one after another.
-ghost use Rattle.std.specs.Prelude.{◌≡◌, length, ◌+◌, ◌≤◌, ◌<◌};
-ghost use Rattle.stream.specs.Place.{held, Within};
+ghost use Rattle.std.specs.Prelude.{◌≡◌, ◌+◌, ◌≤◌, ◌<◌};
 ghost use Rattle.stream.specs.Stream.{is_stopped, whole_length, behind, yielded, front, passed, message_in};
 
-use crate::place::{Halt, Place, gate_of};
+use crate::place::{Halt, Place, gate_of, held};
 use nouns::message::row_of;
 use wire::{kind_at, length_of};
 
@@ -14,16 +13,7 @@ pub struct Yielded {
     pub place: Place,
 }
 
-// The bytes that are taken and not yielded.
-#[tactic(auto, unfolding(crate::specs::Place::held))]
-pub fn held(buf: &[u8], p: Place) -> &[u8]
-    requires { Within (length buf.now) p }
-    ensures { result.now ≡ held buf.now p }
-{
-    &buf[p.at..p.end]
-}
-
-// They begin with no known kind.
+// What is held begins with no known kind.
 #[tactic(auto, unfolding(crate::specs::Stream::is_stopped))]
 pub fn is_stopped(held: &[u8]) -> bool
     ensures { result ≡ is_stopped held.now }
