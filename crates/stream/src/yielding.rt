@@ -27,12 +27,11 @@ fn whole_length(held: &[u8]) -> Option<usize>
     ensures { result ≡ whole_length held.now }
 {
     let k = kind_at(held);
-    let n = length_of(k);
-    if row_of(k).known && n <= held.len() {
-        Some(n)
-    } else {
-        None
+    if !row_of(k).known {
+        return None;
     }
+    let n = length_of(k);
+    if held.len() < n { None } else { Some(n) }
 }
 
 // The place behind n bytes more of what is held.
