@@ -4,9 +4,9 @@ use mathlib.Core.List.{List}
 use Prim.Native.Nat.{ℕ}
 use lib.ListN.{length}
 use Rattle.wire.specs.Calls.{read_message}
-use Rattle.stream.specs.declared.yielding.Yielded.{Yielded}
+use Rattle.stream.specs.declared.place.Place.{Place}
 use Rattle.stream.specs.Place.{begun}
-use Rattle.stream.specs.Stream.{Filled, taken, yielded, begun_number, took_number, took_values, found_number, found_values}
+use Rattle.stream.specs.Stream.{Filled, taken, place_after, yielded, passed, begun_number, took_number, took_values, found_number, found_values}
 use Rattle.table.specs.Calls.{blanked, blanked_table, judged, part_start, part_length, length_of, blanking_number, judging_number}
 use Rattle.gate.specs.Events.{Outcome, requested, received, recovered, nudged, answer_number}
 use Rattle.order.specs.Calls.{settled, Handed, handed, settling_number, settling_values, handing_number, handing_count}
@@ -85,19 +85,20 @@ pub pumxaqert-stream-begin-unique : (b f : List ℕ) (r q : ℕ) (g h : List ℕ
 pumxaqert-stream-begin-unique b f r q g h a c d e = (a ∙ sym d, c ∙ sym e)
 
 -- what taking bytes ensures of its number, the values, the place and the buffer
-abbrev Takes : Filled → ℕ → List ℕ → List ℕ → List ℕ → Type 0
-Takes x r v f b = (r ≡ took_number x.told.answer) × ((v ≡ took_values x.told.answer) × ((f ≡ place_numbers x.told.place) × (b ≡ x.buffer)))
+abbrev Takes : Place → Filled → ℕ → List ℕ → List ℕ → List ℕ → Type 0
+Takes p x r v f b = (r ≡ took_number x.told) × ((v ≡ took_values x.told) × ((f ≡ place_numbers (place_after p x.told)) × (b ≡ x.buffer)))
 
-pub pumxaqert-stream-take-unique : (b f n : List ℕ) (r q : ℕ) (v w g h c d : List ℕ) → Takes (taken b (place_from f) n) r v g c → Takes (taken b (place_from f) n) q w h d
+pub pumxaqert-stream-take-unique : (b f n : List ℕ) (r q : ℕ) (v w g h c d : List ℕ) → Takes (place_from f) (taken b (place_from f) n) r v g c
+    → Takes (place_from f) (taken b (place_from f) n) q w h d
     → (r ≡ q) × (v ≡ w) × (g ≡ h) × (c ≡ d)
 pumxaqert-stream-take-unique b f n r q v w g h c d x y = (x.0 ∙ sym y.0, x.1.0 ∙ sym y.1.0, x.1.1.0 ∙ sym y.1.1.0, x.1.1.1 ∙ sym y.1.1.1)
 
 -- what yielding ensures of its number, the values and the place
-abbrev Yields : ℕ → Yielded → ℕ → List ℕ → List ℕ → Type 0
-Yields at x r v f = (r ≡ found_number x.answer) × ((v ≡ found_values at x.answer) × (f ≡ place_numbers x.place))
+abbrev Yields : List ℕ → Place → ℕ → List ℕ → List ℕ → Type 0
+Yields b p r v f = (r ≡ found_number (yielded b p)) × ((v ≡ found_values p.at (yielded b p)) × (f ≡ place_numbers (passed b p)))
 
-pub pumxaqert-stream-next-unique : (b f : List ℕ) (r q : ℕ) (v w g h : List ℕ) → Yields (place_from f).at (yielded b (place_from f)) r v g
-    → Yields (place_from f).at (yielded b (place_from f)) q w h → (r ≡ q) × (v ≡ w) × (g ≡ h)
+pub pumxaqert-stream-next-unique : (b f : List ℕ) (r q : ℕ) (v w g h : List ℕ) → Yields b (place_from f) r v g → Yields b (place_from f) q w h
+    → (r ≡ q) × (v ≡ w) × (g ≡ h)
 pumxaqert-stream-next-unique b f r q v w g h x y = (x.0 ∙ sym y.0, x.1.0 ∙ sym y.1.0, x.1.1 ∙ sym y.1.1)
 
 pub pumxaqert-entry-length-unique : (k r q : ℕ) → r ≡ entry_length k → q ≡ entry_length k → r ≡ q

@@ -1,10 +1,10 @@
 // The lines of a stream: a reader with a new buffer, and the next bytes of it.
 use crate::event::put_no;
 use crate::told::{Told, opened};
-use stream::place::{Begun, begin};
+use stream::place::{Halt, begin};
 use stream::reader::read;
-use stream::taking::{Taken, Took, take};
-use stream::yielding::{Found, next};
+use stream::taking::{Taken, take};
+use stream::yielding::next;
 use text::bytes::front;
 use text::forms::Read;
 use text::put::{Text, empty, finish, put_bytes, put_form, put_hex};
@@ -12,29 +12,22 @@ use text::put::{Text, empty, finish, put_bytes, put_form, put_hex};
 // stream ROOM
 pub fn stream_line(w: Told, buf: &[u8]) -> Told {
     match begin(buf) {
-        Begun::At(p) => {
+        Ok(p) => {
             finish(put_bytes(empty(), b"= opened"));
             opened(w, buf.len(), p)
         }
-        Begun::Refused(why) => {
+        Err(why) => {
             finish(put_no(why));
             w
         }
     }
 }
 
-fn put_took(answer: Took) -> Text {
+fn put_took(answer: Result<Taken, Halt>) -> Text {
     match answer {
-        Took::Bytes(k) => put_form(empty(), b"= took # messages", [k, 0, 0, 0]),
-        Took::Stopped(_) => put_bytes(empty(), b"= took 0 messages"),
-        Took::Refused(why) => put_no(why),
-    }
-}
-
-fn put_stop(out: Text, answer: Found) -> Text {
-    match answer {
-        Found::Stop(o) => put_form(out, b" stop #", [o, 0, 0, 0]),
-        _ => out,
+        Ok(taken) => put_form(empty(), b"= took # messages", [taken.count, 0, 0, 0]),
+        Err(Halt::Stopped(_)) => put_bytes(empty(), b"= took 0 messages"),
+        Err(Halt::Refused(why)) => put_no(why),
     }
 }
 
@@ -42,33 +35,27 @@ fn put_stop(out: Text, answer: Found) -> Text {
 fn put_messages(out: Text, buf: &[u8], w: Told) -> Told {
     let mut told = out;
     let mut place = w.place;
-    let mut left = buf.len();
-    let mut found = next(buf, place);
-    while 0 < left {
-        let answer = found.answer;
-        let Found::Message(n) = answer else {
-            break;
-        };
-        told = put_hex(told, read(buf, place), n);
-        place = found.place;
-        found = next(buf, place);
-        left -= 1;
+    for _ in 0..buf.len() {
+        match next(buf, place) {
+            Ok(Some(y)) => {
+                told = put_hex(told, read(buf, place), y.length);
+                place = y.place;
+            }
+            Err(Halt::Stopped(o)) => {
+                told = put_form(told, b" stop #", [o, 0, 0, 0]);
+                break;
+            }
+            _ => break,
+        }
     }
-    let last = found.answer;
-    finish(put_stop(told, last));
+    finish(told);
     opened(w, w.buffer, place)
-}
-
-fn taken(x: Taken, w: Told, buf: &[u8]) -> Told {
-    let answer = x.answer;
-    let told = put_took(answer);
-    let place = x.place;
-    put_messages(told, buf, opened(w, w.buffer, place))
 }
 
 // take BYTES
 pub fn take_line(got: Read, w: Told, buf: &mut [u8]) -> Told {
     let bytes = got.bytes;
-    let x = take(&mut *buf, w.place, front(&bytes, got.length));
-    taken(x, w, &*buf)
+    let answer = take(&mut *buf, w.place, front(&bytes, got.length));
+    let place = answer.map_or(w.place, |taken| taken.place);
+    put_messages(put_took(answer), &*buf, opened(w, w.buffer, place))
 }

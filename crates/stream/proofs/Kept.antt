@@ -7,6 +7,7 @@ use native.Mathlib.Nat.{le-min}
 use native.Mathlib.Omega.{arith}
 use borrow.Author.Tests.{eqb-true, leb-false}
 use lib.Dec.{eqb, leb}
+use Rattle.std.specs.Prelude.{None, Result, Ok, Err}
 use lib.ListN.{length, take, drop, length-append, length-drop, take-append-drop}
 use lib.Seq.{length-take-le, drop-drop, drop_at, take-add}
 use Rattle.numbers.specs.Num.{splice}
@@ -15,27 +16,23 @@ use Rattle.paper.specs.Message.{row_of}
 use Rattle.wire.specs.Wire.{length_of, kind_at}
 use Rattle.wire.proofs.Laws.{ten, long-enough}
 use Rattle.stream.specs.declared.place.Place.{Place}
-use Rattle.stream.specs.declared.place.Gate.{Gate}
-use Rattle.stream.specs.declared.place.Gate.TheVariants.{Open, Shut}
+use Rattle.stream.specs.declared.place.Halt.TheVariants.{Refused}
 use Rattle.paper.specs.declared.Refusal.{Refusal}
-use Rattle.stream.specs.declared.taking.Took.TheVariants as took
-use Rattle.stream.specs.declared.yielding.Found.TheVariants as found
-use Rattle.stream.specs.declared.yielding.Yielded.{Yielded}
 use Rattle.stream.specs.Place.{is_sum, held, gate_of, start}
-use Rattle.stream.specs.Stream.{is_stopped, is_whole, room_for, count, first, fill, taken, behind, yielded, yielded_open}
-use Rattle.stream.specs.Cutting.{joined, uncut, Call, offer, ask, State, opened, count_in, is_stop, answer, after, run, Drained, shown, AnyCutting, TwoCuttings, InOrder, ForGood, Progress}
-use Rattle.stream.proofs.Laws.{Ok, of-ok, open-ok, held-length, Front, front-is, front-running, room_fits, room-counts, room-offered, taken-stopped, taken-fills, yielded-shut, yielded-open, yields-front, message-front, stops, waits}
+use Rattle.stream.specs.Stream.{is_stopped, is_whole, room_for, count, first, filled, fill, taken, behind, yielded, yielded_open}
+use Rattle.stream.specs.Cutting.{joined, uncut, Call, offer, ask, State, opened, count_in, is_message, is_stop, answer, after, run, Drained, shown, AnyCutting, TwoCuttings, InOrder, ForGood, Progress}
+use Rattle.stream.proofs.Laws.{PlaceOk, of-ok, open-ok, held-length, Front, front-is, front-running, room_fits, room-counts, room-offered, taken-stopped, taken-fills, yielded-shut, yielded-open, yields-front, message-front, stops, waits}
 use Rattle.stream.proofs.Laws as law
 use Rattle.stream.proofs.Sums.{and-another, sum-add, sum-none}
 use Rattle.stream.proofs.Cutting.{Exact, AllExact, kind-append, exact-snoc, joined_snoc, uncut-front, uncut-all}
 
 -- a place that calls take, in a buffer that is large enough
-gate-of : (l : ℕ) (p : Place) → Ok l p → 64 ≤ l → gate_of l p ≡ Open
+gate-of : (l : ℕ) (p : Place) → PlaceOk l p → 64 ≤ l → gate_of l p ≡ Ok tt
 gate-of l p k big = sym (law.opened l p (of-ok l p k) big)
 
 -- taking bytes
-module _ (b : List ℕ) (p : Place) (g : gate_of (length b) p ≡ Open) where
-  ok : Ok (length b) p
+module _ (b : List ℕ) (p : Place) (g : gate_of (length b) p ≡ Ok tt) where
+  ok : PlaceOk (length b) p
   ok = (open-ok (length b) p g).0
 
   big : 64 ≤ length b
@@ -68,7 +65,7 @@ module _ (b : List ℕ) (p : Place) (g : gate_of (length b) p ≡ Open) where
         let a = all-fits in
         ap length buffer-is ∙ length-splice b 0 (held b p ++ first b p x) (omega (arith, length-append (held b p) (first b p x)))
 
-    pub filled-held : held (fill b p x).buffer (fill b p x).told.place
+    pub filled-held : held (fill b p x).buffer (filled b p x).place
         ≡ held b p ++ first b p x
     unfolding held
     filled-held =
@@ -80,13 +77,13 @@ module _ (b : List ℕ) (p : Place) (g : gate_of (length b) p ≡ Open) where
         ap (λ (z : List ℕ). take (p.end - p.at + count b p x - 0) (drop 0 z)) buffer-is
         ∙ splice-same b 0 (held b p ++ first b p x) (p.end - p.at + count b p x - 0) l (omega arith)
 
-    pub filled-open : gate_of (length (fill b p x).buffer) (fill b p x).told.place ≡ Open
+    pub filled-open : gate_of (length (fill b p x).buffer) (filled b p x).place ≡ Ok tt
     filled-open =
         let a = all-fits in
         let c = room-counts (length b) p (length x) ok.within in
         let z : p.offset - 0 ≡ p.offset = omega arith in
         rw filled-length
-        (gate-of (length b) (fill b p x).told.place
+        (gate-of (length b) (filled b p x).place
         (record {
           within = record { ordered = omega arith; inside = omega arith; counted = omega arith };
           passed = omega arith;
@@ -96,7 +93,7 @@ module _ (b : List ℕ) (p : Place) (g : gate_of (length b) p ≡ Open) where
         big)
 
 -- yielding a message
-module _ (b : List ℕ) (p : Place) (g : gate_of (length b) p ≡ Open) {n : ℕ} (f : Front (held b p) n) where
+module _ (b : List ℕ) (p : Place) (g : gate_of (length b) p ≡ Ok tt) {n : ℕ} (f : Front (held b p) n) where
   pub behind-held : held b (behind p n) ≡ drop n (held b p)
   unfolding held behind
   behind-held =
@@ -118,7 +115,7 @@ module _ (b : List ℕ) (p : Place) (g : gate_of (length b) p ≡ Open) {n : ℕ
       sym (kind-append (take n (held b p)) (drop n (held b p)) (omega (arith, f.exact))) ∙ ap kind_at (take-append-drop n (held b p)) in
       record { known = rw q f.known; exact = rw q (l ∙ f.exact) }
 
-  pub behind-open : gate_of (length b) (behind p n) ≡ Open
+  pub behind-open : gate_of (length b) (behind p n) ≡ Ok tt
   unfolding behind
   behind-open =
       let k = ok b p g in
@@ -141,7 +138,7 @@ module _ (b : List ℕ) (p : Place) (g : gate_of (length b) p ≡ Open) {n : ℕ
       (big b p g)
 
 -- where a stream stands still nothing is taken, yielded or changed
-pub stopped-stays : (s : State) → gate_of (length s.buffer) s.place ≡ Open → is_stopped (held s.buffer s.place) ≡ true → (c : Call) → after s c ≡ s
+pub stopped-stays : (s : State) → gate_of (length s.buffer) s.place ≡ Ok tt → is_stopped (held s.buffer s.place) ≡ true → (c : Call) → after s c ≡ s
 stopped-stays s g e (offer x) = let t = taken-stopped s.buffer s.place x (sym g) e in rw t (ap (λ (l : List ℕ). record { buffer = s.buffer; place = s.place; taken = l; yielded = s.yielded }) (append-nil s.taken))
 stopped-stays s g e ask =
     let t = yielded-open s.buffer s.place (sym g) ∙ sym (stops (held s.buffer s.place) s.place e) in
@@ -149,7 +146,7 @@ stopped-stays s g e ask =
 
 -- what every run keeps
 pub record Kept (s : State) : Type 0 where
-  pub passes : gate_of (length s.buffer) s.place ≡ Open
+  pub passes : gate_of (length s.buffer) s.place ≡ Ok tt
   pub all : s.taken ≡ joined s.yielded ++ held s.buffer s.place
   pub at : s.place.offset ≡ length (joined s.yielded)
   pub whole : AllExact s.yielded
@@ -223,17 +220,17 @@ module _ (s : State) (k : Kept s) where
     where
       go : (a c : Bool) → is_stopped (held s.buffer s.place) ≡ a → is_whole (held s.buffer s.place) ≡ c → is_whole (held s.buffer s.place) ≡ false
       go a false e f = f
-      go true true e f = let z : ◌≡◌ {A = Bool} true false = sym e ∙ front-running (held s.buffer s.place) (front-is (held s.buffer s.place) f) in let y : ◌≡◌ {A = ℕ} 0 1 = cc in absurd (omega arith)
+      go true true e f = let z : ◌≡◌ {A = Bool} true false = sym e ∙ front-running (held s.buffer s.place) (front-is (held s.buffer s.place) f) in absurd (cc)
       go false true e f =
-          let z : answer s ≡ found.Message (length_of (kind_at (held s.buffer s.place))) = ap (λ (y : Yielded). y.answer) (next-is ∙ yields-front (held s.buffer s.place) s.place e f) in
-          let y : ◌≡◌ {A = ℕ} 0 1 = cc in absurd (omega arith)
+          let z : ◌≡◌ {A = Bool} true false = ap is_message (sym (next-is ∙ yields-front (held s.buffer s.place) s.place e f)) ∙ d in
+          absurd (cc)
 
   stop_is : Drained s → is_stop (answer s) ≡ is_stopped (held s.buffer s.place)
   stop_is d = go (is_stopped (held s.buffer s.place)) refl
     where
       go : (a : Bool) → is_stopped (held s.buffer s.place) ≡ a → is_stop (answer s) ≡ is_stopped (held s.buffer s.place)
-      go true e = ap (λ (y : Yielded). is_stop y.answer) (next-is ∙ sym (stops (held s.buffer s.place) s.place e)) ∙ sym e
-      go false e = ap (λ (y : Yielded). is_stop y.answer) (next-is ∙ sym (waits (held s.buffer s.place) s.place e (drained-none d))) ∙ sym e
+      go true e = ap is_stop (next-is ∙ sym (stops (held s.buffer s.place) s.place e)) ∙ sym e
+      go false e = ap is_stop (next-is ∙ sym (waits (held s.buffer s.place) s.place e (drained-none d))) ∙ sym e
 
   pub shown-is : Drained s → shown s ≡ uncut s.taken
   shown-is d =
@@ -254,29 +251,25 @@ pub in_order : InOrder
 in_order b l cs = order_is (run (opened b) cs) (kept_run (opened b) cs (kept-opened b l))
 
 -- a state whose next answer is a stop or nothing passes the gate
-passes_of : (s : State) → ((r : Refusal) → answer s ≡ found.Refused r → ⊥) → gate_of (length s.buffer) s.place ≡ Open
+passes_of : (s : State) → ((r : Refusal) → answer s ≡ Err (Refused r) → ⊥) → gate_of (length s.buffer) s.place ≡ Ok tt
 passes_of s h = go (gate_of (length s.buffer) s.place) refl
   where
-    go : (g : Gate) → gate_of (length s.buffer) s.place ≡ g → g ≡ Open
-    go Open e = refl
-    go (Shut r) e = absurd (h r (ap (λ (y : Yielded). y.answer) (yielded-shut s.buffer s.place (sym e))))
+    go : (g : Result Unit Refusal) → gate_of (length s.buffer) s.place ≡ g → g ≡ Ok tt
+    go (Ok u) e = refl
+    go (Err r) e = absurd (h r (yielded-shut s.buffer s.place (sym e)))
 
 pub for-good : ForGood
 for-good s o e c = go (is_stopped (held s.buffer s.place)) (is_whole (held s.buffer s.place)) refl refl
   where
-    g : gate_of (length s.buffer) s.place ≡ Open
-    g = passes_of s (λ r f. let z : ◌≡◌ {A = ℕ} 0 1 = cc in omega arith)
+    g : gate_of (length s.buffer) s.place ≡ Ok tt
+    g = passes_of s (λ r f. cc)
 
     go : (a w : Bool) → is_stopped (held s.buffer s.place) ≡ a → is_whole (held s.buffer s.place) ≡ w → after s c ≡ s
     go true w p q = stopped-stays s g p c
     go false true p q =
-        let t = yielded-open s.buffer s.place (sym g) ∙ yields-front (held s.buffer s.place) s.place p q in
-        let u : answer s ≡ found.Message (length_of (kind_at (held s.buffer s.place))) = ap (λ (y : Yielded). y.answer) t in
-        let z : ◌≡◌ {A = ℕ} 0 1 = cc in absurd (omega arith)
+        let t = yielded-open s.buffer s.place (sym g) ∙ yields-front (held s.buffer s.place) s.place p q in absurd (cc)
     go false false p q =
-        let t = yielded-open s.buffer s.place (sym g) ∙ sym (waits (held s.buffer s.place) s.place p q) in
-        let u : answer s ≡ found.Nothing = ap (λ (y : Yielded). y.answer) t in
-        let z : ◌≡◌ {A = ℕ} 0 1 = cc in absurd (omega arith)
+        let t = yielded-open s.buffer s.place (sym g) ∙ sym (waits (held s.buffer s.place) s.place p q) in absurd (cc)
 
 -- what is no whole message and does not stop the stream is shorter than the longest message
 short : (h : List ℕ) → is_stopped h ≡ false → is_whole h ≡ false → length h < 46
@@ -288,7 +281,7 @@ short h a b = go (eqb (length h) 0) (row_of (kind_at h)).known refl refl
     go false true p q =
         let w : leb (length_of (kind_at h)) (length h) ≡ false = rw q at b in
         omega (arith, leb-false (length_of (kind_at h)) (length h) w, long-enough (kind_at h))
-    go false false p q = let z : ◌≡◌ {A = Bool} true false = rw (p, q) at a in let y : ◌≡◌ {A = ℕ} 0 1 = cc in absurd (omega arith)
+    go false false p q = let z : ◌≡◌ {A = Bool} true false = rw (p, q) at a in absurd (cc)
 
 -- room for a byte at least
 room-one : (l : ℕ) (p : Place) (x : ℕ) → 0 < x → p.end - p.at < l → p.offset + (p.end - p.at) + 1 < 18446744073709551616 → 0 < room_for l p x
@@ -305,16 +298,14 @@ module _ (s : State) (k : Kept s) where
       let h = held-length s.buffer s.place (ok s.buffer s.place k.passes).within in
       ap length k.all ∙ length-append (joined s.yielded) (held s.buffer s.place) ∙ omega (arith, k.at)
 
-  takes_one : (x : List ℕ) → answer s ≡ found.Nothing → 0 < length x → length s.taken + 1 < 18446744073709551616 → 0 < count_in (taken s.buffer s.place x).told.answer
+  takes_one : (x : List ℕ) → answer s ≡ Ok None → 0 < length x → length s.taken + 1 < 18446744073709551616 → 0 < count_in (taken s.buffer s.place x).told
   takes_one x e some few = go (is_stopped (held s.buffer s.place)) (is_whole (held s.buffer s.place)) refl refl
     where
-      go : (a w : Bool) → is_stopped (held s.buffer s.place) ≡ a → is_whole (held s.buffer s.place) ≡ w → 0 < count_in (taken s.buffer s.place x).told.answer
+      go : (a w : Bool) → is_stopped (held s.buffer s.place) ≡ a → is_whole (held s.buffer s.place) ≡ w → 0 < count_in (taken s.buffer s.place x).told
       go true w p q =
-          let u : answer s ≡ found.Stop s.place.offset = ap (λ (y : Yielded). y.answer) (next-is s k ∙ sym (stops (held s.buffer s.place) s.place p)) in
-          let z : ◌≡◌ {A = ℕ} 0 1 = cc in absurd (omega arith)
+          let u = next-is s k ∙ sym (stops (held s.buffer s.place) s.place p) in absurd (cc)
       go false true p q =
-          let u : answer s ≡ found.Message (length_of (kind_at (held s.buffer s.place))) = ap (λ (y : Yielded). y.answer) (next-is s k ∙ yields-front (held s.buffer s.place) s.place p q) in
-          let z : ◌≡◌ {A = ℕ} 0 1 = cc in absurd (omega arith)
+          let u = next-is s k ∙ yields-front (held s.buffer s.place) s.place p q in absurd (cc)
       go false false p q =
           let h = held-length s.buffer s.place (ok s.buffer s.place k.passes).within in
           let b = big s.buffer s.place k.passes in

@@ -1,64 +1,40 @@
 -- What the calls' proofs cite of places and of what is held. Assumes nothing.
-use mathlib.Core.Path.{◌≡◌, refl, sym, ap, ◌∙◌}
-use mathlib.Core.Bool.{Bool, true, false, ◌&&◌, not, cond}
+use mathlib.Core.Path.{◌≡◌, refl, sym, ◌∙◌}
+use mathlib.Core.Bool.{Bool, true, false, ◌&&◌, not}
 use mathlib.Core.List.{List, []}
 use Prim.Native.Nat.{ℕ, ◌+◌, ◌-◌, ◌≤◌, ◌<◌, min}
 use native.Mathlib.Nat.{min-le_left, min-le_right, le_trans}
 use native.Mathlib.Omega.{arith}
-use borrow.Author.Tests.{ltb-true, ltb-false, leb-true, le-leb, lt-leb, le-ltb, lt-ltb, ne_eqb, not-true}
-use lib.Dec.{leb, ltb, eqb}
-use lib.ListN.{length, get_or, take, drop, length-drop}
+use borrow.Author.Tests.{ltb-true, ltb-false, leb-true, le-leb, le-ltb, lt-ltb}
+use lib.Dec.{ltb, eqb}
+use lib.ListN.{length, take, drop, length-drop}
 use lib.Seq.{length-take-le, take-take}
+use Rattle.std.specs.Prelude.{Option, Some, None, Ok, Err, unwrap_or}
 use Rattle.numbers.specs.Num.{splice}
-use Rattle.numbers.proofs.Laws.{num_at-part}
 use Rattle.paper.specs.Message.{row_of}
-use Rattle.paper.specs.declared.Row.{Row}
 use Rattle.paper.specs.declared.Refusal.{Refusal}
 use Rattle.paper.specs.declared.Refusal.TheVariants.{Unsound, Room}
 use Rattle.paper.proofs.Laws.{and-true}
 use Rattle.wire.specs.Wire.{length_of, kind_at}
-use Rattle.wire.proofs.Laws.{ten}
 use Rattle.stream.specs.declared.place.Place.{Place}
-use Rattle.stream.specs.declared.place.Gate.TheVariants.{Open, Shut}
-use Rattle.stream.specs.declared.taking.Took.TheVariants as took
+use Rattle.stream.specs.declared.place.Halt.TheVariants.{Stopped, Refused}
 use Rattle.stream.specs.declared.taking.Taken.{Taken}
-use Rattle.stream.specs.declared.yielding.Found.TheVariants.{Message, Nothing, Stop, Refused}
 use Rattle.stream.specs.Place.{is_sum, place_ok, held, gate_of, Within}
-use Rattle.stream.specs.Stream.{is_stopped, is_whole, whole_length, room_for, Filled, unchanged, count, fill, taken_open, taken, behind, stay, yielded_open, yielded, message_in}
+use Rattle.stream.specs.Stream.{is_stopped, is_whole, whole_length, room_for, unchanged, count, filled, fill, taken_open, taken, behind, yielded_open, yielded, message_in}
 
--- the tests of a place, in their order
 module _ (l : ℕ) (p : Place) where
-  pub unordered : p.end < p.at → false ≡ place_ok l p
+  pub counted-ok : p.at ≤ p.end → p.end ≤ l → p.at ≤ p.offset → p.offset + (p.end - p.at) ≤ 18446744073709551615 → place_ok l p ≡ (is_sum p.at && is_sum (p.offset - p.at))
   unfolding place_ok
-  unordered a = rw (lt-leb p.at p.end a)
-
-  module _ (a : p.at ≤ p.end) where
-    pub outside : l < p.end → false ≡ place_ok l p
-    unfolding place_ok
-    outside b = rw (le-leb p.at p.end a, lt-leb p.end l b)
-
-    module _ (b : p.end ≤ l) where
-      pub behind-its-offset : p.offset < p.at → false ≡ place_ok l p
-      unfolding place_ok
-      behind-its-offset d = rw (le-leb p.at p.end a, le-leb p.end l b, lt-leb p.at p.offset d)
-
-      module _ (d : p.at ≤ p.offset) where
-        pub uncounted : 18446744073709551615 < p.offset + (p.end - p.at) → false ≡ place_ok l p
-        unfolding place_ok
-        uncounted e = rw (le-leb p.at p.end a, le-leb p.end l b, le-leb p.at p.offset d, lt-leb (p.offset + (p.end - p.at)) 18446744073709551615 e)
-
-        pub counted-ok : p.offset + (p.end - p.at) ≤ 18446744073709551615 → place_ok l p ≡ (is_sum p.at && is_sum (p.offset - p.at))
-        unfolding place_ok
-        counted-ok e = rw (le-leb p.at p.end a, le-leb p.end l b, le-leb p.at p.offset d, le-leb (p.offset + (p.end - p.at)) 18446744073709551615 e)
+  counted-ok a b d e = rw (le-leb p.at p.end a, le-leb p.end l b, le-leb p.at p.offset d, le-leb (p.offset + (p.end - p.at)) 18446744073709551615 e)
 
 -- all that such a place is
-pub record Ok (l : ℕ) (p : Place) : Type 0 where
+pub record PlaceOk (l : ℕ) (p : Place) : Type 0 where
   pub within : Within l p
   pub passed : p.at ≤ p.offset
   pub whole : is_sum p.at ≡ true
   pub before : is_sum (p.offset - p.at) ≡ true
 
-pub ok_of : (l : ℕ) (p : Place) → place_ok l p ≡ true → Ok l p
+pub ok_of : (l : ℕ) (p : Place) → place_ok l p ≡ true → PlaceOk l p
 unfolding place_ok
 ok_of l p h =
     let (h5, h6) = and-true _ _ h in
@@ -73,35 +49,35 @@ ok_of l p h =
       before = h6;
     }
 
-pub of-ok : (l : ℕ) (p : Place) → Ok l p → place_ok l p ≡ true
+pub of-ok : (l : ℕ) (p : Place) → PlaceOk l p → place_ok l p ≡ true
 of-ok l p k =
     let f : p.offset + (p.end - p.at) ≤ 18446744073709551615 = omega (arith, k.within.counted) in
     counted-ok l p k.within.ordered k.within.inside k.passed f ∙ rw (k.whole, k.before)
 
 -- the gate, by what was tried
-pub shut-11 : (l : ℕ) (p : Place) → place_ok l p ≡ false → Shut Unsound ≡ gate_of l p
+pub shut-11 : (l : ℕ) (p : Place) → place_ok l p ≡ false → Err Unsound ≡ gate_of l p
 unfolding gate_of
 shut-11 l p h = rw h
 
-pub shut-2 : (l : ℕ) (p : Place) → place_ok l p ≡ true → l < 64 → Shut Room ≡ gate_of l p
+pub shut-2 : (l : ℕ) (p : Place) → place_ok l p ≡ true → l < 64 → Err Room ≡ gate_of l p
 unfolding gate_of
 shut-2 l p h k = rw (h, lt-ltb l 64 k)
 
-pub opened : (l : ℕ) (p : Place) → place_ok l p ≡ true → 64 ≤ l → Open ≡ gate_of l p
+pub opened : (l : ℕ) (p : Place) → place_ok l p ≡ true → 64 ≤ l → Ok tt ≡ gate_of l p
 unfolding gate_of
 opened l p h k = rw (h, le-ltb l 64 k)
 
 -- behind an open gate
-pub open-ok : (l : ℕ) (p : Place) → gate_of l p ≡ Open → Ok l p × (64 ≤ l)
+pub open-ok : (l : ℕ) (p : Place) → gate_of l p ≡ Ok tt → PlaceOk l p × (64 ≤ l)
 unfolding gate_of
 open-ok l p g = go (place_ok l p) (ltb l 64) refl refl
   where
-    go : (a b : Bool) → place_ok l p ≡ a → ltb l 64 ≡ b → Ok l p × (64 ≤ l)
+    go : (a b : Bool) → place_ok l p ≡ a → ltb l 64 ≡ b → PlaceOk l p × (64 ≤ l)
     go false b e f = let z : ◌≡◌ {A = ℕ} 0 1 = cc (shut-11 l p e) in absurd (omega arith)
     go true true e f = let z : ◌≡◌ {A = ℕ} 0 1 = cc (shut-2 l p e (ltb-true l 64 f)) in absurd (omega arith)
     go true false e f = (ok_of l p e, ltb-false l 64 f)
 
-pub open-within : (l : ℕ) (p : Place) → Open ≡ gate_of l p → Within l p
+pub open-within : (l : ℕ) (p : Place) → Ok tt ≡ gate_of l p → Within l p
 open-within l p e = (open-ok l p (sym e)).0.within
 
 -- what is held
@@ -109,54 +85,6 @@ module _ (b : List ℕ) (p : Place) (w : Within (length b) p) where
   pub held-length : length (held b p) ≡ p.end - p.at
   unfolding held
   held-length = length-take-le (p.end - p.at) (drop p.at b) (rw (length-drop p.at b) (omega (arith, w.ordered, w.inside)))
-
-  pub held-kind : (p.at ≡ p.end → ⊥) → {x : ℕ} → x ≡ get_or b p.at 0 → kind_at (held b p) ≡ x
-  unfolding held
-  held-kind ne {x} e =
-      let k : 0 + 1 ≤ p.end - p.at = omega (arith, w.ordered, ne) in
-      let z : p.at + 0 ≡ p.at = omega arith in
-      num_at-part 1 b p.at (p.end - p.at) 0 k ∙ rw z (omega arith)
-
-  pub stopped-empty : p.at ≡ p.end → false ≡ is_stopped (held b p)
-  unfolding is_stopped
-  stopped-empty e = let z : length (held b p) ≡ 0 = held-length ∙ omega arith in rw z
-
-  pub whole-empty : p.at ≡ p.end → 0 ≡ whole_length (held b p)
-  unfolding whole_length is_whole
-  whole-empty e =
-      let z : length (held b p) ≡ 0 = held-length ∙ omega arith in
-      let f : leb (length_of (kind_at (held b p))) (length (held b p)) ≡ false = lt-leb (length_of (kind_at (held b p))) (length (held b p)) (omega (arith, ten (kind_at (held b p)))) in
-      go (row_of (kind_at (held b p))).known f
-    where
-      go : (k : Bool) {f : Bool} → f ≡ false → 0 ≡ cond (k && f) (length_of (kind_at (held b p))) 0
-      go true e = rw e
-      go false e = refl
-
-  module _ (ne : p.at ≡ p.end → ⊥) {x : ℕ} (at : x ≡ get_or b p.at 0) {r : Row} (row : r ≡ row_of x) where
-    known_is : (row_of (kind_at (held b p))).known ≡ r.known
-    known_is = cc (held-kind ne at)
-
-    pub stopped-at : not r.known ≡ is_stopped (held b p)
-    unfolding is_stopped
-    stopped-at =
-        let n : eqb (length (held b p)) 0 ≡ false = ne_eqb (length (held b p)) 0 (λ (z : length (held b p) ≡ 0). ne (omega (arith, held-length, w.ordered))) in
-        rw (n, known_is)
-
-    pub whole-unknown : not r.known ≡ true → 0 ≡ whole_length (held b p)
-    unfolding whole_length is_whole
-    whole-unknown u = rw (known_is, not-true r.known u)
-
-    module _ (u : r.known ≡ true) {n : ℕ} (long : n ≡ length_of x) where
-      length-is : length_of (kind_at (held b p)) ≡ n
-      length-is = cc (held-kind ne at)
-
-      pub whole-short : p.end - p.at < n → 0 ≡ whole_length (held b p)
-      unfolding whole_length is_whole
-      whole-short s = let f : leb n (length (held b p)) ≡ false = lt-leb n (length (held b p)) (omega (arith, held-length)) in rw (known_is, u, length-is, f)
-
-      pub whole_is : n ≤ p.end - p.at → n ≡ whole_length (held b p)
-      unfolding whole_length is_whole
-      whole_is s = let f : leb n (length (held b p)) ≡ true = le-leb n (length (held b p)) (omega (arith, held-length)) in rw (known_is, u, length-is, f)
 
 -- the message in front of what is held
 pub record Front (h : List ℕ) (n : ℕ) : Type 0 where
@@ -169,15 +97,16 @@ module _ (h : List ℕ) where
   unfolding is_whole
   front-is e = let (k, l) = and-true _ _ e in record { known = k; exact = refl; fits = leb-true _ _ l }
 
-  pub whole-front : {n : ℕ} → n ≡ whole_length h → 0 < n → Front h n
+  pub whole-front : {n : ℕ} → whole_length h ≡ Some n → Front h n
   unfolding whole_length
-  whole-front {n} e lt = go (is_whole h) refl
+  whole-front {n} e = go (is_whole h) refl
     where
       go : (a : Bool) → is_whole h ≡ a → Front h n
       go true q =
-          let l : n ≡ length_of (kind_at h) = e ∙ rw q in
-          let f = front-is q in record { known = f.known; exact = l; fits = omega (arith, f.fits) }
-      go false q = let z : n ≡ 0 = e ∙ rw q in absurd (omega arith)
+          let l : ◌≡◌ {A = Option ℕ} (Some n) (Some (length_of (kind_at h))) = sym e ∙ rw q in
+          let m : n ≡ length_of (kind_at h) = cc in
+          let f = front-is q in record { known = f.known; exact = m; fits = omega (arith, f.fits) }
+      go false q = let z : ◌≡◌ {A = Option ℕ} (Some n) None = sym e ∙ rw q in absurd (cc)
 
   pub front-whole : {n : ℕ} → Front h n → is_whole h ≡ true
   unfolding is_whole
@@ -191,65 +120,53 @@ module _ (h : List ℕ) where
       go true e = e
       go false e = refl
 
-  pub no_front : {n : ℕ} → n ≡ whole_length h → n ≡ 0 → is_whole h ≡ false
+  pub no_front : whole_length h ≡ None → is_whole h ≡ false
   unfolding whole_length
-  no_front {n} e z = go (is_whole h) refl
+  no_front e = go (is_whole h) refl
     where
       go : (a : Bool) → is_whole h ≡ a → is_whole h ≡ false
-      go true q = let l : n ≡ length_of (kind_at h) = e ∙ rw q in absurd (omega (arith, ten (kind_at h)))
+      go true q = let z : ◌≡◌ {A = Option ℕ} None (Some (length_of (kind_at h))) = sym e ∙ rw q in absurd (cc)
       go false q = q
 
-  pub yields : (p : Place) {n : ℕ} {q : Place} → n ≡ whole_length h → 0 < n → q ≡ behind p n → record { answer = Message n; place = q } ≡ yielded_open h p
+  pub yields : (p : Place) {n : ℕ} {q : Place} → whole_length h ≡ Some n → q ≡ behind p n → Ok (Some (record { length = n; place = q })) ≡ yielded_open h p
   unfolding yielded_open
-  yields p {n} {q} e lt at = let f = whole-front e lt in rw (front-running f, front-whole f, at, ← f.exact)
+  yields p {n} {q} e at = let f = whole-front e in rw (front-running f, front-whole f, at, ← f.exact)
 
-  pub yields-front : (p : Place) → is_stopped h ≡ false → is_whole h ≡ true → yielded_open h p ≡ record { answer = Message (length_of (kind_at h)); place = behind p (length_of (kind_at h)) }
+  pub yields-front : (p : Place) → is_stopped h ≡ false → is_whole h ≡ true
+      → yielded_open h p ≡ Ok (Some (record { length = length_of (kind_at h); place = behind p (length_of (kind_at h)) }))
   unfolding yielded_open
   yields-front p e f = rw (e, f)
 
-  pub stops : (p : Place) → is_stopped h ≡ true → stay p (Stop p.offset) ≡ yielded_open h p
+  pub stops : (p : Place) → is_stopped h ≡ true → Err (Stopped p.offset) ≡ yielded_open h p
   unfolding yielded_open
   stops p e = rw e
 
-  pub waits : (p : Place) → is_stopped h ≡ false → is_whole h ≡ false → stay p Nothing ≡ yielded_open h p
+  pub waits : (p : Place) → is_stopped h ≡ false → is_whole h ≡ false → Ok None ≡ yielded_open h p
   unfolding yielded_open
   waits p e f = rw (e, f)
 
 -- a message in front lies within what is held
-pub front-within : (b : List ℕ) (p : Place) → Within (length b) p → {n : ℕ} → n ≡ whole_length (held b p) → 0 < n → (p.at + n ≤ p.end) × (p.offset + n < 18446744073709551616)
-front-within b p w {n} e lt =
-    let f : n ≤ length (held b p) = (whole-front (held b p) e lt).fits in
+pub front-within : (b : List ℕ) (p : Place) → Within (length b) p → {n : ℕ} → whole_length (held b p) ≡ Some n → (p.at + n ≤ p.end) × (p.offset + n < 18446744073709551616)
+front-within b p w {n} e =
+    let f : n ≤ length (held b p) = (whole-front (held b p) e).fits in
     let l : length (held b p) ≡ p.end - p.at = held-length b p w in
     let o = w.ordered in
     let k = w.counted in
     (omega arith, omega arith)
 
 -- the length of a message in front, if there is one, is within what is held
-whole-fits : (h : List ℕ) → whole_length h ≤ length h
-unfolding whole_length
-whole-fits h = go (is_whole h) refl
-  where
-    go : (a : Bool) → is_whole h ≡ a → cond (is_whole h) (length_of (kind_at h)) 0 ≤ length h
-    go true e = rw e (front-is h e).fits
-    go false e = rw e (omega arith)
-
-pub whole-within : (b : List ℕ) (p : Place) → Within (length b) p → {n : ℕ} → n ≡ whole_length (held b p) → p.at + n ≤ p.end
-whole-within b p w {n} e =
-    let f = whole-fits (held b p) in
-    let l : length (held b p) ≡ p.end - p.at = held-length b p w in
-    let o = w.ordered in
-    omega arith
+pub whole-fits : (h : List ℕ) {o : Option ℕ} {n : ℕ} → o ≡ whole_length h → n ≡ unwrap_or o 0 → n ≤ length h
+whole-fits h {o = None} e f = omega arith
+whole-fits h {o = Some k} e f = omega (arith, (whole-front h (sym e)).fits)
 
 -- that message is a part of the buffer
-pub message-part : (b : List ℕ) (p : Place) {n : ℕ} → Open ≡ gate_of (length b) p → n ≡ whole_length (held b p) → take (p.at + n - p.at) (drop p.at b) ≡ message_in b p
+pub message-part : (b : List ℕ) (p : Place) {n : ℕ} → Ok tt ≡ gate_of (length b) p → whole_length (held b p) ≡ Some n → take n (drop p.at b) ≡ message_in b p
 unfolding message_in held
 message-part b p {n} g e =
-    let w = open-within (length b) p g in
-    let f : p.at + n ≤ p.end = whole-within b p w e in
-    let k : p.at + n - p.at ≡ n = omega arith in
-    rw (← g, ← e, k) (sym (take-take n (p.end - p.at) (drop p.at b) (omega arith)))
+    let f = front-within b p (open-within (length b) p g) e in
+    rw (← g, e) (sym (take-take n (p.end - p.at) (drop p.at b) (omega arith)))
 
-pub message-front : (b : List ℕ) (p : Place) → Open ≡ gate_of (length b) p → is_whole (held b p) ≡ true → message_in b p ≡ take (length_of (kind_at (held b p))) (held b p)
+pub message-front : (b : List ℕ) (p : Place) → Ok tt ≡ gate_of (length b) p → is_whole (held b p) ≡ true → message_in b p ≡ take (length_of (kind_at (held b p))) (held b p)
 unfolding message_in whole_length
 message-front b p g e = rw (← g, e)
 
@@ -276,33 +193,29 @@ module _ (l : ℕ) (p : Place) (x : ℕ) (w : Within l p) where
       le_trans (min-le_right x (min (l - (p.end - p.at)) (18446744073709551615 - (p.offset + (p.end - p.at))))) (min-le_right (l - (p.end - p.at)) (18446744073709551615 - (p.offset + (p.end - p.at)))) in
       omega arith
 
--- an answer and a buffer that are known by what the call is
-pub both : {y z : Filled} {a : Taken} {b : List ℕ} → y ≡ z → a ≡ z.told → b ≡ z.buffer → (a ≡ y.told) × (b ≡ y.buffer)
-both e f g = (f ∙ ap (λ (x : Filled). x.told) (sym e), g ∙ ap (λ (x : Filled). x.buffer) (sym e))
-
 -- the calls, by gate and stop
 module _ (b : List ℕ) (p : Place) where
-  pub taken-shut : (x : List ℕ) {r : Refusal} → Shut r ≡ gate_of (length b) p → taken b p x ≡ unchanged p b (took.Refused r)
+  pub taken-shut : (x : List ℕ) {r : Refusal} → Err r ≡ gate_of (length b) p → taken b p x ≡ unchanged b (Refused r)
   unfolding taken
   taken-shut x e = rw (← e)
 
-  pub taken-stopped : (x : List ℕ) → Open ≡ gate_of (length b) p → is_stopped (held b p) ≡ true → taken b p x ≡ unchanged p b (took.Stopped p.offset)
+  pub taken-stopped : (x : List ℕ) → Ok tt ≡ gate_of (length b) p → is_stopped (held b p) ≡ true → taken b p x ≡ unchanged b (Stopped p.offset)
   unfolding taken taken_open
   taken-stopped x e s = rw (← e, s)
 
-  pub taken-fills : (x : List ℕ) → Open ≡ gate_of (length b) p → is_stopped (held b p) ≡ false → taken b p x ≡ fill b p x
+  pub taken-fills : (x : List ℕ) → Ok tt ≡ gate_of (length b) p → is_stopped (held b p) ≡ false → taken b p x ≡ fill b p x
   unfolding taken taken_open
   taken-fills x e s = rw (← e, s)
 
-  pub yielded-shut : {r : Refusal} → Shut r ≡ gate_of (length b) p → yielded b p ≡ stay p (Refused r)
+  pub yielded-shut : {r : Refusal} → Err r ≡ gate_of (length b) p → yielded b p ≡ Err (Refused r)
   unfolding yielded
   yielded-shut e = rw (← e)
 
-  pub yielded-open : Open ≡ gate_of (length b) p → yielded b p ≡ yielded_open (held b p) p
+  pub yielded-open : Ok tt ≡ gate_of (length b) p → yielded b p ≡ yielded_open (held b p) p
   unfolding yielded
   yielded-open e = rw (← e)
 
-  pub message-shut : {r : Refusal} → Shut r ≡ gate_of (length b) p → message_in b p ≡ []
+  pub message-shut : {r : Refusal} → Err r ≡ gate_of (length b) p → message_in b p ≡ []
   unfolding message_in
   message-shut e = rw (← e)
 
@@ -314,9 +227,7 @@ pub end_fits : (l : ℕ) (p : Place) (x : ℕ) → Within l p → {n : ℕ} → 
 end_fits l p x w e = omega (arith, room-counts l p x w)
 
 -- what was held to the front, what was taken behind it
-pub filled : (b : List ℕ) (p : Place) (x : List ℕ) {n : ℕ} {b₁ b₂ : List ℕ} → n ≡ count b p x → b₁ ≡ splice b 0 (take (p.end - p.at) (drop p.at b))
+pub filled-is : (b : List ℕ) (p : Place) (x : List ℕ) {n : ℕ} {b₁ b₂ : List ℕ} → n ≡ count b p x → b₁ ≡ splice b 0 (held b p)
     → b₂ ≡ splice b₁ (p.end - p.at) (take n x)
-    → (◌≡◌ {A = Taken} (record { answer = took.Bytes n; place = record { at = 0; end = p.end - p.at + n; offset = p.offset } }) (fill b p x).told)
-    × (b₂ ≡ (fill b p x).buffer)
-unfolding held
-filled b p x e f g = (rw e, rw (g, f, e))
+    → (◌≡◌ {A = Taken} (record { count = n; place = record { at = 0; end = p.end - p.at + n; offset = p.offset } }) (filled b p x)) × (b₂ ≡ (fill b p x).buffer)
+filled-is b p x e f g = (rw e, rw (g, f, e))

@@ -4,16 +4,15 @@ use mathlib.Core.Bool.{true, false}
 use mathlib.Core.List.{List, [], ◌∷◌, ◌++◌}
 use Prim.Native.Nat.{ℕ, ◌-◌}
 use lib.ListN.{replicate}
+use Rattle.std.specs.Prelude.{Some, None, Ok, Err}
 use Rattle.numbers.specs.Num.{splice}
 use Rattle.paper.specs.Message.{row_of}
 use Rattle.paper.specs.declared.Refusal.TheVariants.{Unsound, Room}
 use Rattle.wire.specs.Wire.{length_of, past}
 use Rattle.stream.specs.declared.place.Place.{Place}
-use Rattle.stream.specs.declared.place.Begun.TheVariants as begin
-use Rattle.stream.specs.declared.taking.Took.TheVariants as took
-use Rattle.stream.specs.declared.yielding.Found.TheVariants as found
+use Rattle.stream.specs.declared.place.Halt.TheVariants.{Stopped, Refused}
 use Rattle.stream.specs.Place.{sums, is_sum, place_ok, held, begun, gate_of}
-use Rattle.stream.specs.Stream.{is_stopped, is_whole, whole_length, room_for, unchanged, taken_open, taken, behind, stay, yielded_open, yielded, message_in}
+use Rattle.stream.specs.Stream.{is_stopped, is_whole, whole_length, room_for, unchanged, taken_open, taken, behind, yielded_open, yielded, message_in}
 use Rattle.stream.specs.Cutting.{whole_in, rest_in, uncut}
 
 abbrev at : ℕ → ℕ → ℕ → Place
@@ -23,7 +22,7 @@ at a e o = record { at = a; end = e; offset = o }
 abbrev message : ℕ → ℕ → ℕ → List ℕ
 message k n x = k ∷ replicate (n - 1) x
 
-pub beginnings : (begun 63 ≡ begin.Refused Room) × (begun 64 ≡ begin.At (at 0 0 0))
+pub beginnings : (begun 63 ≡ Err Room) × (begun 64 ≡ Ok (at 0 0 0))
 unfolding begun
 beginnings = (refl, refl)
 
@@ -53,7 +52,7 @@ buffer = message 4 10 7 ++ (1 ∷ 2 ∷ 3 ∷ 4 ∷ []) ++ replicate 50 6
 
 -- what is held goes to the front and two bytes follow; no byte behind them is touched
 pub refill : taken buffer (at 10 14 20) (5 ∷ 8 ∷ [])
-    ≡ record { told = record { answer = took.Bytes 2; place = at 0 6 20 }; buffer = (1 ∷ 2 ∷ 3 ∷ 4 ∷ 5 ∷ 8 ∷ []) ++ (7 ∷ 7 ∷ 7 ∷ 7 ∷ 1 ∷ 2 ∷ 3 ∷ 4 ∷ []) ++ replicate 50 6 }
+    ≡ record { told = Ok (record { count = 2; place = at 0 6 20 }); buffer = (1 ∷ 2 ∷ 3 ∷ 4 ∷ 5 ∷ 8 ∷ []) ++ (7 ∷ 7 ∷ 7 ∷ 7 ∷ 1 ∷ 2 ∷ 3 ∷ 4 ∷ []) ++ replicate 50 6 }
 unfolding taken taken_open gate_of place_ok is_sum sums row_of length_of past held is_stopped room_for splice
 refill = refl
 
@@ -68,32 +67,32 @@ unfolding room_for
 rooms = (refl, refl, refl, refl, refl, refl)
 
 -- where the stream stands still nothing is taken, and the offset is the stream's
-pub standing : (taken buffer (at 14 20 34) (5 ∷ []) ≡ record { told = record { answer = took.Bytes 1; place = at 0 7 34 }; buffer = replicate 6 6 ++ 5 ∷ (7 ∷ 7 ∷ 7 ∷ 1 ∷ 2 ∷ 3 ∷ 4 ∷ []) ++ replicate 50 6 })
-    × (taken (0 ∷ replicate 63 1) (at 0 1 10) (1 ∷ []) ≡ unchanged (at 0 1 10) (0 ∷ replicate 63 1) (took.Stopped 10))
-    × (yielded (message 4 10 7 ++ replicate 54 13) (at 10 12 34) ≡ stay (at 10 12 34) (found.Stop 34))
+pub standing : (taken buffer (at 14 20 34) (5 ∷ []) ≡ record { told = Ok (record { count = 1; place = at 0 7 34 }); buffer = replicate 6 6 ++ 5 ∷ (7 ∷ 7 ∷ 7 ∷ 1 ∷ 2 ∷ 3 ∷ 4 ∷ []) ++ replicate 50 6 })
+    × (taken (0 ∷ replicate 63 1) (at 0 1 10) (1 ∷ []) ≡ unchanged (0 ∷ replicate 63 1) (Stopped 10))
+    × (yielded (message 4 10 7 ++ replicate 54 13) (at 10 12 34) ≡ Err (Stopped 34))
 unfolding taken taken_open yielded yielded_open gate_of place_ok is_sum sums row_of length_of past held is_stopped is_whole room_for splice
 standing = (refl, refl, refl)
 
 -- a message that is whole to its last byte, one that is a byte short, and nothing at all
-pub yields : (yielded buffer (at 0 10 0) ≡ record { answer = found.Message 10; place = at 10 10 10 })
+pub yields : (yielded buffer (at 0 10 0) ≡ Ok (Some (record { length = 10; place = at 10 10 10 })))
     × (message_in buffer (at 0 10 0) ≡ message 4 10 7)
-    × (yielded buffer (at 0 9 0) ≡ stay (at 0 9 0) found.Nothing)
+    × (yielded buffer (at 0 9 0) ≡ Ok None)
     × (message_in buffer (at 0 9 0) ≡ [])
-    × (yielded buffer (at 10 10 20) ≡ stay (at 10 10 20) found.Nothing)
+    × (yielded buffer (at 10 10 20) ≡ Ok None)
 unfolding yielded yielded_open message_in whole_length gate_of place_ok is_sum sums row_of length_of past held is_stopped is_whole behind
 yields = (refl, refl, refl, refl, refl)
 
 -- a place out of order, past the buffer, before its own offset, past all offsets, or not at a message's end; then the buffer
-pub refusals : ((yielded buffer (at 10 9 20)).answer ≡ found.Refused Unsound)
-    × ((yielded buffer (at 10 65 20)).answer ≡ found.Refused Unsound)
-    × ((yielded buffer (at 10 14 0)).answer ≡ found.Refused Unsound)
-    × ((yielded buffer (at 0 8 18446744073709551608)).answer ≡ found.Refused Unsound)
-    × ((yielded buffer (at 9 14 19)).answer ≡ found.Refused Unsound)
-    × ((yielded buffer (at 10 14 19)).answer ≡ found.Refused Unsound)
-    × ((yielded (replicate 63 4) (at 0 64 0)).answer ≡ found.Refused Unsound)
-    × ((yielded (replicate 63 4) (at 0 63 0)).answer ≡ found.Refused Room)
-    × (taken (replicate 63 4) (at 0 63 0) (1 ∷ []) ≡ unchanged (at 0 63 0) (replicate 63 4) (took.Refused Room))
-    × (taken buffer (at 9 14 19) (1 ∷ []) ≡ unchanged (at 9 14 19) buffer (took.Refused Unsound))
+pub refusals : (yielded buffer (at 10 9 20) ≡ Err (Refused Unsound))
+    × (yielded buffer (at 10 65 20) ≡ Err (Refused Unsound))
+    × (yielded buffer (at 10 14 0) ≡ Err (Refused Unsound))
+    × (yielded buffer (at 0 8 18446744073709551608) ≡ Err (Refused Unsound))
+    × (yielded buffer (at 9 14 19) ≡ Err (Refused Unsound))
+    × (yielded buffer (at 10 14 19) ≡ Err (Refused Unsound))
+    × (yielded (replicate 63 4) (at 0 64 0) ≡ Err (Refused Unsound))
+    × (yielded (replicate 63 4) (at 0 63 0) ≡ Err (Refused Room))
+    × (taken (replicate 63 4) (at 0 63 0) (1 ∷ []) ≡ unchanged (replicate 63 4) (Refused Room))
+    × (taken buffer (at 9 14 19) (1 ∷ []) ≡ unchanged buffer (Refused Unsound))
 unfolding yielded taken gate_of place_ok is_sum sums row_of length_of past held
 refusals = (refl, refl, refl, refl, refl, refl, refl, refl, refl, refl)
 

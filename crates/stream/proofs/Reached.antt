@@ -8,6 +8,7 @@ use native.Mathlib.Nat.{add-zero, min-eq_left, le-min}
 use native.Mathlib.Omega.{arith}
 use borrow.Author.Tests.{eqb-true, leb-true}
 use lib.Dec.{eqb, leb}
+use Rattle.std.specs.Prelude.{Ok}
 use lib.ListN.{length, replicate, length-append, length-replicate}
 use lib.Seq.{take-length, drop-append_seam}
 use Rattle.paper.specs.Message.{rows, row_of}
@@ -15,9 +16,8 @@ use Rattle.paper.proofs.Laws.{and-true}
 use Rattle.wire.specs.Wire.{length_of, kind_at}
 use Rattle.wire.proofs.Laws.{ten, long-enough}
 use Rattle.stream.specs.declared.place.Place.{Place}
-use Rattle.stream.specs.declared.place.Gate.TheVariants.{Open}
 use Rattle.stream.specs.Place.{sums, is_sum, place_ok, held, gate_of}
-use Rattle.stream.specs.Stream.{is_stopped, room_for, taken, behind, yielded}
+use Rattle.stream.specs.Stream.{is_stopped, room_for, taken, place_after, behind, passed}
 use Rattle.stream.specs.Cutting.{joined, Call, offer, ask, State, opened, after, run, Leaves, Reached}
 use Rattle.stream.proofs.Laws.{ok_of, of-ok, open-ok, open-within, held-length, Front, front-whole, front-running, taken-fills, yielded-open, yields-front}
 use Rattle.stream.proofs.Sums.{either_true, some_is}
@@ -85,9 +85,9 @@ room-all : (l : ℕ) (p : Place) (x : ℕ) → p.end - p.at ≡ 0 → x ≤ l �
 unfolding room_for
 room-all l p x z fits counts = min-eq_left (le-min (omega arith) (omega arith))
 
-module _ (b : List ℕ) (p : Place) (g : gate_of (length b) p ≡ Open) where
+module _ (b : List ℕ) (p : Place) (g : gate_of (length b) p ≡ Ok tt) where
   all-taken : (x : List ℕ) → held b p ≡ [] → length x ≤ length b → p.offset + length x < 18446744073709551616
-      → ((taken b p x).told.place ≡ record { at = 0; end = 0 + length x; offset = p.offset }) × (held (taken b p x).buffer (taken b p x).told.place ≡ x)
+      → (place_after p (taken b p x).told ≡ record { at = 0; end = 0 + length x; offset = p.offset }) × (held (taken b p x).buffer (place_after p (taken b p x).told) ≡ x)
   unfolding is_stopped
   all-taken x e fits counts =
       let z : p.end - p.at ≡ 0 = sym (held-length b p (open-within (length b) p (sym g))) ∙ ap length e in
@@ -96,12 +96,12 @@ module _ (b : List ℕ) (p : Place) (g : gate_of (length b) p ≡ Open) where
       rw (taken-fills b p x (sym g) s) (rw (z, r), filled-held b p g x ∙ rw (e, r) (take-length x))
 
   -- of a message and more bytes, the message is yielded
-  first-yielded : (m r : List ℕ) → held b p ≡ m ++ r → Exact m → ((yielded b p).place ≡ behind p (length m)) × (held b (yielded b p).place ≡ r)
+  first-yielded : (m r : List ℕ) → held b p ≡ m ++ r → Exact m → (passed b p ≡ behind p (length m)) × (held b (passed b p) ≡ r)
   first-yielded m r e x =
       let f : Front (held b p) (length m) =
       rw e (record { known = rw (exact-kind m r x) x.known; exact = rw (exact-kind m r x) x.exact; fits = omega (arith, length-append m r) }) in
       let y = yielded-open b p (sym g) ∙ yields-front (held b p) p (front-running (held b p) f) (front-whole (held b p) f) in
-      let q : (yielded b p).place ≡ behind p (length m) = rw (y, ← f.exact) in
+      let q : passed b p ≡ behind p (length m) = rw (y, ← f.exact) in
       (q, rw (q, behind-held b p g f, e) (drop-append_seam m r))
 
 -- a run over a buffer of l bytes that leaves these bytes held, the first of them at `a` in the buffer and at o in the stream
@@ -124,7 +124,7 @@ module _ {l : ℕ} (big : 64 ≤ l) where
     first : Kept (opened t.buffer)
     first = kept-opened t.buffer (rw t.long big)
 
-    passes : gate_of (length (run (opened t.buffer) t.calls).buffer) (run (opened t.buffer) t.calls).place ≡ Open
+    passes : gate_of (length (run (opened t.buffer) t.calls).buffer) (run (opened t.buffer) t.calls).place ≡ Ok tt
     passes = (kept_run (opened t.buffer) t.calls first).passes
 
     still-long : length (run (opened t.buffer) t.calls).buffer ≡ l

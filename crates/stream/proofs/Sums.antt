@@ -177,10 +177,3 @@ least-sum x = go (leb 84 x) refl
     go : (a : Bool) → leb 84 x ≡ a → leb (least (x % 10)) x ≡ is_sum x
     go true e = let l = leb-true 84 x e in let m = least-small (x % 10) in le-leb (least (x % 10)) x (omega arith) ∙ sym (large x (omega arith))
     go false e = same-eq (leb (least (x % 10)) x) (is_sum x) (all_below-at 84 (λ x. same (leb (least (x % 10)) x) (is_sum x)) every-small x (leb-false 84 x e))
-
-above : (k d : ℕ) → k ≤ d → (d ≡ k → ⊥) → suc k ≤ d
-above k d l n = omega arith
-
--- no digit but the last is left
-pub last-digit : (d : ℕ) → (d ≡ 0 → ⊥) → (d ≡ 1 → ⊥) → (d ≡ 2 → ⊥) → (d ≡ 3 → ⊥) → (d ≡ 4 → ⊥) → (d ≡ 5 → ⊥) → (d ≡ 6 → ⊥) → (d ≡ 7 → ⊥) → (d ≡ 8 → ⊥) → 69 ≡ least d
-last-digit d a b c e f g h i j = sym (get_or-eq_default (0 ∷ 41 ∷ 42 ∷ 83 ∷ 14 ∷ 55 ∷ 46 ∷ 37 ∷ 28 ∷ []) 69 {n = d} (above 8 d (above 7 d (above 6 d (above 5 d (above 4 d (above 3 d (above 2 d (above 1 d (above 0 d (omega arith) a) b) c) e) f) g) h) i) j))

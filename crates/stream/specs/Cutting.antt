@@ -6,12 +6,12 @@ use Rattle.paper.specs.declared.Message.{Message}
 use Rattle.wire.specs.Wire.{length_of, kind_at}
 use Rattle.wire.specs.Calls.{read_message, wrote}
 use Rattle.stream.specs.declared.place.Place.{Place}
-use Rattle.stream.specs.declared.taking.Took.{Took}
-use Rattle.stream.specs.declared.taking.Took.TheVariants as took
-use Rattle.stream.specs.declared.yielding.Found.{Found}
-use Rattle.stream.specs.declared.yielding.Found.TheVariants as found
+use Rattle.stream.specs.declared.place.Halt.{Halt}
+use Rattle.stream.specs.declared.place.Halt.TheVariants.{Stopped, Refused}
+use Rattle.stream.specs.declared.taking.Taken.{Taken}
+use Rattle.stream.specs.declared.yielding.Yielded.{Yielded}
 use Rattle.stream.specs.Place.{start, place_ok, held}
-use Rattle.stream.specs.Stream.{is_stopped, is_whole, taken, yielded, message_in}
+use Rattle.stream.specs.Stream.{is_stopped, is_whole, taken, place_after, yielded, passed, message_in}
 
 -- lists one after another
 abbrev pub joined : List (List ℕ) → List ℕ
@@ -58,42 +58,39 @@ pub record State : Type 0 where
 abbrev pub opened : List ℕ → State
 opened b = record { buffer = b; place = start; taken = []; yielded = [] }
 
-abbrev pub count_in : Took → ℕ
-count_in (took.Bytes k) = k
-count_in (took.Stopped o) = 0
-count_in (took.Refused r) = 0
+abbrev pub count_in : Result Taken Halt → ℕ
+count_in (Ok t) = t.count
+count_in (Err h) = 0
 
-abbrev pub is_message : Found → Bool
-is_message (found.Message n) = true
-is_message found.Nothing = false
-is_message (found.Stop o) = false
-is_message (found.Refused r) = false
+abbrev pub is_message : Result (Option Yielded) Halt → Bool
+is_message (Ok (Some y)) = true
+is_message (Ok None) = false
+is_message (Err h) = false
 
-abbrev pub is_stop : Found → Bool
-is_stop (found.Message n) = false
-is_stop found.Nothing = false
-is_stop (found.Stop o) = true
-is_stop (found.Refused r) = false
+abbrev pub is_stop : Result (Option Yielded) Halt → Bool
+is_stop (Ok y) = false
+is_stop (Err (Stopped o)) = true
+is_stop (Err (Refused r)) = false
 
 -- what the next call would answer
-abbrev pub answer : State → Found
-answer s = (yielded s.buffer s.place).answer
+abbrev pub answer : State → Result (Option Yielded) Halt
+answer s = yielded s.buffer s.place
 
 -- the state after a call: what the calls' contracts cite
 abbrev pub after : State → Call → State
 after s (offer x) =
     record {
       buffer = (taken s.buffer s.place x).buffer;
-      place = (taken s.buffer s.place x).told.place;
-      taken = s.taken ++ take (count_in (taken s.buffer s.place x).told.answer) x;
+      place = place_after s.place (taken s.buffer s.place x).told;
+      taken = s.taken ++ take (count_in (taken s.buffer s.place x).told) x;
       yielded = s.yielded;
     }
 after s ask =
     record {
       buffer = s.buffer;
-      place = (yielded s.buffer s.place).place;
+      place = passed s.buffer s.place;
       taken = s.taken;
-      yielded = s.yielded ++ cond (is_message (yielded s.buffer s.place).answer) (message_in s.buffer s.place ∷ []) [];
+      yielded = s.yielded ++ cond (is_message (yielded s.buffer s.place)) (message_in s.buffer s.place ∷ []) [];
     }
 
 abbrev pub run : State → List Call → State
@@ -124,13 +121,13 @@ InOrder = (b : List ℕ) → 64 ≤ length b → (cs : List Call)
 
 -- where a stream stands still, no later call changes anything
 abbrev pub ForGood : Type 0
-ForGood = (s : State) (o : ℕ) → answer s ≡ found.Stop o → (c : Call) → after s c ≡ s
+ForGood = (s : State) (o : ℕ) → answer s ≡ Err (Stopped o) → (c : Call) → after s c ≡ s
 
 -- a reader that has nothing left to yield, and is not stopped, takes at least a byte of a call that offers one
 abbrev pub Progress : Type 0
-Progress = (b : List ℕ) → 64 ≤ length b → (cs : List Call) (x : List ℕ) → answer (run (opened b) cs) ≡ found.Nothing → 0 < length x
+Progress = (b : List ℕ) → 64 ≤ length b → (cs : List Call) (x : List ℕ) → answer (run (opened b) cs) ≡ Ok None → 0 < length x
     → length (run (opened b) cs).taken + 1 < 18446744073709551616
-    → 0 < count_in (taken (run (opened b) cs).buffer (run (opened b) cs).place x).told.answer
+    → 0 < count_in (taken (run (opened b) cs).buffer (run (opened b) cs).place x).told
 
 -- a run that leaves this place in a buffer of l bytes
 pub record Leaves (l : ℕ) (p : Place) : Type 0 where

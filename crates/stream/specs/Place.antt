@@ -1,13 +1,10 @@
 -- 2/12: the place in a lent buffer, what a run of calls can leave there, and what each call refuses first. Assumes nothing.
-use Rattle.std.specs.Prelude.{ℕ, zero, suc, ◌+◌, ◌-◌, ◌≤◌, ◌<◌, Bool, false, ◌&&◌, ◌||◌, not, cond, List, [], ◌∷◌, eqb, leb, ltb, length, get_or, take, drop}
+use Rattle.std.specs.Prelude.{ℕ, zero, suc, ◌+◌, ◌-◌, ◌≤◌, ◌<◌, Bool, false, ◌&&◌, ◌||◌, not, cond, List, [], ◌∷◌, Result, Ok, Err, eqb, leb, ltb, length, get_or, take, drop}
 use Rattle.paper.specs.Message.{rows, row_of}
+use Rattle.paper.specs.declared.Refusal.{Refusal}
 use Rattle.paper.specs.declared.Refusal.TheVariants.{Unsound, Room}
 use Rattle.wire.specs.Wire.{length_of}
 use Rattle.stream.specs.declared.place.Place.{Place}
-use Rattle.stream.specs.declared.place.Begun.{Begun}
-use Rattle.stream.specs.declared.place.Begun.TheVariants as begin
-use Rattle.stream.specs.declared.place.Gate.{Gate}
-use Rattle.stream.specs.declared.place.Gate.TheVariants as gates
 
 -- one of the kinds below k passes
 abbrev pub some_kind : ℕ → (ℕ → Bool) → Bool
@@ -52,9 +49,9 @@ abbrev pub start : Place
 start = record { at = 0; end = 0; offset = 0 }
 
 -- a buffer under 64 bytes is refused
-unfoldable pub begun : ℕ → Begun
-begun l = cond (ltb l 64) (begin.Refused Room) (begin.At start)
+unfoldable pub begun : ℕ → Result Place Refusal
+begun l = cond (ltb l 64) (Err Room) (Ok start)
 
 -- 11 for the place, then 2 for the buffer
-unfoldable pub gate_of : ℕ → Place → Gate
-gate_of l p = cond (not (place_ok l p)) (gates.Shut Unsound) (cond (ltb l 64) (gates.Shut Room) gates.Open)
+unfoldable pub gate_of : ℕ → Place → Result Unit Refusal
+gate_of l p = cond (not (place_ok l p)) (Err Unsound) (cond (ltb l 64) (Err Room) (Ok tt))

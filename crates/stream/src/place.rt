@@ -1,6 +1,7 @@
 // The place in a buffer, and whether a run of calls can leave it behind.
 ghost use Rattle.std.specs.Prelude.{◌≡◌, length};
-ghost use Rattle.stream.specs.Place.{least, is_sum, place_ok, begun, gate_of};
+ghost use Rattle.stream.specs.Place.{least, is_sum, place_ok, Within, held, begun, gate_of};
+ghost use Rattle.stream.specs.declared.place.Halt.TheVariants.{Refused};
 
 use paper::Refusal;
 
@@ -11,23 +12,26 @@ pub const LEAST: usize = 64;
 pub const LONGEST: usize = 18446744073709551615;
 
 // What is held stands from `at` to `end`; `offset` is where in the stream the byte at `at` stands.
-#[derive(Clone, Copy)]
+#[derive(Clone, Copy, Debug, PartialEq, Eq)]
 pub struct Place {
     pub at: usize,
     pub end: usize,
     pub offset: usize,
 }
 
+// Why a call takes and yields nothing: the stream stands still at this offset, or place or buffer is refused.
 #[derive(Clone, Copy)]
-pub enum Begun {
-    At(Place),
+pub enum Halt {
+    Stopped(usize),
     Refused(Refusal),
 }
 
-#[derive(Clone, Copy)]
-pub enum Gate {
-    Open,
-    Shut(Refusal),
+impl From<Refusal> for Halt {
+    ghost from_gives = { λ why halt. halt ≡ Refused why };
+
+    fn from(why: Refusal) -> Halt {
+        Halt::Refused(why)
+    }
 }
 
 // The least of the numbers with this last digit that whole messages can have as bytes together. The shortest messages have
@@ -57,48 +61,50 @@ fn is_sum(x: usize) -> bool
 }
 
 // The numbers are in order, within the buffer and the stream, and at messages' ends.
+#[tactic(auto, unfolding(crate::specs::Place::place_ok))]
 pub fn place_ok(length: usize, p: Place) -> bool
     ensures { result ≡ place_ok length p }
 {
-    if p.end < p.at {
-        return false;
-    }
-    if length < p.end {
-        return false;
-    }
-    if p.offset < p.at {
-        return false;
-    }
-    if LONGEST - p.offset < p.end - p.at {
-        return false;
-    }
-    if !is_sum(p.at) {
-        return false;
-    }
-    is_sum(p.offset - p.at)
+    p.at <= p.end
+        && p.end <= length
+        && p.at <= p.offset
+        && p.end - p.at <= LONGEST - p.offset
+        && is_sum(p.at)
+        && is_sum(p.offset - p.at)
 }
 
 // What is refused of a buffer of this length and a place in it.
-pub fn gate_of(length: usize, p: Place) -> Gate
+#[tactic(auto, unfolding(crate::specs::Place::gate_of))]
+pub fn gate_of(length: usize, p: Place) -> Result<(), Refusal>
     ensures { result ≡ gate_of length p }
 {
     if !place_ok(length, p) {
-        return Gate::Shut(Refusal::Unsound);
+        return Err(Refusal::Unsound);
     }
     if length < LEAST {
-        return Gate::Shut(Refusal::Room);
+        return Err(Refusal::Room);
     }
-    Gate::Open
+    Ok(())
+}
+
+// The bytes that are taken and not yielded.
+#[tactic(auto, unfolding(crate::specs::Place::held))]
+pub(crate) fn held(buf: &[u8], p: Place) -> &[u8]
+    requires { Within (length buf.now) p }
+    ensures { result.now ≡ held buf.now p }
+{
+    &buf[p.at..p.end]
 }
 
 // A new stream, whose first byte will stand at the buffer's front.
-pub fn begin(buf: &[u8]) -> Begun
+#[tactic(auto, unfolding(crate::specs::Place::begun))]
+pub fn begin(buf: &[u8]) -> Result<Place, Refusal>
     ensures { result ≡ begun (length buf.now) }
 {
     if buf.len() < LEAST {
-        return Begun::Refused(Refusal::Room);
+        return Err(Refusal::Room);
     }
-    Begun::At(Place {
+    Ok(Place {
         at: 0,
         end: 0,
         offset: 0,

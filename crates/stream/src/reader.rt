@@ -1,13 +1,12 @@
-// The reader: a buffer that is lent to it, with the place up to which messages were handed back. Each function takes the struct apart
+// The reader: a buffer that is lent to it, with the place up to which messages were handed back. Each method takes the struct apart
 // and leaves the work to the call on a slice and a place.
 //
 // The buffer is held shared: what was handed back stays readable until the next bytes are taken, which asks for the buffer back.
 ghost use Rattle.std.specs.Prelude.{◌≡◌};
-ghost use Rattle.stream.specs.Stream.{yielded, message_in};
+ghost use Rattle.stream.specs.Stream.{front, passed, message_in};
 
-use crate::place::Place;
+use crate::place::{Halt, Place};
 use crate::yielding;
-use crate::yielding::Found;
 
 #[derive(Clone, Copy)]
 pub struct Reader<'a> {
@@ -15,45 +14,46 @@ pub struct Reader<'a> {
     pub place: Place,
 }
 
-// The reader of a buffer, at a place in it.
-pub fn over<'a>(buf: &'a [u8], place: Place) -> Reader<'a>
-    ensures { (result.buf ≡ buf.entry) × (result.place ≡ place) }
-{
-    Reader { buf, place }
-}
+impl<'a> Reader<'a> {
+    // The reader of a buffer, at a place in it.
+    pub fn over(buf: &'a [u8], place: Place) -> Reader<'a>
+        ensures { (result.buf ≡ buf.entry) × (result.place ≡ place) }
+    {
+        Reader { buf, place }
+    }
 
-// Its place, to go on from when bytes were taken.
-pub fn place<'a>(r: Reader<'a>) -> Place
-    ensures { result ≡ r.entry.place }
-{
-    r.place
-}
+    // Its place, to go on from when bytes were taken.
+    pub fn place(self) -> Place
+        ensures { result ≡ self.entry.place }
+    {
+        self.place
+    }
 
-// What stands in front: a message, nothing yet, or the stop.
-pub fn next<'a>(r: Reader<'a>) -> Found
-    ensures { result ≡ (yielded r.entry.buf.now r.entry.place).answer }
-{
-    yielding::front(r.buf, r.place)
-}
+    // What stands in front: a message of this length, nothing yet, or the stop.
+    pub fn next(self) -> Result<Option<usize>, Halt>
+        ensures { result ≡ front self.entry.buf.now self.entry.place }
+    {
+        yielding::front(self.buf, self.place)
+    }
 
-// That message: a part of the buffer, empty where there is none.
-pub fn message<'a>(r: Reader<'a>) -> &'a [u8]
-    ensures { result.now ≡ message_in r.entry.buf.now r.entry.place }
-{
-    yielding::message(r.buf, r.place)
-}
+    // That message: a part of the buffer, empty where there is none.
+    pub fn message(self) -> &'a [u8]
+        ensures { result.now ≡ message_in self.entry.buf.now self.entry.place }
+    {
+        yielding::message(self.buf, self.place)
+    }
 
-// The reader behind that message, or where it was.
-pub fn passed<'a>(r: Reader<'a>) -> Reader<'a>
-    ensures { (result.buf ≡ r.entry.buf) × (result.place ≡ (yielded r.entry.buf.now r.entry.place).place) }
-{
-    let place = yielding::passed(r.buf, r.place);
-    Reader { buf: r.buf, place }
+    // The reader behind that message, or where it was.
+    pub fn passed(self) -> Reader<'a>
+        ensures { (result.buf ≡ self.entry.buf) × (result.place ≡ passed self.entry.buf.now self.entry.place) }
+    {
+        Reader::over(self.buf, yielding::passed(self.buf, self.place))
+    }
 }
 
 // The message at a place in a buffer, for whoever has no reader at hand.
 pub fn read<'a>(buf: &'a [u8], place: Place) -> &'a [u8]
     ensures { result.now ≡ message_in buf.now place }
 {
-    message(over(buf, place))
+    Reader::over(buf, place).message()
 }

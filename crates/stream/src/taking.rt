@@ -1,70 +1,52 @@
 // Taking the next bytes of a stream into the lent buffer.
-ghost use Rattle.std.specs.Prelude.{◌≡◌, ◌+◌, ◌≤◌, ◌<◌, min, length, take, drop};
+ghost use Rattle.std.specs.Prelude.{◌≡◌, length};
 ghost use Rattle.numbers.specs.Num.{splice};
-ghost use Rattle.stream.specs.Place.{Within};
-ghost use Rattle.stream.specs.Stream.{room_for, taken, fill};
+ghost use Rattle.stream.specs.Place.{Within, held};
+ghost use Rattle.stream.specs.Stream.{room_for, filled, fill, taken};
 
-use crate::place::{Gate, LONGEST, Place, gate_of};
+use crate::place::{Halt, LONGEST, Place, gate_of, held};
 use crate::yielding::is_stopped;
-use paper::Refusal;
 
-// How many bytes were taken; or where in the stream it stands still.
-#[derive(Clone, Copy)]
-pub enum Took {
-    Bytes(usize),
-    Stopped(usize),
-    Refused(Refusal),
-}
-
-#[derive(Clone, Copy)]
+// How many bytes were taken, and the place after them.
+#[derive(Clone, Copy, Debug, PartialEq, Eq)]
 pub struct Taken {
-    pub answer: Took,
+    pub count: usize,
     pub place: Place,
 }
 
-fn lesser(x: usize, y: usize) -> usize
-    ensures { result ≡ min x y }
-{
-    if x < y { x } else { y }
-}
-
 // How many of `count` bytes are taken.
+#[tactic(auto, unfolding(crate::specs::Stream::room_for))]
 fn room_for(length: usize, p: Place, count: usize) -> usize
     requires { Within length p }
     ensures { result ≡ room_for length p count }
 {
     let held = p.end - p.at;
-    let room = lesser(length - held, LONGEST - (p.offset + held));
-    lesser(count, room)
+    let room = (length - held).min(LONGEST - (p.offset + held));
+    count.min(room)
 }
 
-// Moves `count` bytes from `at` on to the front.
-fn shift(buf: &mut [u8], at: usize, count: usize)
-    requires { at + count ≤ length buf.old }
-    ensures { buf.new ≡ splice buf.old 0 (take count (drop at buf.old)) }
+// Moves what is held to the front.
+fn shift(buf: &mut [u8], p: Place)
+    requires { Within (length buf.old) p }
+    ensures { buf.new ≡ splice buf.old 0 (held buf.old p) }
 {
-    if at == 0 {
-        return;
-    }
-    let mut i = 0;
-    while i < count {
-        buf[i] = buf[at + i];
-        i += 1;
+    if p.at != 0 {
+        buf.copy_within(p.at..p.end, 0);
     }
 }
 
 // What is held to the front, and behind it as many of these bytes as there is room for.
 fn fill(buf: &mut [u8], p: Place, bytes: &[u8]) -> Taken
     requires { Within (length buf.old) p }
-    ensures answers { result ≡ (fill buf.old p bytes.now).told }
+    ensures taken { result ≡ filled buf.old p bytes.now }
     ensures buffer { buf.new ≡ (fill buf.old p bytes.now).buffer }
 {
     let held = p.end - p.at;
     let count = room_for(buf.len(), p, bytes.len());
-    shift(&mut *buf, p.at, held);
+    shift(&mut *buf, p);
     numbers::put_bytes(&mut *buf, held, &bytes[..count]);
     Taken {
-        answer: Took::Bytes(count),
+        count,
         place: Place {
             at: 0,
             end: held + count,
@@ -73,24 +55,15 @@ fn fill(buf: &mut [u8], p: Place, bytes: &[u8]) -> Taken
     }
 }
 
-fn unchanged(p: Place, answer: Took) -> Taken
-    ensures { result ≡ record { answer = answer; place = p } }
-{
-    Taken { answer, place: p }
-}
-
 // Takes as many of the next bytes as there is room for.
-pub fn take(buf: &mut [u8], p: Place, bytes: &[u8]) -> Taken
+#[tactic(auto, unfolding(crate::specs::Stream::taken, crate::specs::Stream::taken_open))]
+pub fn take(buf: &mut [u8], p: Place, bytes: &[u8]) -> Result<Taken, Halt>
     ensures answers { result ≡ (taken buf.old p bytes.now).told }
     ensures buffer { buf.new ≡ (taken buf.old p bytes.now).buffer }
 {
-    match gate_of(buf.len(), p) {
-        Gate::Shut(why) => unchanged(p, Took::Refused(why)),
-        Gate::Open => {
-            if is_stopped(&*buf, p) {
-                return unchanged(p, Took::Stopped(p.offset));
-            }
-            fill(buf, p, bytes)
-        }
+    gate_of(buf.len(), p)?;
+    if is_stopped(held(&*buf, p)) {
+        return Err(Halt::Stopped(p.offset));
     }
+    Ok(fill(buf, p, bytes))
 }

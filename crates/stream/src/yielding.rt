@@ -1,64 +1,41 @@
 // Yielding the messages that stand whole in the buffer, one after another.
-ghost use Rattle.std.specs.Prelude.{◌≡◌, length, ◌+◌, ◌≤◌, ◌<◌};
-ghost use Rattle.stream.specs.Place.{held, Within};
-ghost use Rattle.stream.specs.Stream.{is_stopped, whole_length, behind, yielded_open, yielded, message_in};
+ghost use Rattle.std.specs.Prelude.{◌≡◌, ◌+◌, ◌≤◌, ◌<◌};
+ghost use Rattle.stream.specs.Stream.{is_stopped, whole_length, behind, yielded, front, passed, message_in};
 
-use crate::place::{Gate, Place, gate_of};
-use nouns::logic::wide8;
+use crate::place::{Halt, Place, gate_of, held};
 use nouns::message::row_of;
-use paper::Refusal;
-use wire::length_of;
+use wire::{kind_at, length_of};
 
-// The length of a message that is yielded; where in the stream it stands still.
-#[derive(Clone, Copy)]
-pub enum Found {
-    Message(usize),
-    Nothing,
-    Stop(usize),
-    Refused(Refusal),
-}
-
-#[derive(Clone, Copy)]
+// The length of a message, and the place behind it.
+#[derive(Clone, Copy, Debug, PartialEq, Eq)]
 pub struct Yielded {
-    pub answer: Found,
+    pub length: usize,
     pub place: Place,
 }
 
 // What is held begins with no known kind.
-pub fn is_stopped(buf: &[u8], p: Place) -> bool
-    requires { Within (length buf.now) p }
-    ensures { result ≡ is_stopped (held buf.now p) }
+#[tactic(auto, unfolding(crate::specs::Stream::is_stopped))]
+pub fn is_stopped(held: &[u8]) -> bool
+    ensures { result ≡ is_stopped held.now }
 {
-    let at = p.at;
-    if at == p.end {
-        return false;
-    }
-    let row = row_of(wide8(buf[at]));
-    !row.known
+    !held.is_empty() && !row_of(kind_at(held)).known
 }
 
-// The length of the message in front, 0 where none is whole.
-fn whole_length(buf: &[u8], p: Place) -> usize
-    requires { Within (length buf.now) p }
-    ensures { result ≡ whole_length (held buf.now p) }
+// The length of the message in front, if it is whole.
+#[tactic(auto, unfolding(crate::specs::Stream::whole_length, crate::specs::Stream::is_whole))]
+fn whole_length(held: &[u8]) -> Option<usize>
+    ensures { result ≡ whole_length held.now }
 {
-    let at = p.at;
-    if at == p.end {
-        return 0;
-    }
-    let k = wide8(buf[at]);
-    let row = row_of(k);
-    if !row.known {
-        return 0;
+    let k = kind_at(held);
+    if !row_of(k).known {
+        return None;
     }
     let n = length_of(k);
-    if p.end - at < n {
-        return 0;
-    }
-    n
+    if held.len() < n { None } else { Some(n) }
 }
 
 // The place behind n bytes more of what is held.
+#[tactic(auto, unfolding(crate::specs::Stream::behind))]
 fn behind(p: Place, n: usize) -> Place
     requires { (p.at + n ≤ p.end) × (p.offset + n < 18446744073709551616) }
     ensures { result ≡ behind p n }
@@ -70,64 +47,50 @@ fn behind(p: Place, n: usize) -> Place
     }
 }
 
-fn next_open(buf: &[u8], p: Place) -> Yielded
-    requires { Within (length buf.now) p }
-    ensures { result ≡ yielded_open (held buf.now p) p }
-{
-    let n = whole_length(buf, p);
-    if 0 < n {
-        return Yielded {
-            answer: Found::Message(n),
-            place: behind(p, n),
-        };
-    }
-    let answer = if is_stopped(buf, p) {
-        Found::Stop(p.offset)
-    } else {
-        Found::Nothing
-    };
-    Yielded { answer, place: p }
-}
-
 // The message in front and the place behind it; or the stop; or nothing yet.
-pub fn next(buf: &[u8], p: Place) -> Yielded
+#[tactic(auto, unfolding(crate::specs::Stream::yielded, crate::specs::Stream::yielded_open))]
+pub fn next(buf: &[u8], p: Place) -> Result<Option<Yielded>, Halt>
     ensures { result ≡ yielded buf.now p }
 {
-    match gate_of(buf.len(), p) {
-        Gate::Shut(why) => Yielded {
-            answer: Found::Refused(why),
-            place: p,
-        },
-        Gate::Open => next_open(buf, p),
+    gate_of(buf.len(), p)?;
+    let held = held(buf, p);
+    if let Some(length) = whole_length(held) {
+        let place = behind(p, length);
+        return Ok(Some(Yielded { length, place }));
     }
+    if is_stopped(held) {
+        return Err(Halt::Stopped(p.offset));
+    }
+    Ok(None)
 }
 
 // That message, where it stands in the buffer; empty where none is yielded.
+#[tactic(auto, unfolding(crate::specs::Stream::message_in))]
 pub fn message(buf: &[u8], p: Place) -> &[u8]
     ensures { result.now ≡ message_in buf.now p }
 {
     match gate_of(buf.len(), p) {
-        Gate::Shut(_) => &buf[..0],
-        Gate::Open => {
-            let at = p.at;
-            let end = at + whole_length(buf, p);
-            &buf[at..end]
+        Err(_) => &buf[..0],
+        Ok(()) => {
+            let held = held(buf, p);
+            &held[..whole_length(held).unwrap_or(0)]
         }
     }
 }
 
-// What is answered of it, by itself.
-pub fn front(buf: &[u8], p: Place) -> Found
-    ensures { result ≡ (yielded buf.now p).answer }
+// Its length, by itself.
+pub fn front(buf: &[u8], p: Place) -> Result<Option<usize>, Halt>
+    ensures { result ≡ front buf.now p }
 {
-    let y = next(buf, p);
-    y.answer
+    Ok(next(buf, p)?.map(|y| y.length))
 }
 
-// The place behind it, by itself.
+// The place behind it, by itself; where there is none, the place as it was.
 pub fn passed(buf: &[u8], p: Place) -> Place
-    ensures { result ≡ (yielded buf.now p).place }
+    ensures { result ≡ passed buf.now p }
 {
-    let y = next(buf, p);
-    y.place
+    match next(buf, p) {
+        Ok(Some(y)) => y.place,
+        _ => p,
+    }
 }

@@ -1,4 +1,0 @@
-use Rattle.stream.proofs.yielding.passed.Goals as goal
-
-pub returns : goal.returns
-returns c = cc
