@@ -69,6 +69,6 @@ lows-at a b c d e f g =
     (each_at (λ t. each (λ u. each (λ v. each (λ w. each (λ x. each (λ y. each (λ z. lows t u v w x y z))))))) lows-all a) b) c) d) e) f) g
 
 -- the lowest member of the set of those that pass a test is the lowest that passes it
-pub lowest-those : (f : ℕ → Bool) {m r : ℕ} → m ≡ those f → r ≡ lowest (λ q. member q m) → r ≡ lowest f
+pub lowest_those : (f : ℕ → Bool) {m r : ℕ} → m ≡ those f → r ≡ lowest (λ q. member q m) → r ≡ lowest f
 unfolding bits_below lowest_from lows
-lowest-those f p e = e ∙ ap (λ (m : ℕ). lowest (λ q. member q m)) p ∙ eqb-true _ _ (lows-at (f 0) (f 1) (f 2) (f 3) (f 4) (f 5) (f 6))
+lowest_those f p e = e ∙ ap (λ (m : ℕ). lowest (λ q. member q m)) p ∙ eqb-true _ _ (lows-at (f 0) (f 1) (f 2) (f 3) (f 4) (f 5) (f 6))
