@@ -22,6 +22,7 @@ fn accepted(r: Record, m: Message, k: Command) -> Record
 }
 
 // k is the command that m carries.
+#[tactic(auto, unfolding(rules::specs::Accept::accept))]
 pub fn accept(c: u8, o: u8, j: u16, r: Record, m: Message, k: Command) -> Step
     requires { m.from < 7 }
     ensures { result ≡ accept c o j r m k }
@@ -32,8 +33,9 @@ pub fn accept(c: u8, o: u8, j: u16, r: Record, m: Message, k: Command) -> Step
     if m.ballot < r.joined {
         return nack_back(c, o, j, r, m);
     }
-    let entry = accepted(r, m, k);
-    let message = say(c, o, j, m.ballot, Body::AcceptOk, no_deps());
-    let to = only_of(m.from);
-    Step { entry, to, message }
+    Step {
+        entry: accepted(r, m, k),
+        to: only_of(m.from),
+        message: say(c, o, j, m.ballot, Body::AcceptOk, no_deps()),
+    }
 }

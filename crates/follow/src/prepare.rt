@@ -2,12 +2,13 @@
 ghost use Rattle.std.specs.Prelude.{◌≡◌, ◌<◌};
 ghost use Rattle.rules.specs.Prepare.{prepare};
 
-use paper::{Body, Message, Record};
+use paper::{Body, Message, Record, Vote};
 use rules::Step;
 use sets::only_of;
 use step::made::{begun, commit_back, is_committed, nack_back, say, silent};
 
 // The vote is told with the ballot it was given in, and not with the one joined before.
+#[tactic(auto, unfolding(rules::specs::Prepare::prepare))]
 pub fn prepare(c: u8, o: u8, j: u16, r: Record, m: Message) -> Step
     requires { m.from < 7 }
     ensures { result ≡ prepare c o j r m }
@@ -21,16 +22,20 @@ pub fn prepare(c: u8, o: u8, j: u16, r: Record, m: Message) -> Step
     if r.vote.voted == m.ballot {
         return silent(r);
     }
-    let vote = r.vote;
-    let command = vote.command;
-    let deps = vote.deps;
+    let Vote {
+        voted,
+        status,
+        command,
+        deps,
+    } = r.vote;
     let body = Body::PrepareOk {
-        voted: vote.voted,
-        status: vote.status,
+        voted,
+        status,
         command,
     };
-    let entry = begun(m.ballot, vote, r.mark, 0);
-    let message = say(c, o, j, m.ballot, body, deps);
-    let to = only_of(m.from);
-    Step { entry, to, message }
+    Step {
+        entry: begun(m.ballot, r.vote, r.mark, 0),
+        to: only_of(m.from),
+        message: say(c, o, j, m.ballot, body, deps),
+    }
 }

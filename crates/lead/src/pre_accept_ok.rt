@@ -1,9 +1,10 @@
 // "PreAcceptOK b".
-ghost use Rattle.std.specs.Prelude.{◌≡◌, ◌&&◌, ◌||◌, not, ◌<◌, ◌≤◌, length, get_or};
+ghost use Rattle.std.specs.Prelude.{◌≡◌, ◌&&◌, ◌||◌, not, ◌<◌, ◌≤◌};
 ghost use Rattle.paper.specs.Logic.{all_below};
 ghost use Rattle.paper.specs.Deps.{same_deps};
-ghost use Rattle.paper.specs.Vote.{no_vote, member};
+ghost use Rattle.paper.specs.Vote.{member};
 ghost use Rattle.rules.specs.PreAcceptOk.{
+  added,
   matching,
   different,
   added_vote,
@@ -15,114 +16,86 @@ ghost use Rattle.rules.specs.PreAcceptOk.{
 };
 
 use nouns::deps::same_deps;
-use nouns::logic::{all_seven, at_most, both, either};
+use nouns::logic::all_below;
 use nouns::setup::faults;
 use nouns::vote::{count, member, noop};
 use paper::{Message, Record, Vote};
 use rules::Step;
-use sets::bits_of;
+use sets::those;
 use step::accepting::accepting_join;
 use step::committing::committing;
-use step::made::{awaited, collect, replies_of, silent};
+use step::made::{awaited, collect, silent};
 
-fn same_added(v: Vote, d: [u16; 7]) -> bool
-    ensures { result ≡ same_deps v.deps d }
+// The dependencies that copy q replied.
+fn added(r: &Record, q: usize) -> [u16; 7]
+    requires { q < 7 }
+    ensures { result ≡ added r.now q }
 {
-    let deps = v.deps;
-    same_deps(deps, d)
-}
-
-fn matches_sent(q: usize, set: u8, v: Vote, d: [u16; 7]) -> bool
-    requires { q < 8 }
-    ensures { result ≡ (member q set && same_deps v.deps d) }
-{
-    both(member(q, set), same_added(v, d))
+    r.replies[q].deps
 }
 
 // The replies equal to what was sent.
+#[tactic(auto, unfolding(rules::specs::PreAcceptOk::matching))]
 fn matching(r: Record) -> u8
     ensures { result ≡ matching r }
 {
-    let d = r.vote.deps;
-    let vs = replies_of(r);
-    let q0 = matches_sent(0, r.set, vs[0], d);
-    let q1 = matches_sent(1, r.set, vs[1], d);
-    let q2 = matches_sent(2, r.set, vs[2], d);
-    let q3 = matches_sent(3, r.set, vs[3], d);
-    let q4 = matches_sent(4, r.set, vs[4], d);
-    let q5 = matches_sent(5, r.set, vs[5], d);
-    let q6 = matches_sent(6, r.set, vs[6], d);
-    bits_of(q0, q1, q2, q3, q4, q5, q6)
+    those(|q| member(q, r.set) && same_deps(added(&r, q), r.vote.deps))
 }
 
-fn agree(p: usize, q: usize, set: u8, v: Vote, w: Vote) -> bool
-    requires { (p < 8) × (q < 8) }
-    ensures { result ≡ (not (member p set && member q set) || same_deps v.deps w.deps) }
+fn agree(r: &Record, p: usize, q: usize) -> bool
+    requires { (p < 7) × (q < 7) }
+    ensures { result ≡ (not (member p r.now.set && member q r.now.set) || same_deps (added r.now p) (added r.now q)) }
 {
-    let d = w.deps;
-    either(!both(member(p, set), member(q, set)), same_added(v, d))
+    !(member(p, r.set) && member(q, r.set)) || same_deps(added(r, p), added(r, q))
 }
 
-// The reply v of copy p agrees with every other.
-fn agrees(p: usize, set: u8, v: Vote, vs: [Vote; 7]) -> bool
-    requires { (p < 8) × (length vs ≡ 7) }
-    ensures { result ≡ all_below 7 (λ q. not (member p set && member q set) || same_deps v.deps (get_or vs q no_vote).deps) }
+// The reply of copy p agrees with every other.
+fn agrees(r: &Record, p: usize) -> bool
+    requires { p < 7 }
+    ensures { result ≡ all_below 7 (λ q. not (member p r.now.set && member q r.now.set) || same_deps (added r.now p) (added r.now q)) }
 {
-    let q0 = agree(p, 0, set, v, vs[0]);
-    let q1 = agree(p, 1, set, v, vs[1]);
-    let q2 = agree(p, 2, set, v, vs[2]);
-    let q3 = agree(p, 3, set, v, vs[3]);
-    let q4 = agree(p, 4, set, v, vs[4]);
-    let q5 = agree(p, 5, set, v, vs[5]);
-    let q6 = agree(p, 6, set, v, vs[6]);
-    all_seven(q0, q1, q2, q3, q4, q5, q6)
+    all_below(7, |q| agree(r, p, q))
 }
 
 // Two replies are different.
+#[tactic(auto, unfolding(rules::specs::PreAcceptOk::different))]
 fn different(r: Record) -> bool
     ensures { result ≡ different r }
 {
-    let vs = replies_of(r);
-    let p0 = agrees(0, r.set, vs[0], vs);
-    let p1 = agrees(1, r.set, vs[1], vs);
-    let p2 = agrees(2, r.set, vs[2], vs);
-    let p3 = agrees(3, r.set, vs[3], vs);
-    let p4 = agrees(4, r.set, vs[4], vs);
-    let p5 = agrees(5, r.set, vs[5], vs);
-    let p6 = agrees(6, r.set, vs[6], vs);
-    !all_seven(p0, p1, p2, p3, p4, p5, p6)
+    !all_below(7, |p| agrees(&r, p))
 }
 
 // At 2F-1 replies equal to what was sent.
+#[tactic(auto, unfolding(rules::specs::PreAcceptOk::fast_enough))]
 fn fast_enough(n: usize, r: Record) -> bool
     requires { (3 ≤ n) × (n ≤ 7) }
     ensures { result ≡ fast_enough n r }
 {
-    at_most(2 * faults(n) - 1, count(matching(r)))
+    2 * faults(n) - 1 <= count(matching(r))
 }
 
 // The fast path is lost: F copies answered and two of them disagree, or all did.
+#[tactic(auto, unfolding(rules::specs::PreAcceptOk::slow_enough))]
 fn slow_enough(n: usize, r: Record) -> bool
     requires { (3 ≤ n) × (n ≤ 7) }
     ensures { result ≡ slow_enough n r }
 {
     let f = faults(n);
     let replied = count(r.set);
-    either(
-        both(at_most(f, replied), different(r)),
-        at_most(2 * f, replied),
-    )
+    f <= replied && different(r) || 2 * f <= replied
 }
 
 // At F replies.
+#[tactic(auto, unfolding(rules::specs::PreAcceptOk::some_enough))]
 pub fn some_enough(n: usize, r: Record) -> bool
     requires { 3 ≤ n }
     ensures { result ≡ some_enough n r }
 {
-    at_most(faults(n), count(r.set))
+    faults(n) <= count(r.set)
 }
 
 // With the reply collected.
+#[tactic(auto, unfolding(rules::specs::PreAcceptOk::pre_accepted_by))]
 fn pre_accepted_by(n: usize, c: u8, o: u8, j: u16, r: Record) -> Step
     requires { (3 ≤ n) × (n ≤ 7) }
     ensures { result ≡ pre_accepted_by n c o j r }
@@ -145,15 +118,15 @@ fn pre_accepted_by(n: usize, c: u8, o: u8, j: u16, r: Record) -> Step
 fn added_vote(d: [u16; 7]) -> Vote
     ensures { result ≡ added_vote d }
 {
-    let command = noop();
     Vote {
         voted: 0,
         status: 0,
-        command,
+        command: noop(),
         deps: d,
     }
 }
 
+#[tactic(auto, unfolding(rules::specs::PreAcceptOk::on_pre_accept_ok))]
 pub fn on_pre_accept_ok(n: usize, c: u8, o: u8, j: u16, r: Record, m: Message) -> Step
     requires { (3 ≤ n) × (n ≤ 7) × (m.from < 7) × (r.set < 128) }
     ensures { result ≡ on_pre_accept_ok n c o j r m }
@@ -161,7 +134,6 @@ pub fn on_pre_accept_ok(n: usize, c: u8, o: u8, j: u16, r: Record, m: Message) -
     if !awaited(2, r, m) {
         return silent(r);
     }
-    let deps = m.deps;
-    let v = added_vote(deps);
+    let v = added_vote(m.deps);
     pre_accepted_by(n, c, o, j, collect(r, m.from, v))
 }

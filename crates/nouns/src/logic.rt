@@ -1,33 +1,35 @@
-// Tests joined to tests, without branches, so that a clause reads as the paper has it.
-ghost use Rattle.std.specs.Prelude.{◌≡◌, true, ◌&&◌, ◌||◌, leb, ltb, eqb, ◌<◌};
-ghost use Rattle.paper.specs.Logic.{implies};
+// Tests joined to tests, so that a clause reads as the paper has it.
+ghost use Rattle.std.specs.Prelude.{◌≡◌, ℕ, Bool, ◌&&◌, ◌||◌, leb, ltb, eqb, ◌<◌};
+ghost use Rattle.paper.specs.Logic.{implies, all_below};
 
 pub fn both(a: bool, b: bool) -> bool
     ensures { result ≡ (a && b) }
 {
-    if a { b } else { false }
+    a && b
 }
 
 pub fn either(a: bool, b: bool) -> bool
     ensures { result ≡ (a || b) }
 {
-    if a { true } else { b }
+    a || b
 }
 
 pub fn implies(a: bool, b: bool) -> bool
     ensures { result ≡ implies a b }
 {
-    if a { b } else { true }
+    !a || b
 }
 
-// One test for each of the seven places of an array, in the order in which all_below asks them.
-pub fn all_seven(a: bool, b: bool, c: bool, d: bool, e: bool, f: bool, g: bool) -> bool
-    ensures { result ≡ (g && (f && (e && (d && (c && (b && (a && true))))))) }
+// A test holds of each number below n.
+pub fn all_below<F: Fn(usize) -> bool>(n: usize, test: F) -> bool
+    requires { (i : ℕ) → i < n → F.pre test i }
+    ensures { (f : ℕ → Bool) → ((i : ℕ) → i < n → (b : Bool) → F.post test i b → b ≡ f i) → result ≡ all_below n f }
 {
-    both(
-        g,
-        both(f, both(e, both(d, both(c, both(b, both(a, true)))))),
-    )
+    let mut all = true;
+    for i in 0..n {
+        all = test(i) & all;
+    }
+    all
 }
 
 pub fn at_most(a: usize, b: usize) -> bool
@@ -43,12 +45,6 @@ pub fn below(a: usize, b: usize) -> bool
 }
 
 pub fn equal(a: usize, b: usize) -> bool
-    ensures { result ≡ eqb a b }
-{
-    a == b
-}
-
-pub fn equal64(a: u64, b: u64) -> bool
     ensures { result ≡ eqb a b }
 {
     a == b

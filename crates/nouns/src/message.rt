@@ -32,7 +32,6 @@ ghost use Rattle.paper.specs.Message.{
 };
 
 use crate::command::{is_rewire, op_number};
-use crate::logic::{below, both, wide8};
 use crate::vote::noop;
 use paper::{Ballots, Body, Carried, Command, Field, Message, Parts, Role, Row, Vote};
 
@@ -52,11 +51,8 @@ fn dependencies() -> Parts
     ensures { result ≡ dependencies }
 {
     Parts {
-        told: false,
-        command: false,
-        second: false,
         deps: true,
-        joined: false,
+        ..nothing()
     }
 }
 
@@ -64,11 +60,9 @@ fn proposal() -> Parts
     ensures { result ≡ proposal }
 {
     Parts {
-        told: false,
         command: true,
-        second: false,
         deps: true,
-        joined: false,
+        ..nothing()
     }
 }
 
@@ -77,10 +71,7 @@ fn whole_vote() -> Parts
 {
     Parts {
         told: true,
-        command: true,
-        second: false,
-        deps: true,
-        joined: false,
+        ..proposal()
     }
 }
 
@@ -88,11 +79,8 @@ fn higher_ballot() -> Parts
     ensures { result ≡ higher_ballot }
 {
     Parts {
-        told: false,
-        command: false,
-        second: false,
-        deps: false,
         joined: true,
+        ..nothing()
     }
 }
 
@@ -110,28 +98,22 @@ fn said_by(role: Role, ballots: Ballots, parts: Parts) -> Row
 fn longer(p: Parts) -> Parts
     ensures { result ≡ longer p }
 {
-    Parts {
-        told: p.told,
-        command: p.command,
-        second: true,
-        deps: p.deps,
-        joined: p.joined,
-    }
+    Parts { second: true, ..p }
 }
 
 fn unknown() -> Row
     ensures { result ≡ unknown }
 {
-    let parts = nothing();
     Row {
         known: false,
         role: Role::Anyone,
         ballots: Ballots::Any,
-        parts,
+        parts: nothing(),
     }
 }
 
 // The table.
+#[tactic(auto, unfolding(paper::specs::Message::row_of))]
 pub fn row_of(k: usize) -> Row
     ensures { result ≡ row_of k }
 {
@@ -168,11 +150,7 @@ pub fn kind_of(b: Body) -> u8
         Body::AcceptOk => 4,
         Body::Commit(k) => kind_by(5, 11, k),
         Body::Prepare => 6,
-        Body::PrepareOk {
-            voted: _,
-            status: _,
-            command,
-        } => kind_by(7, 12, command),
+        Body::PrepareOk { command, .. } => kind_by(7, 12, command),
         Body::Nack(_) => 8,
     }
 }
@@ -180,67 +158,50 @@ pub fn kind_of(b: Body) -> u8
 pub fn is_commit(b: Body) -> bool
     ensures { result ≡ is_commit b }
 {
-    match b {
-        Body::PreAccept(_) => false,
-        Body::PreAcceptOk => false,
-        Body::Accept(_) => false,
-        Body::AcceptOk => false,
-        Body::Commit(_) => true,
-        Body::Prepare => false,
-        Body::PrepareOk {
-            voted: _,
-            status: _,
-            command: _,
-        } => false,
-        Body::Nack(_) => false,
-    }
+    matches!(b, Body::Commit(_))
 }
 
 pub fn row_in(b: Body) -> Row
     ensures { result ≡ row_in b }
 {
-    row_of(wide8(kind_of(b)))
+    row_of(kind_of(b) as usize)
 }
 
 fn command_carried(command: Command) -> Carried
     ensures { result ≡ command_carried command }
 {
     Carried {
-        voted: 0,
-        status: 0,
         command,
-        joined: 0,
+        ..none_carried()
     }
 }
 
 fn joined_carried(joined: u32) -> Carried
     ensures { result ≡ joined_carried joined }
 {
-    let command = noop();
     Carried {
-        voted: 0,
-        status: 0,
-        command,
         joined,
+        ..none_carried()
     }
 }
 
 fn none_carried() -> Carried
     ensures { result ≡ none_carried }
 {
-    joined_carried(0)
+    Carried {
+        voted: 0,
+        status: 0,
+        command: noop(),
+        joined: 0,
+    }
 }
 
 pub fn carried_in(b: Body) -> Carried
     ensures { result ≡ carried_in b }
 {
     match b {
-        Body::PreAccept(k) => command_carried(k),
-        Body::PreAcceptOk => none_carried(),
-        Body::Accept(k) => command_carried(k),
-        Body::AcceptOk => none_carried(),
-        Body::Commit(k) => command_carried(k),
-        Body::Prepare => none_carried(),
+        Body::PreAccept(k) | Body::Accept(k) | Body::Commit(k) => command_carried(k),
+        Body::PreAcceptOk | Body::AcceptOk | Body::Prepare => none_carried(),
         Body::PrepareOk {
             voted,
             status,
@@ -256,31 +217,22 @@ pub fn carried_in(b: Body) -> Carried
 }
 
 // The body of a kind that carries x.
+#[tactic(auto, unfolding(paper::specs::Message::body_of))]
 pub fn body_of(k: usize, x: Carried) -> Body
     ensures { result ≡ body_of k x }
 {
-    let command = x.command;
     match k {
-        1 => Body::PreAccept(command),
+        1 | 9 => Body::PreAccept(x.command),
         2 => Body::PreAcceptOk,
-        3 => Body::Accept(command),
+        3 | 10 => Body::Accept(x.command),
         4 => Body::AcceptOk,
-        5 => Body::Commit(command),
-        6 => Body::Prepare,
-        7 => Body::PrepareOk {
+        5 | 11 => Body::Commit(x.command),
+        7 | 12 => Body::PrepareOk {
             voted: x.voted,
             status: x.status,
-            command,
+            command: x.command,
         },
         8 => Body::Nack(x.joined),
-        9 => Body::PreAccept(command),
-        10 => Body::Accept(command),
-        11 => Body::Commit(command),
-        12 => Body::PrepareOk {
-            voted: x.voted,
-            status: x.status,
-            command,
-        },
         _ => Body::Prepare,
     }
 }
@@ -288,52 +240,43 @@ pub fn body_of(k: usize, x: Carried) -> Body
 pub fn command_in(b: Body) -> Command
     ensures { result ≡ command_in b }
 {
-    let x = carried_in(b);
-    x.command
+    carried_in(b).command
 }
 
 pub fn voted_in(b: Body) -> u32
     ensures { result ≡ voted_in b }
 {
-    let x = carried_in(b);
-    x.voted
+    carried_in(b).voted
 }
 
 pub fn status_in(b: Body) -> u8
     ensures { result ≡ status_in b }
 {
-    let x = carried_in(b);
-    x.status
+    carried_in(b).status
 }
 
 pub fn joined_in(b: Body) -> u32
     ensures { result ≡ joined_in b }
 {
-    let x = carried_in(b);
-    x.joined
+    carried_in(b).joined
 }
 
 pub fn op_in(m: Message) -> usize
     ensures { result ≡ op_in m }
 {
-    let body = m.body;
-    let command = command_in(body);
-    let op = command.op;
-    op_number(op)
+    op_number(command_in(m.body).op)
 }
 
 // The vote that is told.
 pub fn vote_in(m: Message) -> Vote
     ensures { result ≡ vote_in m }
 {
-    let body = m.body;
-    let x = carried_in(body);
-    let command = x.command;
+    let x = carried_in(m.body);
     let deps = m.deps;
     Vote {
         voted: x.voted,
         status: x.status,
-        command,
+        command: x.command,
         deps,
     }
 }
@@ -343,18 +286,11 @@ pub fn has_field(p: Parts, f: Field) -> bool
     ensures { result ≡ has_field p f }
 {
     match f {
-        Field::From => true,
-        Field::To => true,
-        Field::Owner => true,
-        Field::Number => true,
-        Field::Ballot => true,
-        Field::Voted => p.told,
-        Field::Status => p.told,
-        Field::Op => p.command,
-        Field::Key => p.command,
-        Field::Second => both(p.command, p.second),
-        Field::Edit => p.command,
-        Field::Entry(i) => both(p.deps, below(wide8(i), 7)),
+        Field::From | Field::To | Field::Owner | Field::Number | Field::Ballot => true,
+        Field::Voted | Field::Status => p.told,
+        Field::Op | Field::Key | Field::Edit => p.command,
+        Field::Second => p.command && p.second,
+        Field::Entry(i) => p.deps && i < 7,
         Field::Joined => p.joined,
     }
 }
@@ -362,39 +298,23 @@ pub fn has_field(p: Parts, f: Field) -> bool
 pub fn is_word(role: Role) -> bool
     ensures { result ≡ is_word role }
 {
-    match role {
-        Role::Lead => true,
-        Role::Reply => false,
-        Role::Anyone => false,
-    }
+    role == Role::Lead
 }
 
 pub fn is_reply(role: Role) -> bool
     ensures { result ≡ is_reply role }
 {
-    match role {
-        Role::Lead => false,
-        Role::Reply => true,
-        Role::Anyone => false,
-    }
+    role == Role::Reply
 }
 
 pub fn is_fresh(ballots: Ballots) -> bool
     ensures { result ≡ is_fresh ballots }
 {
-    match ballots {
-        Ballots::Any => false,
-        Ballots::Fresh => true,
-        Ballots::Recovery => false,
-    }
+    ballots == Ballots::Fresh
 }
 
 pub fn is_recovery(ballots: Ballots) -> bool
     ensures { result ≡ is_recovery ballots }
 {
-    match ballots {
-        Ballots::Any => false,
-        Ballots::Fresh => false,
-        Ballots::Recovery => true,
-    }
+    ballots == Ballots::Recovery
 }

@@ -30,20 +30,7 @@ pub fn offset_in(why: Refusal) -> usize
     ensures { result ≡ offset_in why }
 {
     match why {
-        Refusal::Setup => 0,
-        Refusal::Unsound => 0,
-        Refusal::Room => 0,
-        Refusal::UnknownKind => 0,
-        Refusal::WrongLength => 0,
-        Refusal::WrongWay => 0,
-        Refusal::WrongLead => 0,
         Refusal::WrongField(offset) => offset,
-        Refusal::Op => 0,
-        Refusal::Instance => 0,
-        Refusal::RecoverCommitted => 0,
-        Refusal::NudgeIdle => 0,
-        Refusal::BallotsUsedUp => 0,
-        Refusal::NoBlank => 0,
-        Refusal::OtherCommit => 0,
+        _ => 0,
     }
 }

@@ -35,7 +35,7 @@ larger-is a b = go (ltb a b) refl
     go true e = record { left = omega (arith, ltb-true a b e); right = omega arith; one = inr refl }
     go false e = record { left = omega arith; right = omega (arith, ltb-false a b e); one = inl refl }
 
-join-from : (k : ℕ) (d e : List ℕ) (i q : ℕ) → q < k → get_or (join_from k d e i) q 0 ≡ larger (get_or d (i + q) 0) (get_or e (i + q) 0)
+pub join-from : (k : ℕ) (d e : List ℕ) (i q : ℕ) → q < k → get_or (join_from k d e i) q 0 ≡ larger (get_or d (i + q) 0) (get_or e (i + q) 0)
 unfolding join_from
 join-from zero d e i q l = absurd (omega arith)
 join-from (suc k) d e i zero l = let z : i + 0 ≡ i = omega arith in rw z refl

@@ -2,7 +2,7 @@
 #![tactic(auto)]
 
 // What a command does.
-#[derive(Clone, Copy)]
+#[derive(Clone, Copy, Debug, PartialEq, Eq)]
 pub enum Op {
     Noop,
     Read,
@@ -11,7 +11,7 @@ pub enum Op {
 }
 
 // A rewire is on two objects; any other command has no second key, which is then zero.
-#[derive(Clone, Copy)]
+#[derive(Clone, Copy, Debug, PartialEq, Eq)]
 pub struct Command {
     pub op: Op,
     pub key: u32,
@@ -21,7 +21,7 @@ pub struct Command {
 
 // What a copy voted for: the ballot it voted in, its status there, the command and its dependencies.
 // A record holds its copy's own vote; a collected reply is another copy's.
-#[derive(Clone, Copy)]
+#[derive(Clone, Copy, Debug, PartialEq, Eq)]
 pub struct Vote {
     pub voted: u32,
     pub status: u8,
@@ -30,7 +30,7 @@ pub struct Vote {
 }
 
 // The record of one instance.
-#[derive(Clone, Copy)]
+#[derive(Clone, Copy, Debug, PartialEq, Eq)]
 pub struct Record {
     pub joined: u32,
     pub vote: Vote,
@@ -41,7 +41,7 @@ pub struct Record {
 }
 
 // What messages say. A body that carries a command has two kinds: a long one for a rewire, a short one for all else.
-#[derive(Clone, Copy)]
+#[derive(Clone, Copy, Debug, PartialEq, Eq)]
 pub enum Body {
     PreAccept(Command),
     PreAcceptOk,
@@ -58,7 +58,7 @@ pub enum Body {
 }
 
 // A message. The dependencies stand beside the body, zero where the body carries none.
-#[derive(Clone, Copy)]
+#[derive(Clone, Copy, Debug, PartialEq, Eq)]
 pub struct Message {
     pub from: u8,
     pub to: u8,
@@ -70,7 +70,7 @@ pub struct Message {
 }
 
 // What a body carries; zero, and a no-op, where it carries none.
-#[derive(Clone, Copy)]
+#[derive(Clone, Copy, Debug, PartialEq, Eq)]
 pub struct Carried {
     pub voted: u32,
     pub status: u8,
@@ -79,7 +79,7 @@ pub struct Carried {
 }
 
 // Who says it: the ballot's lead, one who answers the lead, or any copy.
-#[derive(Clone, Copy)]
+#[derive(Clone, Copy, Debug, PartialEq, Eq)]
 pub enum Role {
     Lead,
     Reply,
@@ -87,7 +87,7 @@ pub enum Role {
 }
 
 // At which ballots it is said: at any; at any, but of no no-op at ballot 0; in recovery alone, from ballot 8 on.
-#[derive(Clone, Copy)]
+#[derive(Clone, Copy, Debug, PartialEq, Eq)]
 pub enum Ballots {
     Any,
     Fresh,
@@ -96,7 +96,7 @@ pub enum Ballots {
 
 // What stands in the bytes after the head, in this order: voted ballot and status, command, dependencies, joined ballot.
 // Whether the command has its second key is said apart.
-#[derive(Clone, Copy)]
+#[derive(Clone, Copy, Debug, PartialEq, Eq)]
 pub struct Parts {
     pub told: bool,
     pub command: bool,
@@ -106,7 +106,7 @@ pub struct Parts {
 }
 
 // A row of the table of bodies.
-#[derive(Clone, Copy)]
+#[derive(Clone, Copy, Debug, PartialEq, Eq)]
 pub struct Row {
     pub known: bool,
     pub role: Role,
@@ -115,7 +115,7 @@ pub struct Row {
 }
 
 // The fields of a message after its kind, in the order of the bytes; each entry of the dependencies is one.
-#[derive(Clone, Copy)]
+#[derive(Clone, Copy, Debug, PartialEq, Eq)]
 pub enum Field {
     From,
     To,
@@ -133,7 +133,7 @@ pub enum Field {
 }
 
 // What is wrong with bytes that are no valid message.
-#[derive(Clone, Copy)]
+#[derive(Clone, Copy, Debug, PartialEq, Eq)]
 pub enum Blame {
     Kind,
     Length,
@@ -143,7 +143,7 @@ pub enum Blame {
 }
 
 // Why a call is refused, in the order in which the reasons are tried. A bad field comes with the offset of its first byte.
-#[derive(Clone, Copy)]
+#[derive(Clone, Copy, Debug, PartialEq, Eq)]
 pub enum Refusal {
     Setup,
     Unsound,

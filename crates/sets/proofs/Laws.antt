@@ -1,23 +1,42 @@
--- Seven tests make a set, and find its lowest member. Assumes nothing.
+-- A set grows by a place that passes a test; the lowest member of a byte; the lowest that passes a test is the lowest member
+-- of the set of those that do. Assumes nothing.
 use mathlib.Core.Path.{◌≡◌, refl, ap, ◌∙◌}
 use mathlib.Core.Bool.{Bool, true, false, ◌&&◌, cond}
-use Prim.Native.Nat.{ℕ, ◌+◌}
-use native.Mathlib.Nat.{add-zero}
+use Prim.Native.Nat.{ℕ, ◌+◌, ◌^◌, ◌<◌, min}
+use native.Mathlib.Omega.{arith}
+use native.Mathlib.Nat.{pow-suc}
+use Rattle.std.proofs.Common.{add-one}
 use lib.Dec.{eqb}
+use lib.Count.{count_trailing_zeros}
 use borrow.Author.Tests.{eqb-true}
+use Rattle.paper.specs.Logic.{all_below}
 use Rattle.paper.specs.Vote.{member}
-use Rattle.paper.proofs.Laws.{and-true}
+use Rattle.paper.proofs.Laws.{and-true, all_below-at}
 use Rattle.rules.specs.Sets.{bits_below, those, lowest_from, lowest}
 
-pub bits_are : (t : ℕ → Bool) {r : ℕ} {a b c d e f g : Bool} → r ≡ cond g 64 0 + (cond f 32 0 + (cond e 16 0 + (cond d 8 0 + (cond c 4 0 + (cond b 2 0 + cond a 1 0)))))
-    → a ≡ t 0 → b ≡ t 1 → c ≡ t 2 → d ≡ t 3 → e ≡ t 4 → f ≡ t 5 → g ≡ t 6 → r ≡ those t
-unfolding bits_below
-bits_are t p p0 p1 p2 p3 p4 p5 p6 = rw (p, p0, p1, p2, p3, p4, p5, p6, add-zero (cond (t 0) 1 0))
+-- one place more, which passes the test or not
+pub pow_next : (q : ℕ) → 2 ^ (q + 1) ≡ 2 ^ q + 2 ^ q
+pow_next q = rw (add-one, pow-suc) (omega arith)
 
-pub lowest-is : (t : ℕ → Bool) {r : ℕ} {a b c d e f g : Bool} → r ≡ cond a 0 (cond b 1 (cond c 2 (cond d 3 (cond e 4 (cond f 5 (cond g 6 7))))))
-    → a ≡ t 0 → b ≡ t 1 → c ≡ t 2 → d ≡ t 3 → e ≡ t 4 → f ≡ t 5 → g ≡ t 6 → r ≡ lowest t
-unfolding lowest_from
-lowest-is t p p0 p1 p2 p3 p4 p5 p6 = rw (p, p0, p1, p2, p3, p4, p5, p6)
+pub place_in : (f : ℕ → Bool) (q s : ℕ) → f q ≡ true → s ≡ bits_below q f → s + 2 ^ q ≡ bits_below (q + 1) f
+unfolding bits_below
+place_in f q s h e = rw (add-one, h, ← e) (omega arith)
+
+pub place_out : (f : ℕ → Bool) (q s : ℕ) → f q ≡ false → s ≡ bits_below q f → s ≡ bits_below (q + 1) f
+unfolding bits_below
+place_out f q s h e = rw (add-one, h, ← e) (omega arith)
+
+-- the lowest member of a byte is its first one, at most 7
+lowest_byte : ℕ → Bool
+lowest_byte m = eqb (min (count_trailing_zeros 8 m) 7) (lowest (λ q. member q m))
+
+lowest-all : all_below 256 lowest_byte ≡ true
+unfolding all_below lowest_byte lowest_from member count_trailing_zeros
+lowest-all = refl
+
+pub lowest_one : (m : ℕ) → m < 256 → min (count_trailing_zeros 8 m) 7 ≡ lowest (λ q. member q m)
+unfolding lowest_byte
+lowest_one m h = eqb-true _ _ (all_below-at 256 lowest_byte lowest-all m h)
 
 -- a test of both bools, and of seven at once
 each : (Bool → Bool) → Bool
@@ -50,6 +69,6 @@ lows-at a b c d e f g =
     (each_at (λ t. each (λ u. each (λ v. each (λ w. each (λ x. each (λ y. each (λ z. lows t u v w x y z))))))) lows-all a) b) c) d) e) f) g
 
 -- the lowest member of the set of those that pass a test is the lowest that passes it
-pub lowest-those : (f : ℕ → Bool) {m r : ℕ} → m ≡ those f → r ≡ lowest (λ q. member q m) → r ≡ lowest f
+pub lowest_those : (f : ℕ → Bool) {m r : ℕ} → m ≡ those f → r ≡ lowest (λ q. member q m) → r ≡ lowest f
 unfolding bits_below lowest_from lows
-lowest-those f p e = e ∙ ap (λ (m : ℕ). lowest (λ q. member q m)) p ∙ eqb-true _ _ (lows-at (f 0) (f 1) (f 2) (f 3) (f 4) (f 5) (f 6))
+lowest_those f p e = e ∙ ap (λ (m : ℕ). lowest (λ q. member q m)) p ∙ eqb-true _ _ (lows-at (f 0) (f 1) (f 2) (f 3) (f 4) (f 5) (f 6))

@@ -17,7 +17,6 @@ ghost use Rattle.sound.specs.Asked.{ballots_ok, marked_ok, phased_ok};
 
 use nouns::ballot::{ballot_ok, lead};
 use nouns::command::is_noop;
-use nouns::logic::{at_most, below, both, either, equal, implies, wide8, wide32};
 use nouns::setup::faults;
 use nouns::vote::{added_ok, count, member, no_vote, same_vote, told_ok};
 use paper::Vote;
@@ -30,102 +29,87 @@ fn power(n: usize) -> usize
 }
 
 // At ballot 0, which most records stay at, nothing else is asked.
+#[tactic(auto, unfolding(crate::specs::Asked::ballots_ok, paper::specs::Ballot::ballot_ok))]
 pub fn ballots_ok(n: usize, joined: u32, voted: u32) -> bool
     ensures { result ≡ ballots_ok n joined voted }
 {
     if joined == 0 {
         return voted == 0;
     }
-    if joined < voted {
-        return false;
-    }
-    both(ballot_ok(n, joined), ballot_ok(n, voted))
+    voted <= joined && ballot_ok(n, joined) && ballot_ok(n, voted)
 }
 
+#[tactic(auto, unfolding(crate::specs::Asked::marked_ok))]
 pub fn marked_ok(status: u8, mark: u8) -> bool
     ensures { result ≡ marked_ok status mark }
 {
     if mark == 0 {
         return status <= 4;
     }
-    both(equal(wide8(mark), 1), equal(wide8(status), 4))
+    mark == 1 && status == 4
 }
 
+#[tactic(auto, unfolding(crate::specs::Asked::phased_ok))]
 pub fn phased_ok(n: usize, phase: u8, set: u8) -> bool
     requires { n ≤ 7 }
     ensures { result ≡ phased_ok n phase set }
 {
-    both(at_most(wide8(phase), 3), below(wide8(set), power(n)))
+    phase <= 3 && (set as usize) < power(n)
 }
 
+#[tactic(auto, unfolding(paper::specs::Sound::preparing_ok))]
 fn preparing_ok(n: usize, c: usize, joined: u32, v: Vote, phase: u8, set: u8) -> bool
     requires { (1 ≤ n) × (c < 8) }
     ensures { result ≡ preparing_ok n c (front joined v 0 phase set) }
 {
-    let now = equal(wide8(phase), 1);
-    let ballot = implies(now, at_most(8, wide32(joined)));
-    let voted = implies(now, below(wide32(v.voted), wide32(joined)));
-    let own = implies(now, member(c, set));
-    let few = implies(now, at_most(count(set), faults(n)));
-    both(both(both(ballot, voted), own), few)
+    phase != 1 || 8 <= joined && v.voted < joined && member(c, set) && count(set) <= faults(n)
 }
 
 fn status_fits(v: Vote, phase: u8) -> bool
     ensures { result ≡ (preaccepting_status (front 0 v 0 phase 0)) }
 {
-    let status = wide8(v.status);
-    implies(
-        equal(wide8(phase), 2),
-        either(equal(status, 1), equal(status, 2)),
-    )
+    phase != 2 || v.status == 1 || v.status == 2
 }
 
 fn op_fits(joined: u32, v: Vote, phase: u8) -> bool
     ensures { result ≡ (preaccepting_op (front joined v 0 phase 0)) }
 {
-    let command = v.command;
-    let first = implies(equal(wide32(joined), 0), !is_noop(command));
-    implies(equal(wide8(phase), 2), first)
+    phase != 2 || joined != 0 || !is_noop(v.command)
 }
 
+#[tactic(auto, unfolding(paper::specs::Sound::proposing_ok))]
 fn proposing_ok(c: usize, joined: u32, v: Vote, phase: u8, set: u8) -> bool
     requires { c < 8 }
     ensures { result ≡ proposing_ok c (front joined v 0 phase set) }
 {
-    let p = wide8(phase);
-    let accepting = implies(equal(p, 3), equal(wide8(v.status), 3));
-    let voted = implies(at_most(2, p), equal(wide32(v.voted), wide32(joined)));
-    let own = implies(at_most(2, p), !member(c, set));
-    let statuses = both(
-        both(status_fits(v, phase), op_fits(joined, v, phase)),
-        accepting,
-    );
-    both(both(statuses, voted), own)
+    status_fits(v, phase)
+        && op_fits(joined, v, phase)
+        && (phase != 3 || v.status == 3)
+        && (phase < 2 || v.voted == joined && !member(c, set))
 }
 
+#[tactic(auto, unfolding(paper::specs::Sound::busy_ok))]
 fn busy_ok(c: usize, o: usize, joined: u32, v: Vote, phase: u8, set: u8) -> bool
     ensures { result ≡ busy_ok c o (front joined v 0 phase set) }
 {
-    let p = wide8(phase);
-    let empty = implies(equal(p, 0), equal(wide8(set), 0));
-    let open = implies(at_most(1, p), below(wide8(v.status), 4));
-    let leads = implies(at_most(1, p), equal(lead(o, joined), c));
-    both(both(empty, open), leads)
+    if phase == 0 {
+        return set == 0;
+    }
+    v.status < 4 && lead(o, joined) == c
 }
 
+#[tactic(auto, unfolding(paper::specs::Sound::phases_ok))]
 pub fn phases_ok(n: usize, c: usize, o: usize, joined: u32, v: Vote, phase: u8, set: u8) -> bool
     requires { (1 ≤ n) × (c < 8) }
     ensures { result ≡ phases_ok n c o (front joined v 0 phase set) }
 {
-    let busy = busy_ok(c, o, joined, v, phase, set);
-    let preparing = preparing_ok(n, c, joined, v, phase, set);
-    both(
-        both(busy, preparing),
-        proposing_ok(c, joined, v, phase, set),
-    )
+    busy_ok(c, o, joined, v, phase, set)
+        && preparing_ok(n, c, joined, v, phase, set)
+        && proposing_ok(c, joined, v, phase, set)
 }
 
 // The reply v of copy q, in phase p at ballot b of a record with the vote own.
+#[tactic(auto, unfolding(paper::specs::Sound::collected_ok))]
 pub fn collected_ok(
     n: usize,
     s: usize,
@@ -138,14 +122,10 @@ pub fn collected_ok(
 ) -> bool
     ensures { result ≡ collected_ok n s c p b own q v }
 {
-    if p == 1 {
-        if q == c {
-            return same_vote(v, own);
-        }
-        return told_ok(n, s, b, v);
+    match p {
+        1 if q == c => same_vote(v, own),
+        1 => told_ok(n, s, b, v),
+        2 => added_ok(n, s, v),
+        _ => same_vote(v, no_vote()),
     }
-    if p == 2 {
-        return added_ok(n, s, v);
-    }
-    same_vote(v, no_vote())
 }

@@ -3,12 +3,12 @@ ghost use Rattle.std.specs.Prelude.{◌≡◌};
 ghost use Rattle.rules.specs.Afresh.{afresh};
 
 use crate::made::{begun, say};
-use nouns::logic::wide8;
 use paper::{Body, Command, Record, Vote};
 use rules::Step;
 use sets::others;
 
 // The dependencies d (Seen's), status 2, voted = joined, phase 2, nothing collected; PreAccept to all others.
+#[tactic(auto, unfolding(rules::specs::Afresh::afresh))]
 pub fn afresh(n: usize, c: u8, o: u8, j: u16, r: Record, k: Command, d: [u16; 7]) -> Step
     ensures { result ≡ afresh n c o j r k d }
 {
@@ -20,6 +20,6 @@ pub fn afresh(n: usize, c: u8, o: u8, j: u16, r: Record, k: Command, d: [u16; 7]
     };
     let entry = begun(r.joined, vote, r.mark, 2);
     let message = say(c, o, j, r.joined, Body::PreAccept(k), d);
-    let to = others(n, wide8(c));
+    let to = others(n, c as usize);
     Step { entry, to, message }
 }

@@ -3,7 +3,6 @@ ghost use Rattle.std.specs.Prelude.{◌≡◌};
 ghost use Rattle.rules.specs.Committing.{committed, committing};
 
 use crate::made::{begun, say};
-use nouns::logic::wide8;
 use paper::{Body, Command, Record, Vote};
 use rules::Step;
 use sets::others;
@@ -21,13 +20,13 @@ pub fn committed(r: Record, k: Command, d: [u16; 7]) -> Record
 }
 
 // A lead that commits what it holds sends Commit to all others.
+#[tactic(auto, unfolding(rules::specs::Committing::committing))]
 pub fn committing(n: usize, c: u8, o: u8, j: u16, r: Record) -> Step
     ensures { result ≡ committing n c o j r }
 {
-    let command = r.vote.command;
-    let deps = r.vote.deps;
+    let Vote { command, deps, .. } = r.vote;
     let entry = committed(r, command, deps);
     let message = say(c, o, j, r.joined, Body::Commit(command), deps);
-    let to = others(n, wide8(c));
+    let to = others(n, c as usize);
     Step { entry, to, message }
 }

@@ -1,10 +1,9 @@
 // What every event's result is made of.
-ghost use Rattle.std.specs.Prelude.{◌≡◌, ◌<◌, length};
+ghost use Rattle.std.specs.Prelude.{◌≡◌, ◌<◌};
 ghost use Rattle.paper.specs.Message.{no_message};
 ghost use Rattle.rules.specs.Step.{is_committed, begun, say, silent, collect, awaited, commit_back, nack_back};
 
 use nouns::deps::no_deps;
-use nouns::logic::{both, equal, wide8, wide32};
 use nouns::vote::{member, no_vote};
 use paper::{Body, Message, Record, Vote};
 use rules::Step;
@@ -13,7 +12,7 @@ use sets::{only_of, with};
 pub fn is_committed(r: Record) -> bool
     ensures { result ≡ is_committed r }
 {
-    equal(wide8(r.vote.status), 4)
+    r.vote.status == 4
 }
 
 pub fn say(c: u8, o: u8, j: u16, b: u32, body: Body, d: [u16; 7]) -> Message
@@ -49,11 +48,10 @@ pub fn no_message() -> Message
 pub fn silent(r: Record) -> Step
     ensures { result ≡ silent r }
 {
-    let message = no_message();
     Step {
         entry: r,
         to: 0,
-        message,
+        message: no_message(),
     }
 }
 
@@ -61,8 +59,7 @@ pub fn silent(r: Record) -> Step
 pub fn begun(b: u32, v: Vote, k: u8, p: u8) -> Record
     ensures { result ≡ begun b v k p }
 {
-    let none = no_vote();
-    let replies = [none; 7];
+    let replies = [no_vote(); 7];
     Record {
         joined: b,
         vote: v,
@@ -74,77 +71,54 @@ pub fn begun(b: u32, v: Vote, k: u8, p: u8) -> Record
 }
 
 // Whether a reply is looked at: its phase, its ballot, and once from each copy.
+#[tactic(auto, unfolding(rules::specs::Step::awaited))]
 pub fn awaited(p: usize, r: Record, m: Message) -> bool
     requires { m.from < 7 }
     ensures { result ≡ awaited p r m }
 {
-    let now = both(
-        equal(wide8(r.phase), p),
-        equal(wide32(r.joined), wide32(m.ballot)),
-    );
-    both(now, !member(wide8(m.from), r.set))
+    r.phase as usize == p && r.joined == m.ballot && !member(m.from as usize, r.set)
 }
 
 // The record with the reply v of copy q collected.
+#[tactic(auto, unfolding(rules::specs::Step::collect))]
 pub fn collect(r: Record, q: u8, v: Vote) -> Record
     requires { (q < 7) × (r.set < 128) }
     ensures { result ≡ collect r q v }
 {
     let mut replies = r.replies;
-    let at = wide8(q);
-    replies[at] = v;
-    let vote = r.vote;
-    let set = with(r.set, q);
+    replies[q as usize] = v;
     Record {
-        joined: r.joined,
-        vote,
-        mark: r.mark,
-        phase: r.phase,
-        set,
+        set: with(r.set, q),
         replies,
+        ..r
     }
 }
 
 // Committed: Commit goes back, at the joined ballot.
+#[tactic(auto, unfolding(rules::specs::Step::commit_back))]
 pub fn commit_back(c: u8, o: u8, j: u16, r: Record, q: u8) -> Step
     requires { q < 7 }
     ensures { result ≡ commit_back c o j r q }
 {
-    let command = r.vote.command;
-    let deps = r.vote.deps;
+    let Vote { command, deps, .. } = r.vote;
     let message = say(c, o, j, r.joined, Body::Commit(command), deps);
-    let to = only_of(q);
     Step {
         entry: r,
-        to,
+        to: only_of(q),
         message,
     }
 }
 
 // A lower ballot than the joined one is answered Nack.
+#[tactic(auto, unfolding(rules::specs::Step::nack_back))]
 pub fn nack_back(c: u8, o: u8, j: u16, r: Record, m: Message) -> Step
     requires { m.from < 7 }
     ensures { result ≡ nack_back c o j r m }
 {
     let message = say(c, o, j, m.ballot, Body::Nack(r.joined), no_deps());
-    let to = only_of(m.from);
     Step {
         entry: r,
-        to,
+        to: only_of(m.from),
         message,
     }
-}
-
-// The replies, and that they are seven.
-pub fn replies_of(r: Record) -> [Vote; 7]
-    ensures { (result ≡ r.replies) × (length result ≡ 7) }
-{
-    let replies = r.replies;
-    seven(replies)
-}
-
-fn seven(vs: [Vote; 7]) -> [Vote; 7]
-    ensures { (result ≡ vs) × (length result ≡ 7) }
-{
-    vs
 }

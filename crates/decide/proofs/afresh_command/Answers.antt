@@ -1,24 +1,26 @@
-use mathlib.Core.Path.{sym, ap, ◌∙◌}
-use mathlib.Core.List.{List}
-use lib.ListN.{length, get_or}
+use Rattle.std.proofs.Common.{rules, ◌≡◌, length, sym, ap, ◌∙◌, arith}
+use lib.ListN.{get_or-eq_default}
+use borrow.Author.Tests.{ne_eqb}
+use Rattle.paper.specs.Vote.{no_vote}
 use Rattle.paper.specs.declared.Vote.{Vote}
-use Rattle.rules.specs.PrepareOk.{top_voter}
-use Rattle.sets.proofs.Laws.{lowest-those}
-use Rattle.decide.proofs.Laws.{afresh-none, afresh-past, afresh-told}
+use Rattle.rules.specs.Sets.{those}
+use Rattle.rules.specs.PrepareOk.{voter, top_voter, afresh_command}
+use Rattle.sets.proofs.Laws.{lowest_those}
 use Rattle.decide.proofs.afresh_command.Goals as goal
 
-pub returns-then-voters-eq0 : goal.returns-then-voters-eq0
-returns-then-voters-eq0 c = c.noop.ensures ∙ afresh-none _ (sym c.voters.ensures ∙ c.if-voters-eq0.true)
+pub returns-then-q-lt7 : goal.returns-then-q-lt7
+unfolding afresh_command
+returns-then-q-lt7 c =
+    let r = c.args.r in
+    let e = lowest_those (top_voter r) c.top_voters.ensures c.lowest-q.ensures in
+    sym (rw (ne_eqb (those (voter r)) 0 (λ z. c.if-voters-eq0.false (c.voters.ensures ∙ z)), ← e, ← c.told_by.ensures))
 
-pub returns-then-q-ge7 : goal.returns-then-q-ge7
-returns-then-q-ge7 c =
-    let e = lowest-those (top_voter c.args.r) c.top_voters.ensures c.lowest-q.ensures in
-    c.noop-then-q-ge7.ensures
-    ∙ afresh-past _ (λ e. c.if-voters-eq0.false (c.voters.ensures ∙ e)) (ap length (sym c.replies_of-vs.ensures.0) ∙ c.replies_of-vs.ensures.1) _ e c.if-q-ge7.true
-
-pub returns : goal.returns
-returns c =
-    let q = c.lowest-q in
-    let e = lowest-those (top_voter c.args.r) c.top_voters.ensures q.ensures in
-    ap (λ (l : List Vote). (get_or l q.result _).command) c.replies_of-vs.ensures.0
-    ∙ afresh-told _ (λ e. c.if-voters-eq0.false (c.voters.ensures ∙ e)) (ap length (sym c.replies_of-vs.ensures.0) ∙ c.replies_of-vs.ensures.1) _ _ e c.if-q-ge7.false
+pub returns-else-q-lt7 : goal.returns-else-q-lt7
+unfolding afresh_command
+returns-else-q-lt7 c =
+    let r = c.args.r in
+    let q = c.lowest-q.result in
+    let l : length r.replies ≡ 7 = search rules in
+    let e = lowest_those (top_voter r) c.top_voters.ensures c.lowest-q.ensures in
+    c.noop-else-q-lt7.ensures
+    ∙ sym (rw (ne_eqb (those (voter r)) 0 (λ z. c.if-voters-eq0.false (c.voters.ensures ∙ z)), ← e) (ap (λ (v : Vote). v.command) (get_or-eq_default r.replies no_vote {n = q} (omega arith))))

@@ -1,5 +1,0 @@
-use mathlib.Core.Path.{◌∙◌}
-use Rattle.decide.proofs.votes_same.Goals as goal
-
-pub returns : goal.returns
-returns c = c.both.ensures ∙ rw (c.equal.ensures, c.wide8.ensures, c.votes.ensures)

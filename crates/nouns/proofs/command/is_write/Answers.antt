@@ -1,4 +1,0 @@
-use Rattle.nouns.proofs.command.is_write.Goals as goal
-
-pub returns : goal.returns
-returns c = cc

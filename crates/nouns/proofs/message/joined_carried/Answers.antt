@@ -1,4 +1,0 @@
-use Rattle.nouns.proofs.message.joined_carried.Goals as goal
-
-pub returns : goal.returns
-returns c = cc

@@ -1,4 +1,0 @@
-use Rattle.nouns.proofs.message.unknown.Goals as goal
-
-pub returns : goal.returns
-returns c = cc

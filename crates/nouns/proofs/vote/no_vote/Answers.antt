@@ -1,4 +1,0 @@
-use Rattle.nouns.proofs.vote.no_vote.Goals as goal
-
-pub returns : goal.returns
-returns c = cc
