@@ -76,10 +76,10 @@ pub fn read_command(s: &[u8], at: usize) -> Command
     let a1 = at + OP;
     let a2 = a1 + KEY;
     let a3 = a2 + KEY;
-    let op = op_of(numbers::get_u8(s, at));
-    let key = numbers::get_u32(s, a1);
-    let second = numbers::get_u32(s, a2);
-    let edit = numbers::get_u64(s, a3);
+    let op = op_of(numbers::get::<u8>(s, at));
+    let key = numbers::get::<u32>(s, a1);
+    let second = numbers::get::<u32>(s, a2);
+    let edit = numbers::get::<u64>(s, a3);
     Command {
         op,
         key,
@@ -94,9 +94,9 @@ fn read_short(s: &[u8], at: usize) -> Command
 {
     let a1 = at + OP;
     let a2 = a1 + KEY;
-    let op = short_op_of(numbers::get_u8(s, at));
-    let key = numbers::get_u32(s, a1);
-    let edit = numbers::get_u64(s, a2);
+    let op = short_op_of(numbers::get::<u8>(s, at));
+    let key = numbers::get::<u32>(s, a1);
+    let edit = numbers::get::<u64>(s, a2);
     Command {
         op,
         key,
@@ -112,9 +112,9 @@ fn read_long(s: &[u8], at: usize) -> Command
     let a1 = at + OP;
     let a2 = a1 + KEY;
     let a3 = a2 + KEY;
-    let key = numbers::get_u32(s, a1);
-    let second = numbers::get_u32(s, a2);
-    let edit = numbers::get_u64(s, a3);
+    let key = numbers::get::<u32>(s, a1);
+    let second = numbers::get::<u32>(s, a2);
+    let edit = numbers::get::<u64>(s, a3);
     Command {
         op: Op::Rewire,
         key,
@@ -144,13 +144,13 @@ pub fn read_deps(s: &[u8], at: usize) -> [u16; 7]
     let a4 = a3 + ENTRY;
     let a5 = a4 + ENTRY;
     let a6 = a5 + ENTRY;
-    let d0 = numbers::get_u16(s, at);
-    let d1 = numbers::get_u16(s, a1);
-    let d2 = numbers::get_u16(s, a2);
-    let d3 = numbers::get_u16(s, a3);
-    let d4 = numbers::get_u16(s, a4);
-    let d5 = numbers::get_u16(s, a5);
-    let d6 = numbers::get_u16(s, a6);
+    let d0 = numbers::get::<u16>(s, at);
+    let d1 = numbers::get::<u16>(s, a1);
+    let d2 = numbers::get::<u16>(s, a2);
+    let d3 = numbers::get::<u16>(s, a3);
+    let d4 = numbers::get::<u16>(s, a4);
+    let d5 = numbers::get::<u16>(s, a5);
+    let d6 = numbers::get::<u16>(s, a6);
     [d0, d1, d2, d3, d4, d5, d6]
 }
 
@@ -161,8 +161,8 @@ pub fn read_vote(s: &[u8], at: usize) -> Vote
     let a1 = at + BALLOT;
     let a2 = a1 + STATUS;
     let a3 = a2 + COMMAND;
-    let voted = numbers::get_u32(s, at);
-    let status = numbers::get_u8(s, a1);
+    let voted = numbers::get::<u32>(s, at);
+    let status = numbers::get::<u8>(s, a1);
     let command = read_command(s, a2);
     let deps = read_deps(s, a3);
     Vote {
@@ -179,10 +179,10 @@ pub fn write_command(s: &mut [u8], at: usize, c: Command)
 {
     let op = c.op;
     let b = op_byte(op);
-    numbers::put_u8(&mut *s, at, b);
-    numbers::put_u32(&mut *s, at + OP, c.key);
-    numbers::put_u32(&mut *s, at + SECOND_AT, c.second);
-    numbers::put_u64(&mut *s, at + EDIT_AT, c.edit);
+    numbers::put(&mut *s, at, b);
+    numbers::put(&mut *s, at + OP, c.key);
+    numbers::put(&mut *s, at + SECOND_AT, c.second);
+    numbers::put(&mut *s, at + EDIT_AT, c.edit);
 }
 
 fn write_short(s: &mut [u8], at: usize, c: Command)
@@ -191,9 +191,9 @@ fn write_short(s: &mut [u8], at: usize, c: Command)
 {
     let op = c.op;
     let b = op_byte(op);
-    numbers::put_u8(&mut *s, at, b);
-    numbers::put_u32(&mut *s, at + OP, c.key);
-    numbers::put_u64(&mut *s, at + SECOND_AT, c.edit);
+    numbers::put(&mut *s, at, b);
+    numbers::put(&mut *s, at + OP, c.key);
+    numbers::put(&mut *s, at + SECOND_AT, c.edit);
 }
 
 pub fn write_sent(s: &mut [u8], at: usize, second: bool, c: Command)
@@ -211,13 +211,13 @@ pub fn write_deps(s: &mut [u8], at: usize, d: [u16; 7])
     requires { at + 14 ≤ length s.old }
     ensures { s.new ≡ splice s.old at (deps_bytes d) }
 {
-    numbers::put_u16(&mut *s, at, d[0]);
-    numbers::put_u16(&mut *s, at + 2, d[1]);
-    numbers::put_u16(&mut *s, at + 4, d[2]);
-    numbers::put_u16(&mut *s, at + 6, d[3]);
-    numbers::put_u16(&mut *s, at + 8, d[4]);
-    numbers::put_u16(&mut *s, at + 10, d[5]);
-    numbers::put_u16(&mut *s, at + 12, d[6]);
+    numbers::put(&mut *s, at, d[0]);
+    numbers::put(&mut *s, at + 2, d[1]);
+    numbers::put(&mut *s, at + 4, d[2]);
+    numbers::put(&mut *s, at + 6, d[3]);
+    numbers::put(&mut *s, at + 8, d[4]);
+    numbers::put(&mut *s, at + 10, d[5]);
+    numbers::put(&mut *s, at + 12, d[6]);
 }
 
 pub fn write_vote(s: &mut [u8], at: usize, v: Vote)
@@ -226,8 +226,8 @@ pub fn write_vote(s: &mut [u8], at: usize, v: Vote)
 {
     let command = v.command;
     let deps = v.deps;
-    numbers::put_u32(&mut *s, at, v.voted);
-    numbers::put_u8(&mut *s, at + BALLOT, v.status);
+    numbers::put(&mut *s, at, v.voted);
+    numbers::put(&mut *s, at + BALLOT, v.status);
     write_command(&mut *s, at + COMMAND_AT, command);
     write_deps(&mut *s, at + DEPS_AT, deps);
 }

@@ -47,11 +47,11 @@ pub fn read_record(b: &[u8]) -> Record
     requires { record_length ≤ length b.now }
     ensures { result ≡ record_at b.now }
 {
-    let joined = numbers::get_u32(b, JOINED);
+    let joined = numbers::get::<u32>(b, JOINED);
     let vote = codec::read_vote(b, VOTE);
-    let mark = numbers::get_u8(b, MARK);
-    let phase = numbers::get_u8(b, PHASE);
-    let set = numbers::get_u8(b, SET);
+    let mark = numbers::get::<u8>(b, MARK);
+    let phase = numbers::get::<u8>(b, PHASE);
+    let set = numbers::get::<u8>(b, SET);
     let replies = read_votes(b, REPLIES);
     Record {
         joined,
@@ -79,11 +79,11 @@ fn write_front(b: &mut [u8], r: Record)
     ensures { b.new ≡ splice b.old 0 (front_bytes r) }
 {
     let vote = r.vote;
-    numbers::put_u32(&mut *b, JOINED, r.joined);
+    numbers::put(&mut *b, JOINED, r.joined);
     codec::write_vote(&mut *b, VOTE, vote);
-    numbers::put_u8(&mut *b, MARK, r.mark);
-    numbers::put_u8(&mut *b, PHASE, r.phase);
-    numbers::put_u8(&mut *b, SET, r.set);
+    numbers::put(&mut *b, MARK, r.mark);
+    numbers::put(&mut *b, PHASE, r.phase);
+    numbers::put(&mut *b, SET, r.set);
 }
 
 pub fn write_record(b: &mut [u8], r: Record)
@@ -99,7 +99,7 @@ fn op_fits(b: &[u8], at: usize) -> bool
     requires { at + vote_length ≤ length b.now }
     ensures { result ≡ op_fits b.now at }
 {
-    at_most(wide8(numbers::get_u8(b, at + codec::COMMAND_AT)), 3)
+    at_most(wide8(numbers::get::<u8>(b, at + codec::COMMAND_AT)), 3)
 }
 
 // The op byte, and the command: a rewire has two keys that rise, a no-op has zero key and edit.
@@ -107,9 +107,9 @@ fn command_fits(b: &[u8]) -> bool
     requires { record_length ≤ length b.now }
     ensures { result ≡ command_fits b.now }
 {
-    let op = numbers::get_u8(b, COMMAND);
-    let second = numbers::get_u32(b, SECOND);
-    let key = numbers::get_u32(b, KEY);
+    let op = numbers::get::<u8>(b, COMMAND);
+    let second = numbers::get::<u32>(b, SECOND);
+    let key = numbers::get::<u32>(b, KEY);
     if op == 3 {
         return key < second;
     }
@@ -122,7 +122,7 @@ fn command_fits(b: &[u8]) -> bool
     if key != 0 {
         return false;
     }
-    let edit = numbers::get_u64(b, EDIT);
+    let edit = numbers::get::<u64>(b, EDIT);
     edit == 0
 }
 
@@ -130,7 +130,7 @@ fn none_is_blank_in(b: &[u8]) -> bool
     requires { record_length ≤ length b.now }
     ensures { result ≡ none_is_blank (vote_at b.now vote_place) }
 {
-    let status = numbers::get_u8(b, STATUS);
+    let status = numbers::get::<u8>(b, STATUS);
     if status != 0 {
         return true;
     }
@@ -154,13 +154,13 @@ fn front_ok(b: &[u8], n: usize, s: usize) -> bool
     requires { record_length ≤ length b.now }
     ensures { result ≡ front_ok n s b.now }
 {
-    if !ballots_ok(n, numbers::get_u32(b, JOINED), numbers::get_u32(b, VOTE)) {
+    if !ballots_ok(n, numbers::get::<u32>(b, JOINED), numbers::get::<u32>(b, VOTE)) {
         return false;
     }
     if !command_fits(b) {
         return false;
     }
-    if !marked_ok(numbers::get_u8(b, STATUS), numbers::get_u8(b, MARK)) {
+    if !marked_ok(numbers::get::<u8>(b, STATUS), numbers::get::<u8>(b, MARK)) {
         return false;
     }
     if !none_is_blank_in(b) {
@@ -177,7 +177,7 @@ fn plain_ok(b: &[u8], n: usize, s: usize) -> bool
     if !front_ok(b, n, s) {
         return false;
     }
-    phased_ok(n, numbers::get_u8(b, PHASE), numbers::get_u8(b, SET))
+    phased_ok(n, numbers::get::<u8>(b, PHASE), numbers::get::<u8>(b, SET))
 }
 
 // What the phase asks.
@@ -185,10 +185,10 @@ fn phases_ok_in(b: &[u8], n: usize, c: usize, o: usize) -> bool
     requires { (record_length ≤ length b.now) × (1 ≤ n) × (c < 8) }
     ensures { result ≡ phases_ok n c o (record_at b.now) }
 {
-    let joined = numbers::get_u32(b, JOINED);
+    let joined = numbers::get::<u32>(b, JOINED);
     let v = codec::read_vote(b, VOTE);
-    let phase = numbers::get_u8(b, PHASE);
-    let set = numbers::get_u8(b, SET);
+    let phase = numbers::get::<u8>(b, PHASE);
+    let set = numbers::get::<u8>(b, SET);
     phases_ok(n, c, o, joined, v, phase, set)
 }
 
@@ -202,11 +202,11 @@ fn reply_part(b: &[u8], n: usize, s: usize, c: usize, q: usize) -> bool
         return false;
     }
     let v = codec::read_vote(b, at);
-    let set = numbers::get_u8(b, SET);
+    let set = numbers::get::<u8>(b, SET);
     if member(q, set) {
-        let joined = numbers::get_u32(b, JOINED);
+        let joined = numbers::get::<u32>(b, JOINED);
         let own = codec::read_vote(b, VOTE);
-        let phase = numbers::get_u8(b, PHASE);
+        let phase = numbers::get::<u8>(b, PHASE);
         return collected_ok(n, s, c, phase, joined, own, q, v);
     }
     same_vote(v, no_vote())
@@ -243,11 +243,11 @@ fn is_idle(b: &[u8]) -> bool
     requires { record_length ≤ length b.now }
     ensures { result ≡ is_idle b.now }
 {
-    let phase = numbers::get_u8(b, PHASE);
+    let phase = numbers::get::<u8>(b, PHASE);
     if phase != 0 {
         return false;
     }
-    let set = numbers::get_u8(b, SET);
+    let set = numbers::get::<u8>(b, SET);
     if set != 0 {
         return false;
     }

@@ -99,11 +99,11 @@ fn head_is(t: &[u8], n: usize, s: usize, c: usize) -> bool
     requires { head_length ≤ length t.now }
     ensures { result ≡ head_is n s c t.now }
 {
-    let copies = equal(wide8(numbers::get_u8(t, COPIES)), n);
-    let numbers = equal(wide8(numbers::get_u8(t, NUMBERS)), s);
+    let copies = equal(wide8(numbers::get::<u8>(t, COPIES)), n);
+    let numbers = equal(wide8(numbers::get::<u8>(t, NUMBERS)), s);
     both(
         both(copies, numbers),
-        equal(wide8(numbers::get_u8(t, COPY)), c),
+        equal(wide8(numbers::get::<u8>(t, COPY)), c),
     )
 }
 
@@ -210,9 +210,9 @@ fn put_blank(t: &mut [u8], n: usize, s: usize, c: usize)
     ensures { t.new ≡ blank_table n s c }
 {
     clear(&mut *t);
-    numbers::put_u8(&mut *t, COPIES, small(n));
-    numbers::put_u8(&mut *t, NUMBERS, small(s));
-    numbers::put_u8(&mut *t, COPY, small(c));
+    numbers::put(&mut *t, COPIES, small(n));
+    numbers::put(&mut *t, NUMBERS, small(s));
+    numbers::put(&mut *t, COPY, small(c));
 }
 
 // Writes a blank table.

@@ -23,7 +23,7 @@ returns c =
     let k = e.args.c in
     let h : at + 17 ≤ length l = e.requires in
     let u = bytes_of 1 (op_number k.op) in
-    let w0 = rw o.op_byte-b.ensures at c1.put_u8.ensures in
-    let w1 = splice-step l at u (at + 1) (bytes_of 4 k.key) w0 c2.put_u32.ensures refl (omega arith) in
-    let w2 = splice-step l at (u ++ bytes_of 4 k.key) (at + 5) (bytes_of 4 k.second) w1 c3.put_u32-2.ensures refl (omega arith) in
-    splice-step l at (u ++ bytes_of 4 k.key ++ bytes_of 4 k.second) (at + 9) (bytes_of 8 k.edit) w2 c4.put_u64.ensures refl (omega arith)
+    let w0 = rw o.op_byte-b.ensures at c1.put.ensures in
+    let w1 = splice-step l at u (at + 1) (bytes_of 4 k.key) w0 c2.put-2.ensures refl (omega arith) in
+    let w2 = splice-step l at (u ++ bytes_of 4 k.key) (at + 5) (bytes_of 4 k.second) w1 c3.put-3.ensures refl (omega arith) in
+    splice-step l at (u ++ bytes_of 4 k.key ++ bytes_of 4 k.second) (at + 9) (bytes_of 8 k.edit) w2 c4.put-4.ensures refl (omega arith)

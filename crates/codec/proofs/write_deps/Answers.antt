@@ -24,9 +24,9 @@ returns c =
     let d : List ℕ = e.args.d in
     let h : at + 14 ≤ length l = e.requires in
     let b : ℕ → List ℕ = λ i. bytes_of 2 (get_or d i 0) in
-    let w1 = splice-step l at (b 0) (at + 2) (b 1) c1.put_u16.ensures c2.put_u16-2.ensures refl (omega arith) in
-    let w2 = splice-step l at (b 0 ++ b 1) (at + 4) (b 2) w1 c3.put_u16-3.ensures refl (omega arith) in
-    let w3 = splice-step l at (b 0 ++ b 1 ++ b 2) (at + 6) (b 3) w2 c4.put_u16-4.ensures refl (omega arith) in
-    let w4 = splice-step l at (b 0 ++ b 1 ++ b 2 ++ b 3) (at + 8) (b 4) w3 c5.put_u16-5.ensures refl (omega arith) in
-    let w5 = splice-step l at (b 0 ++ b 1 ++ b 2 ++ b 3 ++ b 4) (at + 10) (b 5) w4 c6.put_u16-6.ensures refl (omega arith) in
-    splice-step l at (b 0 ++ b 1 ++ b 2 ++ b 3 ++ b 4 ++ b 5) (at + 12) (b 6) w5 c7.put_u16-7.ensures refl (omega arith)
+    let w1 = splice-step l at (b 0) (at + 2) (b 1) c1.put.ensures c2.put-2.ensures refl (omega arith) in
+    let w2 = splice-step l at (b 0 ++ b 1) (at + 4) (b 2) w1 c3.put-3.ensures refl (omega arith) in
+    let w3 = splice-step l at (b 0 ++ b 1 ++ b 2) (at + 6) (b 3) w2 c4.put-4.ensures refl (omega arith) in
+    let w4 = splice-step l at (b 0 ++ b 1 ++ b 2 ++ b 3) (at + 8) (b 4) w3 c5.put-5.ensures refl (omega arith) in
+    let w5 = splice-step l at (b 0 ++ b 1 ++ b 2 ++ b 3 ++ b 4) (at + 10) (b 5) w4 c6.put-6.ensures refl (omega arith) in
+    splice-step l at (b 0 ++ b 1 ++ b 2 ++ b 3 ++ b 4 ++ b 5) (at + 12) (b 6) w5 c7.put-7.ensures refl (omega arith)

@@ -22,6 +22,6 @@ returns c =
     let h : at + 36 ≤ length l = e.requires in
     let u = bytes_of 4 v.voted in
     let w = u ++ bytes_of 1 v.status in
-    let w1 = splice-step l at u (at + 4) (bytes_of 1 v.status) c1.put_u32.ensures c2.put_u8.ensures refl (omega arith) in
+    let w1 = splice-step l at u (at + 4) (bytes_of 1 v.status) c1.put.ensures c2.put-2.ensures refl (omega arith) in
     let w2 = splice-step l at w (at + 5) (command_bytes v.command) w1 c3.write_command.ensures refl (omega arith) in
     splice-step l at (w ++ command_bytes v.command) (at + 22) (deps_bytes v.deps) w2 c4.write_deps.ensures refl (omega arith)

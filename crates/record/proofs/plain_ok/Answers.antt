@@ -7,4 +7,4 @@ pub returns-then-not-front_ok : goal.returns-then-not-front_ok
 returns-then-not-front_ok c = plain-front _ _ _ (sym c.front_ok.ensures ∙ c.if-not-front_ok.true)
 
 pub returns : goal.returns
-returns c = c.phased_ok.ensures ∙ ap₂ (phased_ok c.args.n) c.get_u8.ensures c.get_u8-2.ensures ∙ plain-phased _ _ _ (sym c.front_ok.ensures ∙ c.if-not-front_ok.false)
+returns c = c.phased_ok.ensures ∙ ap₂ (phased_ok c.args.n) c.get.ensures c.get-2.ensures ∙ plain-phased _ _ _ (sym c.front_ok.ensures ∙ c.if-not-front_ok.false)
