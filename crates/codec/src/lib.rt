@@ -1,7 +1,7 @@
 // A command, dependencies and a vote in lent bytes, at an offset.
 #![tactic(auto)]
 
-ghost use Rattle.std.specs.Prelude.{◌≡◌, true, false, ◌+◌, ◌≤◌, length};
+ghost use Rattle.std.specs.Prelude.{◌≡◌, ◌+◌, ◌≤◌, length};
 ghost use Rattle.numbers.specs.Num.{splice};
 ghost use Rattle.paper.specs.Command.{op_number};
 ghost use Rattle.numbers.specs.Fields.{size_of};
@@ -61,65 +61,18 @@ fn short_op_of(b: u8) -> Op
 pub fn op_byte(op: Op) -> u8
     ensures { result ≡ op_number op }
 {
-    match op {
-        Op::Noop => 0,
-        Op::Read => 1,
-        Op::Write => 2,
-        Op::Rewire => 3,
-    }
+    op as u8
 }
 
 pub fn read_command(s: &[u8], at: usize) -> Command
     requires { at + 17 ≤ length s.now }
     ensures { result ≡ command_at s.now at }
 {
-    let a1 = at + OP;
-    let a2 = a1 + KEY;
-    let a3 = a2 + KEY;
-    let op = op_of(numbers::get::<u8>(s, at));
-    let key = numbers::get::<u32>(s, a1);
-    let second = numbers::get::<u32>(s, a2);
-    let edit = numbers::get::<u64>(s, a3);
     Command {
-        op,
-        key,
-        second,
-        edit,
-    }
-}
-
-fn read_short(s: &[u8], at: usize) -> Command
-    requires { at + 13 ≤ length s.now }
-    ensures { result ≡ sent_at false s.now at }
-{
-    let a1 = at + OP;
-    let a2 = a1 + KEY;
-    let op = short_op_of(numbers::get::<u8>(s, at));
-    let key = numbers::get::<u32>(s, a1);
-    let edit = numbers::get::<u64>(s, a2);
-    Command {
-        op,
-        key,
-        second: 0,
-        edit,
-    }
-}
-
-fn read_long(s: &[u8], at: usize) -> Command
-    requires { at + 17 ≤ length s.now }
-    ensures { result ≡ sent_at true s.now at }
-{
-    let a1 = at + OP;
-    let a2 = a1 + KEY;
-    let a3 = a2 + KEY;
-    let key = numbers::get::<u32>(s, a1);
-    let second = numbers::get::<u32>(s, a2);
-    let edit = numbers::get::<u64>(s, a3);
-    Command {
-        op: Op::Rewire,
-        key,
-        second,
-        edit,
+        op: op_of(numbers::get(s, at)),
+        key: numbers::get(s, at + OP),
+        second: numbers::get(s, at + SECOND_AT),
+        edit: numbers::get(s, at + EDIT_AT),
     }
 }
 
@@ -129,9 +82,17 @@ pub fn read_sent(s: &[u8], at: usize, second: bool) -> Command
     ensures { result ≡ sent_at second s.now at }
 {
     if second {
-        return read_long(s, at);
+        return Command {
+            op: Op::Rewire,
+            ..read_command(s, at)
+        };
     }
-    read_short(s, at)
+    Command {
+        op: short_op_of(numbers::get(s, at)),
+        key: numbers::get(s, at + OP),
+        second: 0,
+        edit: numbers::get(s, at + SECOND_AT),
+    }
 }
 
 pub fn read_deps(s: &[u8], at: usize) -> [u16; 7]
@@ -158,18 +119,11 @@ pub fn read_vote(s: &[u8], at: usize) -> Vote
     requires { at + 36 ≤ length s.now }
     ensures { result ≡ vote_at s.now at }
 {
-    let a1 = at + BALLOT;
-    let a2 = a1 + STATUS;
-    let a3 = a2 + COMMAND;
-    let voted = numbers::get::<u32>(s, at);
-    let status = numbers::get::<u8>(s, a1);
-    let command = read_command(s, a2);
-    let deps = read_deps(s, a3);
     Vote {
-        voted,
-        status,
-        command,
-        deps,
+        voted: numbers::get(s, at),
+        status: numbers::get(s, at + BALLOT),
+        command: read_command(s, at + COMMAND_AT),
+        deps: read_deps(s, at + DEPS_AT),
     }
 }
 
@@ -177,23 +131,10 @@ pub fn write_command(s: &mut [u8], at: usize, c: Command)
     requires { at + 17 ≤ length s.old }
     ensures { s.new ≡ splice s.old at (command_bytes c) }
 {
-    let op = c.op;
-    let b = op_byte(op);
-    numbers::put(&mut *s, at, b);
-    numbers::put(&mut *s, at + OP, c.key);
-    numbers::put(&mut *s, at + SECOND_AT, c.second);
-    numbers::put(&mut *s, at + EDIT_AT, c.edit);
-}
-
-fn write_short(s: &mut [u8], at: usize, c: Command)
-    requires { at + 13 ≤ length s.old }
-    ensures { s.new ≡ splice s.old at (sent_bytes false c) }
-{
-    let op = c.op;
-    let b = op_byte(op);
-    numbers::put(&mut *s, at, b);
-    numbers::put(&mut *s, at + OP, c.key);
-    numbers::put(&mut *s, at + SECOND_AT, c.edit);
+    numbers::put(s, at, op_byte(c.op));
+    numbers::put(s, at + OP, c.key);
+    numbers::put(s, at + SECOND_AT, c.second);
+    numbers::put(s, at + EDIT_AT, c.edit);
 }
 
 pub fn write_sent(s: &mut [u8], at: usize, second: bool, c: Command)
@@ -202,9 +143,11 @@ pub fn write_sent(s: &mut [u8], at: usize, second: bool, c: Command)
 {
     if second {
         write_command(s, at, c);
-    } else {
-        write_short(s, at, c);
+        return;
     }
+    numbers::put(s, at, op_byte(c.op));
+    numbers::put(s, at + OP, c.key);
+    numbers::put(s, at + SECOND_AT, c.edit);
 }
 
 pub fn write_deps(s: &mut [u8], at: usize, d: [u16; 7])
@@ -224,10 +167,8 @@ pub fn write_vote(s: &mut [u8], at: usize, v: Vote)
     requires { at + 36 ≤ length s.old }
     ensures { s.new ≡ splice s.old at (vote_bytes v) }
 {
-    let command = v.command;
-    let deps = v.deps;
-    numbers::put(&mut *s, at, v.voted);
-    numbers::put(&mut *s, at + BALLOT, v.status);
-    write_command(&mut *s, at + COMMAND_AT, command);
-    write_deps(&mut *s, at + DEPS_AT, deps);
+    numbers::put(s, at, v.voted);
+    numbers::put(s, at + BALLOT, v.status);
+    write_command(s, at + COMMAND_AT, v.command);
+    write_deps(s, at + DEPS_AT, v.deps);
 }

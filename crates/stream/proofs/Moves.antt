@@ -8,6 +8,7 @@ use lib.ListN.{length, get_or, set, take, drop, length-set, length-drop}
 use lib.Seq.{paste, paste-zero, paste-suc, drop-paste, get_or-drop}
 use Rattle.numbers.specs.Num.{splice}
 use Rattle.numbers.proofs.Laws.{splice-own, paste-splice}
+
 -- the first i bytes from `at` on stand at the front
 pub record Moving (l : List ℕ) (at count : ℕ) (b : List ℕ) (i : ℕ) : Type 0 where
   pub short : i ≤ count
