@@ -8,6 +8,7 @@ ghost use Rattle.numbers.specs.Fields.{size_of};
 ghost use Rattle.codec.specs.Parts.{op_of, short_op_of, sent_widths, command_at, sent_at, deps_at, vote_at, command_bytes, sent_bytes, deps_bytes, vote_bytes};
 
 use paper::{Command, Op, Vote};
+use std::array;
 
 // Widths of the fields, and of what is made of them.
 pub const OP: usize = 1;
@@ -99,20 +100,7 @@ pub fn read_deps(s: &[u8], at: usize) -> [u16; 7]
     requires { at + 14 ≤ length s.now }
     ensures { result ≡ deps_at s.now at }
 {
-    let a1 = at + ENTRY;
-    let a2 = a1 + ENTRY;
-    let a3 = a2 + ENTRY;
-    let a4 = a3 + ENTRY;
-    let a5 = a4 + ENTRY;
-    let a6 = a5 + ENTRY;
-    let d0 = numbers::get::<u16>(s, at);
-    let d1 = numbers::get::<u16>(s, a1);
-    let d2 = numbers::get::<u16>(s, a2);
-    let d3 = numbers::get::<u16>(s, a3);
-    let d4 = numbers::get::<u16>(s, a4);
-    let d5 = numbers::get::<u16>(s, a5);
-    let d6 = numbers::get::<u16>(s, a6);
-    [d0, d1, d2, d3, d4, d5, d6]
+    array::from_fn(|i| numbers::get(s, at + ENTRY * i))
 }
 
 pub fn read_vote(s: &[u8], at: usize) -> Vote
@@ -154,13 +142,9 @@ pub fn write_deps(s: &mut [u8], at: usize, d: [u16; 7])
     requires { at + 14 ≤ length s.old }
     ensures { s.new ≡ splice s.old at (deps_bytes d) }
 {
-    numbers::put(&mut *s, at, d[0]);
-    numbers::put(&mut *s, at + 2, d[1]);
-    numbers::put(&mut *s, at + 4, d[2]);
-    numbers::put(&mut *s, at + 6, d[3]);
-    numbers::put(&mut *s, at + 8, d[4]);
-    numbers::put(&mut *s, at + 10, d[5]);
-    numbers::put(&mut *s, at + 12, d[6]);
+    for i in 0..7 {
+        numbers::put(s, at + ENTRY * i, d[i]);
+    }
 }
 
 pub fn write_vote(s: &mut [u8], at: usize, v: Vote)
