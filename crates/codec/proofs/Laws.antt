@@ -1,7 +1,7 @@
 -- Commands, dependencies and votes: what is written is read back, and what is read is written back. Assumes nothing.
 use mathlib.Core.Path.{◌≡◌, refl, sym, ap, ◌∙◌}
 use mathlib.Core.Bool.{Bool, true, false}
-use mathlib.Core.List.{List, [], ◌∷◌, ◌++◌}
+use mathlib.Core.List.{List, [], ◌∷◌, ◌++◌, map}
 use Prim.Native.Nat.{ℕ, zero, suc, ◌+◌, ◌*◌, ◌^◌, ◌≤◌, ◌<◌}
 use native.Mathlib.Omega.{arith}
 use native.Mathlib.Numerals.{add-one}
@@ -20,7 +20,7 @@ use Rattle.paper.specs.declared.Op.{Op}
 use Rattle.paper.specs.declared.Op.TheVariants.{Noop, Read, Write, Rewire}
 use Rattle.paper.specs.declared.Command.{Command}
 use Rattle.paper.specs.declared.Vote.{Vote}
-use Rattle.codec.proofs.Made.{values}
+use Rattle.std.specs.List.{range_with_len}
 use Rattle.codec.specs.Parts.{op_of, short_op_of, command_widths, command_of, command_numbers, sent_widths, sent_numbers, sent_of, deps_widths, deps_numbers, vote_of, vote_numbers, vote_widths, sent_at, deps_at, vote_at, sent_bytes, deps_bytes, vote_bytes}
 
 pub op-other : (b : ℕ) → (b ≡ 0 → ⊥) → (b ≡ 1 → ⊥) → (b ≡ 2 → ⊥) → Rewire ≡ op_of b
@@ -78,7 +78,7 @@ vote_at-fits b at h =
     record { voted = n 4 _; status = omega (arith, n 1 (at + 4)); command = record { key = n 4 _; second = n 4 _; edit = n 8 _ }; deps = deps_at-fits b _ h }
 
 -- dependencies are as many numbers of two bytes, each at its place
-pub deps-values : (s : List ℕ) (at a n j : ℕ) → a ≡ at + 2 * j → values (λ i. num_at 2 s (at + 2 * i)) j n ≡ fields_at (replicate n 2) s a
+pub deps-values : (s : List ℕ) (at a n j : ℕ) → a ≡ at + 2 * j → map (λ i. num_at 2 s (at + 2 * i)) (range_with_len j n) ≡ fields_at (replicate n 2) s a
 deps-values s at a zero j e = refl
 deps-values s at a (suc n) j e = rw (e, deps-values s at (at + 2 * j + 2) n (j + 1) (omega arith))
 
