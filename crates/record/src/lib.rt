@@ -18,6 +18,7 @@ use nouns::deps::deps_ok;
 use nouns::logic::{at_most, wide8};
 use nouns::vote::{member, no_vote, none_is_blank, same_vote};
 use paper::{Record, Vote};
+use std::array;
 use sound::{ballots_ok, collected_ok, marked_ok, phased_ok, phases_ok};
 
 pub mod fields;
@@ -27,39 +28,20 @@ fn read_votes(b: &[u8], at: usize) -> [Vote; 7]
     requires { at + replies_length ≤ length b.now }
     ensures { result ≡ votes_at 7 b.now at }
 {
-    let a1 = at + codec::VOTE;
-    let a2 = a1 + codec::VOTE;
-    let a3 = a2 + codec::VOTE;
-    let a4 = a3 + codec::VOTE;
-    let a5 = a4 + codec::VOTE;
-    let a6 = a5 + codec::VOTE;
-    let v0 = codec::read_vote(b, at);
-    let v1 = codec::read_vote(b, a1);
-    let v2 = codec::read_vote(b, a2);
-    let v3 = codec::read_vote(b, a3);
-    let v4 = codec::read_vote(b, a4);
-    let v5 = codec::read_vote(b, a5);
-    let v6 = codec::read_vote(b, a6);
-    [v0, v1, v2, v3, v4, v5, v6]
+    array::from_fn(|q| codec::read_vote(b, at + codec::VOTE * q))
 }
 
 pub fn read_record(b: &[u8]) -> Record
     requires { record_length ≤ length b.now }
     ensures { result ≡ record_at b.now }
 {
-    let joined = numbers::get::<u32>(b, JOINED);
-    let vote = codec::read_vote(b, VOTE);
-    let mark = numbers::get::<u8>(b, MARK);
-    let phase = numbers::get::<u8>(b, PHASE);
-    let set = numbers::get::<u8>(b, SET);
-    let replies = read_votes(b, REPLIES);
     Record {
-        joined,
-        vote,
-        mark,
-        phase,
-        set,
-        replies,
+        joined: numbers::get(b, JOINED),
+        vote: codec::read_vote(b, VOTE),
+        mark: numbers::get(b, MARK),
+        phase: numbers::get(b, PHASE),
+        set: numbers::get(b, SET),
+        replies: read_votes(b, REPLIES),
     }
 }
 
@@ -69,8 +51,7 @@ fn write_votes(b: &mut [u8], at: usize, vs: [Vote; 7])
     ensures sized { length vs ≡ 7 }
 {
     for k in 0..7 {
-        let v = vs[k];
-        codec::write_vote(&mut *b, at + codec::VOTE * k, v);
+        codec::write_vote(b, at + codec::VOTE * k, vs[k]);
     }
 }
 
@@ -78,21 +59,19 @@ fn write_front(b: &mut [u8], r: Record)
     requires { replies_place ≤ length b.old }
     ensures { b.new ≡ splice b.old 0 (front_bytes r) }
 {
-    let vote = r.vote;
-    numbers::put(&mut *b, JOINED, r.joined);
-    codec::write_vote(&mut *b, VOTE, vote);
-    numbers::put(&mut *b, MARK, r.mark);
-    numbers::put(&mut *b, PHASE, r.phase);
-    numbers::put(&mut *b, SET, r.set);
+    numbers::put(b, JOINED, r.joined);
+    codec::write_vote(b, VOTE, r.vote);
+    numbers::put(b, MARK, r.mark);
+    numbers::put(b, PHASE, r.phase);
+    numbers::put(b, SET, r.set);
 }
 
 pub fn write_record(b: &mut [u8], r: Record)
     requires { length b.old ≡ record_length }
     ensures { b.new ≡ record_bytes r }
 {
-    let replies = r.replies;
-    write_front(&mut *b, r);
-    write_votes(&mut *b, REPLIES, replies);
+    write_front(b, r);
+    write_votes(b, REPLIES, r.replies);
 }
 
 fn op_fits(b: &[u8], at: usize) -> bool
@@ -122,8 +101,7 @@ fn command_fits(b: &[u8]) -> bool
     if key != 0 {
         return false;
     }
-    let edit = numbers::get::<u64>(b, EDIT);
-    edit == 0
+    numbers::get::<u64>(b, EDIT) == 0
 }
 
 fn none_is_blank_in(b: &[u8]) -> bool
@@ -216,42 +194,22 @@ fn replies_ok(b: &[u8], n: usize, s: usize, c: usize) -> bool
     requires { record_length ≤ length b.now }
     ensures { result ≡ all_below 7 (reply_part n s c b.now) }
 {
-    let mut left = 7;
-    while 0 < left {
-        left -= 1;
-        if !reply_part(b, n, s, c, left) {
-            return false;
-        }
-    }
-    true
+    (0..7).all(|q| reply_part(b, n, s, c, q))
 }
 
 fn no_replies(b: &[u8]) -> bool
     requires { record_length ≤ length b.now }
     ensures { result ≡ no_replies b.now }
 {
-    let mut any = 0;
-    let mut i = REPLIES;
-    while i < LENGTH {
-        any |= b[i];
-        i += 1;
-    }
-    any == 0
+    b[REPLIES..LENGTH].iter().fold(0, |any, x| any | x) == 0
 }
 
+#[tactic(auto, unfolding(crate::specs::Part::is_idle))]
 fn is_idle(b: &[u8]) -> bool
     requires { record_length ≤ length b.now }
     ensures { result ≡ is_idle b.now }
 {
-    let phase = numbers::get::<u8>(b, PHASE);
-    if phase != 0 {
-        return false;
-    }
-    let set = numbers::get::<u8>(b, SET);
-    if set != 0 {
-        return false;
-    }
-    no_replies(b)
+    numbers::get::<u8>(b, PHASE) == 0 && numbers::get::<u8>(b, SET) == 0 && no_replies(b)
 }
 
 // Most records are in no phase and have nothing collected: where the rest is right too, they are sound at any copy.

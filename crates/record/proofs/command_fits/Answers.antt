@@ -14,4 +14,4 @@ pub returns-then-key-ne0 : goal.returns-then-key-ne0
 returns-then-key-ne0 c = command-key _ c.get-op.ensures c.get-second.ensures c.get-key.ensures c.if-op-ne0.false c.if-second-ne0.false c.if-key-ne0.true
 
 pub returns : goal.returns
-returns c = command-edit _ c.get-op.ensures c.get-second.ensures c.get-key.ensures c.if-op-ne0.false c.if-second-ne0.false c.if-key-ne0.false c.get-edit.ensures
+returns c = command-edit _ c.get-op.ensures c.get-second.ensures c.get-key.ensures c.if-op-ne0.false c.if-second-ne0.false c.if-key-ne0.false c.get.ensures
