@@ -214,15 +214,10 @@ module _ (b : List ℕ) {j : ℕ} {v : Vote} {p t : ℕ} (ej : j ≡ num_at 4 b 
   unfolding record_at phases_ok preparing_ok proposing_ok busy_ok
   phase-judged n c o ez = rw (ez, ej, ev, ep, et)
 
--- the outcomes
-module _ (n s c o : ℕ) (b : List ℕ) where
-  pub unsound-plain : plain_ok n s b ≡ false → false ≡ sound_part n s c o b
-  unsound-plain p = sym (sound_part-is n s c o b ∙ rw p)
+-- one test after the other
+pub as_judged : (n s c o : ℕ) (b : List ℕ) → sound_part n s c o b ≡ (plain_ok n s b && (phases_ok n c o (record_at b) && all_below 7 (reply_part n s c b)))
+unfolding busy_part
+as_judged n s c o b = sound_part-is n s c o b
 
-  pub unsound-phase : plain_ok n s b ≡ true → phases_ok n c o (record_at b) ≡ false → false ≡ sound_part n s c o b
-  unfolding busy_part
-  unsound-phase p q = sym (sound_part-is n s c o b ∙ rw (p, q))
-
-  pub sound-replies : plain_ok n s b ≡ true → phases_ok n c o (record_at b) ≡ true → all_below 7 (reply_part n s c b) ≡ sound_part n s c o b
-  unfolding busy_part
-  sound-replies p q = sym (sound_part-is n s c o b ∙ rw (p, q))
+pub sound-replies : (n s c o : ℕ) (b : List ℕ) → plain_ok n s b ≡ true → phases_ok n c o (record_at b) ≡ true → all_below 7 (reply_part n s c b) ≡ sound_part n s c o b
+sound-replies n s c o b p q = sym (as_judged n s c o b ∙ rw (p, q))

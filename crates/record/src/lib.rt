@@ -108,11 +108,7 @@ fn none_is_blank_in(b: &[u8]) -> bool
     requires { record_length ≤ length b.now }
     ensures { result ≡ none_is_blank (vote_at b.now vote_place) }
 {
-    let status = numbers::get::<u8>(b, STATUS);
-    if status != 0 {
-        return true;
-    }
-    none_is_blank(codec::read_vote(b, VOTE))
+    numbers::get::<u8>(b, STATUS) != 0 || none_is_blank(codec::read_vote(b, VOTE))
 }
 
 // With seven copies every entry has the same limit: said as a number, it is compared with as it stands.
@@ -128,34 +124,25 @@ fn deps_ok_in(b: &[u8], n: usize, s: usize) -> bool
 }
 
 // What holds in any phase of all that stands before the phase. Each field is read where it is asked.
+#[tactic(auto, unfolding(crate::specs::Part::front_ok))]
 fn front_ok(b: &[u8], n: usize, s: usize) -> bool
     requires { record_length ≤ length b.now }
     ensures { result ≡ front_ok n s b.now }
 {
-    if !ballots_ok(n, numbers::get::<u32>(b, JOINED), numbers::get::<u32>(b, VOTE)) {
-        return false;
-    }
-    if !command_fits(b) {
-        return false;
-    }
-    if !marked_ok(numbers::get::<u8>(b, STATUS), numbers::get::<u8>(b, MARK)) {
-        return false;
-    }
-    if !none_is_blank_in(b) {
-        return false;
-    }
-    deps_ok_in(b, n, s)
+    ballots_ok(n, numbers::get(b, JOINED), numbers::get(b, VOTE))
+        && command_fits(b)
+        && marked_ok(numbers::get(b, STATUS), numbers::get(b, MARK))
+        && none_is_blank_in(b)
+        && deps_ok_in(b, n, s)
 }
 
 // What holds in any phase.
+#[tactic(auto, unfolding(crate::specs::Part::plain_ok))]
 fn plain_ok(b: &[u8], n: usize, s: usize) -> bool
     requires { (record_length ≤ length b.now) × (n ≤ 7) }
     ensures { result ≡ plain_ok n s b.now }
 {
-    if !front_ok(b, n, s) {
-        return false;
-    }
-    phased_ok(n, numbers::get::<u8>(b, PHASE), numbers::get::<u8>(b, SET))
+    front_ok(b, n, s) && phased_ok(n, numbers::get(b, PHASE), numbers::get(b, SET))
 }
 
 // What the phase asks.
@@ -213,26 +200,19 @@ fn is_idle(b: &[u8]) -> bool
 }
 
 // Most records are in no phase and have nothing collected: where the rest is right too, they are sound at any copy.
+#[tactic(auto, unfolding(crate::specs::Part::idle_ok))]
 pub fn idle_ok(b: &[u8], n: usize, s: usize) -> bool
     requires { record_length ≤ length b.now }
     ensures { result ≡ idle_ok n s b.now }
 {
-    if !is_idle(b) {
-        return false;
-    }
-    front_ok(b, n, s)
+    is_idle(b) && front_ok(b, n, s)
 }
 
 // The record in these bytes is sound at copy c for an instance of owner o.
+#[tactic(auto, using(crate::proofs::Laws::as_judged))]
 pub fn sound_part(b: &[u8], n: usize, s: usize, c: usize, o: usize) -> bool
     requires { (record_length ≤ length b.now) × (1 ≤ n) × (n ≤ 7) × (c < 8) }
     ensures { result ≡ sound_part n s c o b.now }
 {
-    if !plain_ok(b, n, s) {
-        return false;
-    }
-    if !phases_ok_in(b, n, c, o) {
-        return false;
-    }
-    replies_ok(b, n, s, c)
+    plain_ok(b, n, s) && phases_ok_in(b, n, c, o) && replies_ok(b, n, s, c)
 }
