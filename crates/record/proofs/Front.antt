@@ -7,14 +7,13 @@ use native.Mathlib.Omega.{arith}
 use lib.Dec.{leb, ltb, eqb}
 use borrow.Author.Tests.{lt-ltb, lt-leb, eq-eqb, ne_eqb}
 use Rattle.numbers.specs.Num.{num_at}
-use Rattle.codec.specs.Parts.{op_of, command_at, deps_at, vote_at}
+use Rattle.codec.specs.Parts.{op_of, command_at, vote_at}
 use Rattle.paper.specs.Command.{op_number, command_ok}
 use Rattle.paper.specs.Logic.{implies, all_below}
 use Rattle.paper.specs.Deps.{deps_ok}
 use Rattle.paper.specs.Vote.{none_is_blank}
-use Rattle.sound.specs.Asked.{ballots_ok, marked_ok, phased_ok}
 use Rattle.sound.proofs.Laws.{and_one}
-use Rattle.record.specs.Part.{command_fits, front_ok, plain_ok, no_replies, is_idle, idle_ok}
+use Rattle.record.specs.Part.{command_fits}
 
 -- no op has a number above 3
 above : (k : ℕ) → leb (suc (suc (suc (suc k)))) 3 ≡ false

@@ -18,8 +18,8 @@ use nouns::deps::deps_ok;
 use nouns::logic::{at_most, wide8};
 use nouns::vote::{member, no_vote, none_is_blank, same_vote};
 use paper::{Record, Vote};
-use std::array;
 use sound::{ballots_ok, collected_ok, marked_ok, phased_ok, phases_ok};
+use std::array;
 
 pub mod fields;
 pub mod places;
