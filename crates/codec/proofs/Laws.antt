@@ -1,15 +1,16 @@
 -- Commands, dependencies and votes: what is written is read back, and what is read is written back. Assumes nothing.
 use mathlib.Core.Path.{◌≡◌, refl, sym, ap, ◌∙◌}
 use mathlib.Core.Bool.{Bool, true, false}
-use mathlib.Core.List.{List, [], ◌∷◌, ◌++◌}
-use Prim.Native.Nat.{ℕ, zero, suc, ◌+◌, ◌^◌, ◌≤◌, ◌<◌}
+use mathlib.Core.List.{List, [], ◌∷◌, ◌++◌, map}
+use Prim.Native.Nat.{ℕ, zero, suc, ◌+◌, ◌*◌, ◌^◌, ◌≤◌, ◌<◌}
 use native.Mathlib.Omega.{arith}
+use native.Mathlib.Numerals.{add-one}
 use lib.Dec.{eqb}
-use lib.ListN.{length, get_or, take, drop}
+use lib.ListN.{length, get_or, take, drop, replicate, length-append}
 use borrow.Author.Tests.{eqb-true, leb-true}
-use Rattle.numbers.specs.Num.{num_at}
+use Rattle.numbers.specs.Num.{num_at, bytes_of, splice}
 use Rattle.numbers.specs.Fields.{size_of, fields_at, fields_bytes, FieldsFit}
-use Rattle.numbers.proofs.Laws.{num_at-small}
+use Rattle.numbers.proofs.Laws.{num_at-small, splice-step}
 use Rattle.numbers.proofs.Fields.{fields_at-fields_bytes, fields_bytes-fields_at, entries-all}
 use Rattle.paper.specs.Command.{op_number, is_rewire}
 use Rattle.paper.specs.Valid.{op_range}
@@ -19,6 +20,7 @@ use Rattle.paper.specs.declared.Op.{Op}
 use Rattle.paper.specs.declared.Op.TheVariants.{Noop, Read, Write, Rewire}
 use Rattle.paper.specs.declared.Command.{Command}
 use Rattle.paper.specs.declared.Vote.{Vote}
+use Rattle.std.specs.List.{range_with_len}
 use Rattle.codec.specs.Parts.{op_of, short_op_of, command_widths, command_of, command_numbers, sent_widths, sent_numbers, sent_of, deps_widths, deps_numbers, vote_of, vote_numbers, vote_widths, sent_at, deps_at, vote_at, sent_bytes, deps_bytes, vote_bytes}
 
 pub op-other : (b : ℕ) → (b ≡ 0 → ⊥) → (b ≡ 1 → ⊥) → (b ≡ 2 → ⊥) → Rewire ≡ op_of b
@@ -74,6 +76,26 @@ unfolding vote_at deps_at
 vote_at-fits b at h =
     let n : (w i : ℕ) → num_at w b i < 256 ^ w = λ w i. num_at-small w b i h in
     record { voted = n 4 _; status = omega (arith, n 1 (at + 4)); command = record { key = n 4 _; second = n 4 _; edit = n 8 _ }; deps = deps_at-fits b _ h }
+
+-- dependencies are as many numbers of two bytes, each at its place
+pub deps-values : (s : List ℕ) (at a n j : ℕ) → a ≡ at + 2 * j → map (λ i. num_at 2 s (at + 2 * i)) (range_with_len j n) ≡ fields_at (replicate n 2) s a
+deps-values s at a zero j e = refl
+deps-values s at a (suc n) j e = rw (e, deps-values s at (at + 2 * j + 2) n (j + 1) (omega arith))
+
+-- the bytes of the first entries, one entry after the other
+abbrev pub deps_front : List ℕ → ℕ → List ℕ
+deps_front d zero = []
+deps_front d (suc k) = deps_front d k ++ bytes_of 2 (get_or d k 0)
+
+length-deps_front : (d : List ℕ) (k : ℕ) → length (deps_front d k) ≡ 2 * k
+length-deps_front d zero = refl
+length-deps_front d (suc k) = simp (length-append, length-deps_front d k) (omega arith)
+
+-- one entry more
+pub deps_front-more : (l l₁ l₂ d : List ℕ) (at k : ℕ) → l₁ ≡ splice l at (deps_front d k) → l₂ ≡ splice l₁ (at + 2 * k) (bytes_of 2 (get_or d k 0)) → at + 2 * k + 2 ≤ length l
+    → l₂ ≡ splice l at (deps_front d (k + 1))
+deps_front-more l l₁ l₂ d at k p q h =
+    rw add-one (splice-step l at (deps_front d k) (at + 2 * k) (bytes_of 2 (get_or d k 0)) p q (omega (arith, length-deps_front d k)) h)
 
 -- a command is made of its numbers, and so are a list of dependencies and a vote
 pub command-is : (c : Command) → command_of (command_numbers c) ≡ c

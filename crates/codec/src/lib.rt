@@ -1,13 +1,14 @@
 // A command, dependencies and a vote in lent bytes, at an offset.
 #![tactic(auto)]
 
-ghost use Rattle.std.specs.Prelude.{◌≡◌, true, false, ◌+◌, ◌≤◌, length};
+ghost use Rattle.std.specs.Prelude.{◌≡◌, ◌+◌, ◌≤◌, length};
 ghost use Rattle.numbers.specs.Num.{splice};
 ghost use Rattle.paper.specs.Command.{op_number};
 ghost use Rattle.numbers.specs.Fields.{size_of};
 ghost use Rattle.codec.specs.Parts.{op_of, short_op_of, sent_widths, command_at, sent_at, deps_at, vote_at, command_bytes, sent_bytes, deps_bytes, vote_bytes};
 
 use paper::{Command, Op, Vote};
+use std::array;
 
 // Widths of the fields, and of what is made of them.
 pub const OP: usize = 1;
@@ -61,65 +62,18 @@ fn short_op_of(b: u8) -> Op
 pub fn op_byte(op: Op) -> u8
     ensures { result ≡ op_number op }
 {
-    match op {
-        Op::Noop => 0,
-        Op::Read => 1,
-        Op::Write => 2,
-        Op::Rewire => 3,
-    }
+    op as u8
 }
 
 pub fn read_command(s: &[u8], at: usize) -> Command
     requires { at + 17 ≤ length s.now }
     ensures { result ≡ command_at s.now at }
 {
-    let a1 = at + OP;
-    let a2 = a1 + KEY;
-    let a3 = a2 + KEY;
-    let op = op_of(numbers::get_u8(s, at));
-    let key = numbers::get_u32(s, a1);
-    let second = numbers::get_u32(s, a2);
-    let edit = numbers::get_u64(s, a3);
     Command {
-        op,
-        key,
-        second,
-        edit,
-    }
-}
-
-fn read_short(s: &[u8], at: usize) -> Command
-    requires { at + 13 ≤ length s.now }
-    ensures { result ≡ sent_at false s.now at }
-{
-    let a1 = at + OP;
-    let a2 = a1 + KEY;
-    let op = short_op_of(numbers::get_u8(s, at));
-    let key = numbers::get_u32(s, a1);
-    let edit = numbers::get_u64(s, a2);
-    Command {
-        op,
-        key,
-        second: 0,
-        edit,
-    }
-}
-
-fn read_long(s: &[u8], at: usize) -> Command
-    requires { at + 17 ≤ length s.now }
-    ensures { result ≡ sent_at true s.now at }
-{
-    let a1 = at + OP;
-    let a2 = a1 + KEY;
-    let a3 = a2 + KEY;
-    let key = numbers::get_u32(s, a1);
-    let second = numbers::get_u32(s, a2);
-    let edit = numbers::get_u64(s, a3);
-    Command {
-        op: Op::Rewire,
-        key,
-        second,
-        edit,
+        op: op_of(numbers::get(s, at)),
+        key: numbers::get(s, at + OP),
+        second: numbers::get(s, at + SECOND_AT),
+        edit: numbers::get(s, at + EDIT_AT),
     }
 }
 
@@ -129,47 +83,35 @@ pub fn read_sent(s: &[u8], at: usize, second: bool) -> Command
     ensures { result ≡ sent_at second s.now at }
 {
     if second {
-        return read_long(s, at);
+        return Command {
+            op: Op::Rewire,
+            ..read_command(s, at)
+        };
     }
-    read_short(s, at)
+    Command {
+        op: short_op_of(numbers::get(s, at)),
+        key: numbers::get(s, at + OP),
+        second: 0,
+        edit: numbers::get(s, at + SECOND_AT),
+    }
 }
 
 pub fn read_deps(s: &[u8], at: usize) -> [u16; 7]
     requires { at + 14 ≤ length s.now }
     ensures { result ≡ deps_at s.now at }
 {
-    let a1 = at + ENTRY;
-    let a2 = a1 + ENTRY;
-    let a3 = a2 + ENTRY;
-    let a4 = a3 + ENTRY;
-    let a5 = a4 + ENTRY;
-    let a6 = a5 + ENTRY;
-    let d0 = numbers::get_u16(s, at);
-    let d1 = numbers::get_u16(s, a1);
-    let d2 = numbers::get_u16(s, a2);
-    let d3 = numbers::get_u16(s, a3);
-    let d4 = numbers::get_u16(s, a4);
-    let d5 = numbers::get_u16(s, a5);
-    let d6 = numbers::get_u16(s, a6);
-    [d0, d1, d2, d3, d4, d5, d6]
+    array::from_fn(|i| numbers::get(s, at + ENTRY * i))
 }
 
 pub fn read_vote(s: &[u8], at: usize) -> Vote
     requires { at + 36 ≤ length s.now }
     ensures { result ≡ vote_at s.now at }
 {
-    let a1 = at + BALLOT;
-    let a2 = a1 + STATUS;
-    let a3 = a2 + COMMAND;
-    let voted = numbers::get_u32(s, at);
-    let status = numbers::get_u8(s, a1);
-    let command = read_command(s, a2);
-    let deps = read_deps(s, a3);
     Vote {
-        voted,
-        status,
-        command,
-        deps,
+        voted: numbers::get(s, at),
+        status: numbers::get(s, at + BALLOT),
+        command: read_command(s, at + COMMAND_AT),
+        deps: read_deps(s, at + DEPS_AT),
     }
 }
 
@@ -177,23 +119,10 @@ pub fn write_command(s: &mut [u8], at: usize, c: Command)
     requires { at + 17 ≤ length s.old }
     ensures { s.new ≡ splice s.old at (command_bytes c) }
 {
-    let op = c.op;
-    let b = op_byte(op);
-    numbers::put_u8(&mut *s, at, b);
-    numbers::put_u32(&mut *s, at + OP, c.key);
-    numbers::put_u32(&mut *s, at + SECOND_AT, c.second);
-    numbers::put_u64(&mut *s, at + EDIT_AT, c.edit);
-}
-
-fn write_short(s: &mut [u8], at: usize, c: Command)
-    requires { at + 13 ≤ length s.old }
-    ensures { s.new ≡ splice s.old at (sent_bytes false c) }
-{
-    let op = c.op;
-    let b = op_byte(op);
-    numbers::put_u8(&mut *s, at, b);
-    numbers::put_u32(&mut *s, at + OP, c.key);
-    numbers::put_u64(&mut *s, at + SECOND_AT, c.edit);
+    numbers::put(s, at, op_byte(c.op));
+    numbers::put(s, at + OP, c.key);
+    numbers::put(s, at + SECOND_AT, c.second);
+    numbers::put(s, at + EDIT_AT, c.edit);
 }
 
 pub fn write_sent(s: &mut [u8], at: usize, second: bool, c: Command)
@@ -202,32 +131,28 @@ pub fn write_sent(s: &mut [u8], at: usize, second: bool, c: Command)
 {
     if second {
         write_command(s, at, c);
-    } else {
-        write_short(s, at, c);
+        return;
     }
+    numbers::put(s, at, op_byte(c.op));
+    numbers::put(s, at + OP, c.key);
+    numbers::put(s, at + SECOND_AT, c.edit);
 }
 
 pub fn write_deps(s: &mut [u8], at: usize, d: [u16; 7])
     requires { at + 14 ≤ length s.old }
     ensures { s.new ≡ splice s.old at (deps_bytes d) }
 {
-    numbers::put_u16(&mut *s, at, d[0]);
-    numbers::put_u16(&mut *s, at + 2, d[1]);
-    numbers::put_u16(&mut *s, at + 4, d[2]);
-    numbers::put_u16(&mut *s, at + 6, d[3]);
-    numbers::put_u16(&mut *s, at + 8, d[4]);
-    numbers::put_u16(&mut *s, at + 10, d[5]);
-    numbers::put_u16(&mut *s, at + 12, d[6]);
+    for i in 0..7 {
+        numbers::put(s, at + ENTRY * i, d[i]);
+    }
 }
 
 pub fn write_vote(s: &mut [u8], at: usize, v: Vote)
     requires { at + 36 ≤ length s.old }
     ensures { s.new ≡ splice s.old at (vote_bytes v) }
 {
-    let command = v.command;
-    let deps = v.deps;
-    numbers::put_u32(&mut *s, at, v.voted);
-    numbers::put_u8(&mut *s, at + BALLOT, v.status);
-    write_command(&mut *s, at + COMMAND_AT, command);
-    write_deps(&mut *s, at + DEPS_AT, deps);
+    numbers::put(s, at, v.voted);
+    numbers::put(s, at + BALLOT, v.status);
+    write_command(s, at + COMMAND_AT, v.command);
+    write_deps(s, at + DEPS_AT, v.deps);
 }

@@ -38,21 +38,21 @@ pub fn kind_in(b: &[u8]) -> usize
     requires { 1 ≤ length b.now }
     ensures { result ≡ kind_in b.now }
 {
-    wide8(numbers::get_u8(b, KIND))
+    wide8(numbers::get::<u8>(b, KIND))
 }
 
 pub fn owner_in(b: &[u8]) -> usize
     requires { entry_head ≤ length b.now }
     ensures { result ≡ owner_in b.now }
 {
-    wide8(numbers::get_u8(b, OWNER))
+    wide8(numbers::get::<u8>(b, OWNER))
 }
 
 pub fn number_in(b: &[u8]) -> usize
     requires { entry_head ≤ length b.now }
     ensures { result ≡ number_in b.now }
 {
-    wide16(numbers::get_u16(b, NUMBER))
+    wide16(numbers::get::<u16>(b, NUMBER))
 }
 
 // The record's bytes in an entry that has one.
@@ -81,7 +81,7 @@ pub fn write_head(out: &mut [u8], kind: usize, o: usize, j: usize)
     requires { (entry_head ≤ length out.old) × (kind < 256) × (o < 256) × (j < 65536) }
     ensures { out.new ≡ splice out.old 0 (head_bytes kind o j) }
 {
-    numbers::put_u8(&mut *out, KIND, kind as u8);
-    numbers::put_u8(&mut *out, OWNER, o as u8);
-    numbers::put_u16(&mut *out, NUMBER, j as u16);
+    numbers::put(&mut *out, KIND, kind as u8);
+    numbers::put(&mut *out, OWNER, o as u8);
+    numbers::put(&mut *out, NUMBER, j as u16);
 }

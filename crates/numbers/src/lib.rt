@@ -1,121 +1,101 @@
 // Little-endian numbers, and bytes as they are, in lent bytes at an offset. A number is read as one sum over its bytes: the compiler makes one load of it.
 #![tactic(auto)]
 
-ghost use Rattle.std.specs.Prelude.{◌≡◌, ◌+◌, ◌≤◌, ◌<◌, length};
+ghost use Rattle.std.specs.Prelude.{ℕ, ◌≡◌, ◌+◌, ◌≤◌, length};
 ghost use Rattle.numbers.specs.Num.{num_at, bytes_of, splice};
 
-fn wide16(x: u8) -> u16
-    ensures { (result ≡ x) × (result < 256) }
-{
-    x as u16
+// A number that takes `width` bytes.
+pub trait Number: Copy {
+    ghost width: { ℕ };
+
+    ghost value: { Self → ℕ };
+
+    fn read(s: &[u8], at: usize) -> Self
+        requires { at + width ≤ length s.now }
+        ensures { value result ≡ num_at width s.now at };
+
+    fn write(self, s: &mut [u8], at: usize)
+        requires { at + width ≤ length s.old }
+        ensures { s.new ≡ splice s.old at (bytes_of width (value self)) };
 }
 
-fn wide32(x: u8) -> u32
-    ensures { (result ≡ x) × (result < 256) }
-{
-    x as u32
+impl Number for u8 {
+    ghost width = { 1 };
+
+    ghost value = { λ x. x };
+
+    fn read(s: &[u8], at: usize) -> u8 {
+        s[at]
+    }
+
+    fn write(self, s: &mut [u8], at: usize) {
+        put_bytes(s, at, &self.to_le_bytes());
+    }
 }
 
-fn wide64(x: u8) -> u64
-    ensures { (result ≡ x) × (result < 256) }
-{
-    x as u64
+impl Number for u16 {
+    ghost width = { 2 };
+
+    ghost value = { λ x. x };
+
+    fn read(s: &[u8], at: usize) -> u16 {
+        u16::from_le_bytes([s[at], s[at + 1]])
+    }
+
+    fn write(self, s: &mut [u8], at: usize) {
+        put_bytes(s, at, &self.to_le_bytes());
+    }
 }
 
-pub fn get_u8(s: &[u8], at: usize) -> u8
-    requires { at + 1 ≤ length s.now }
-    ensures { result ≡ num_at 1 s.now at }
-{
-    s[at]
+impl Number for u32 {
+    ghost width = { 4 };
+
+    ghost value = { λ x. x };
+
+    fn read(s: &[u8], at: usize) -> u32 {
+        u32::from_le_bytes([s[at], s[at + 1], s[at + 2], s[at + 3]])
+    }
+
+    fn write(self, s: &mut [u8], at: usize) {
+        put_bytes(s, at, &self.to_le_bytes());
+    }
 }
 
-pub fn get_u16(s: &[u8], at: usize) -> u16
-    requires { at + 2 ≤ length s.now }
-    ensures { result ≡ num_at 2 s.now at }
-{
-    let b = at + 1;
-    wide16(s[at]) + 256 * wide16(s[b])
+impl Number for u64 {
+    ghost width = { 8 };
+
+    ghost value = { λ x. x };
+
+    fn read(s: &[u8], at: usize) -> u64 {
+        u64::from_le_bytes([
+            s[at],
+            s[at + 1],
+            s[at + 2],
+            s[at + 3],
+            s[at + 4],
+            s[at + 5],
+            s[at + 6],
+            s[at + 7],
+        ])
+    }
+
+    fn write(self, s: &mut [u8], at: usize) {
+        put_bytes(s, at, &self.to_le_bytes());
+    }
 }
 
-pub fn get_u32(s: &[u8], at: usize) -> u32
-    requires { at + 4 ≤ length s.now }
-    ensures { result ≡ num_at 4 s.now at }
+pub fn get<T: Number>(s: &[u8], at: usize) -> T
+    requires { at + T.width ≤ length s.now }
+    ensures { T.value result ≡ num_at T.width s.now at }
 {
-    let b = at + 1;
-    let c = b + 1;
-    let d = c + 1;
-    wide32(s[at]) + 256 * wide32(s[b]) + 65_536 * wide32(s[c]) + 16_777_216 * wide32(s[d])
+    T::read(s, at)
 }
 
-pub fn put_u8(s: &mut [u8], at: usize, x: u8)
-    requires { at + 1 ≤ length s.old }
-    ensures { s.new ≡ splice s.old at (bytes_of 1 x) }
+pub fn put<T: Number>(s: &mut [u8], at: usize, x: T)
+    requires { at + T.width ≤ length s.old }
+    ensures { s.new ≡ splice s.old at (bytes_of T.width (T.value x)) }
 {
-    s[at] = x;
-}
-
-pub fn put_u16(s: &mut [u8], at: usize, x: u16)
-    requires { at + 2 ≤ length s.old }
-    ensures { s.new ≡ splice s.old at (bytes_of 2 x) }
-{
-    s[at] = (x % 256) as u8;
-    let b = at + 1;
-    s[b] = (x / 256 % 256) as u8;
-}
-
-pub fn put_u32(s: &mut [u8], at: usize, x: u32)
-    requires { at + 4 ≤ length s.old }
-    ensures { s.new ≡ splice s.old at (bytes_of 4 x) }
-{
-    s[at] = (x % 256) as u8;
-    let b = at + 1;
-    s[b] = (x / 256 % 256) as u8;
-    let c = b + 1;
-    s[c] = (x / 256 / 256 % 256) as u8;
-    let d = c + 1;
-    s[d] = (x / 256 / 256 / 256 % 256) as u8;
-}
-
-pub fn get_u64(s: &[u8], at: usize) -> u64
-    requires { at + 8 ≤ length s.now }
-    ensures { result ≡ num_at 8 s.now at }
-{
-    let b = at + 1;
-    let c = b + 1;
-    let d = c + 1;
-    let e = d + 1;
-    let f = e + 1;
-    let g = f + 1;
-    let h = g + 1;
-    wide64(s[at])
-        + 256 * wide64(s[b])
-        + 65_536 * wide64(s[c])
-        + 16_777_216 * wide64(s[d])
-        + 4_294_967_296 * wide64(s[e])
-        + 1_099_511_627_776 * wide64(s[f])
-        + 281_474_976_710_656 * wide64(s[g])
-        + 72_057_594_037_927_936 * wide64(s[h])
-}
-
-pub fn put_u64(s: &mut [u8], at: usize, x: u64)
-    requires { at + 8 ≤ length s.old }
-    ensures { s.new ≡ splice s.old at (bytes_of 8 x) }
-{
-    s[at] = (x % 256) as u8;
-    let b = at + 1;
-    s[b] = (x / 256 % 256) as u8;
-    let c = b + 1;
-    s[c] = (x / 256 / 256 % 256) as u8;
-    let d = c + 1;
-    s[d] = (x / 256 / 256 / 256 % 256) as u8;
-    let e = d + 1;
-    s[e] = (x / 256 / 256 / 256 / 256 % 256) as u8;
-    let f = e + 1;
-    s[f] = (x / 256 / 256 / 256 / 256 / 256 % 256) as u8;
-    let g = f + 1;
-    s[g] = (x / 256 / 256 / 256 / 256 / 256 / 256 % 256) as u8;
-    let h = g + 1;
-    s[h] = (x / 256 / 256 / 256 / 256 / 256 / 256 / 256 % 256) as u8;
+    x.write(s, at);
 }
 
 // Puts these bytes in the place of others, from `at` on.
@@ -123,9 +103,5 @@ pub fn put_bytes(s: &mut [u8], at: usize, bytes: &[u8])
     requires { at + length bytes.now ≤ length s.old }
     ensures { s.new ≡ splice s.old at bytes.now }
 {
-    let mut i = 0;
-    while i < bytes.len() {
-        s[at + i] = bytes[i];
-        i += 1;
-    }
+    s[at..at + bytes.len()].copy_from_slice(bytes);
 }

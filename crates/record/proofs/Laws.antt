@@ -1,12 +1,14 @@
 -- Lengths of a record's bytes, one more reply written, and soundness as it is judged. Assumes nothing.
 use mathlib.Core.Path.{◌≡◌, refl, sym, ap, ◌∙◌}
 use mathlib.Core.Bool.{Bool, true, false, ◌&&◌}
-use mathlib.Core.List.{List, [], ◌∷◌, ◌++◌, append_assoc, append-nil}
+use mathlib.Core.List.{List, [], ◌∷◌, ◌++◌, append_assoc, append-nil, map}
 use Prim.Native.Nat.{ℕ, zero, suc, ◌+◌, ◌*◌, ◌-◌, ◌^◌, ◌≤◌, ◌<◌}
 use native.Mathlib.Omega.{arith}
 use native.Mathlib.Numerals.{add-one}
+use native.Mathlib.Nat.{add-zero}
 use lib.ListN.{length, length-append, take, get_or}
 use lib.Seq.{take-suc, length-take-le}
+use Rattle.std.specs.List.{range_with_len, list_all}
 use Rattle.numbers.specs.Num.{num_at, splice}
 use Rattle.numbers.proofs.Laws.{splice-step}
 use Rattle.codec.specs.Parts.{command_at, deps_at, vote_at, vote_bytes}
@@ -73,6 +75,35 @@ all_below-step (suc k) f h = let e : suc k - 1 ≡ k = omega arith in rw e
 pub all_below-none : (k : ℕ) (f : ℕ → Bool) → k ≡ 0 → all_below k f ≡ true
 unfolding all_below
 all_below-none k f e = rw e
+
+-- replies are as many votes, each at its place
+pub votes-values : (s : List ℕ) (at a n j : ℕ) → a ≡ at + 36 * j → map (λ q. vote_at s (at + 36 * q)) (range_with_len j n) ≡ votes_at n s a
+unfolding votes_at
+votes-values s at a zero j e = refl
+votes-values s at a (suc n) j e = rw (e, votes-values s at (at + 36 * j + 36) n (j + 1) (omega arith))
+
+-- tests of each place, from the first on
+all_below-from : (f : ℕ → Bool) (n a : ℕ) → (list_all f (range_with_len a n) && all_below a f) ≡ all_below (a + n) f
+unfolding all_below
+all_below-from f zero a = rw add-zero
+all_below-from f (suc n) a =
+    let e : a + suc n ≡ suc a + n = omega arith in
+    let more : (list_all f (range_with_len (suc a) n) && all_below (suc a) f) ≡ all_below (suc a + n) f = all_below-from f n (suc a) in
+    rw (e, ← more, add-one) (go (f a) (list_all f (range_with_len (suc a) n)) (all_below a f))
+  where
+    go : (x y z : Bool) → (x && y && z) ≡ (y && (x && z))
+    go true true z = refl
+    go true false z = refl
+    go false true z = refl
+    go false false z = refl
+
+pub all_below-all : (f : ℕ → Bool) (n : ℕ) → list_all f (range_with_len 0 n) ≡ all_below n f
+unfolding all_below
+all_below-all f n = let e : 0 + n ≡ n = omega arith in rw e at (sym (go (list_all f (range_with_len 0 n))) ∙ all_below-from f n 0)
+  where
+    go : (x : Bool) → (x && true) ≡ x
+    go true = refl
+    go false = refl
 
 pub all_below-both : (k : ℕ) (f g : ℕ → Bool) → all_below k (λ i. f i && g i) ≡ (all_below k f && all_below k g)
 unfolding all_below
@@ -183,33 +214,10 @@ module _ (b : List ℕ) {j : ℕ} {v : Vote} {p t : ℕ} (ej : j ≡ num_at 4 b 
   unfolding record_at phases_ok preparing_ok proposing_ok busy_ok
   phase-judged n c o ez = rw (ez, ej, ev, ep, et)
 
--- the rest of the replies is judged after those above
-pub record Judged (n s c : ℕ) (b : List ℕ) (left : ℕ) : Type 0 where
-  pub so : all_below 7 (reply_part n s c b) ≡ all_below left (reply_part n s c b)
-  pub few : left ≤ 7
+-- one test after the other
+pub as_judged : (n s c o : ℕ) (b : List ℕ) → sound_part n s c o b ≡ (plain_ok n s b && (phases_ok n c o (record_at b) && all_below 7 (reply_part n s c b)))
+unfolding busy_part
+as_judged n s c o b = sound_part-is n s c o b
 
-module _ (n s c : ℕ) (b : List ℕ) where
-  pub judged-start : Judged n s c b 7
-  judged-start = record { so = refl; few = omega arith }
-
-  pub judged-next : (left : ℕ) → 0 < left → Judged n s c b left → reply_part n s c b (left - 1) ≡ true → Judged n s c b (left - 1)
-  judged-next left h j p = record { so = j.so ∙ all_below-step left (reply_part n s c b) h ∙ rw p; few = omega (arith, j.few) }
-
-  pub bad-reply : (left : ℕ) → 0 < left → Judged n s c b left → reply_part n s c b (left - 1) ≡ false → false ≡ all_below 7 (reply_part n s c b)
-  bad-reply left h j p = sym (j.so ∙ all_below-step left (reply_part n s c b) h ∙ rw p)
-
-  pub judged-all : (left : ℕ) → left ≡ 0 → Judged n s c b left → true ≡ all_below 7 (reply_part n s c b)
-  judged-all left e j = sym (j.so ∙ all_below-none left (reply_part n s c b) e)
-
--- the outcomes
-module _ (n s c o : ℕ) (b : List ℕ) where
-  pub unsound-plain : plain_ok n s b ≡ false → false ≡ sound_part n s c o b
-  unsound-plain p = sym (sound_part-is n s c o b ∙ rw p)
-
-  pub unsound-phase : plain_ok n s b ≡ true → phases_ok n c o (record_at b) ≡ false → false ≡ sound_part n s c o b
-  unfolding busy_part
-  unsound-phase p q = sym (sound_part-is n s c o b ∙ rw (p, q))
-
-  pub sound-replies : plain_ok n s b ≡ true → phases_ok n c o (record_at b) ≡ true → all_below 7 (reply_part n s c b) ≡ sound_part n s c o b
-  unfolding busy_part
-  sound-replies p q = sym (sound_part-is n s c o b ∙ rw (p, q))
+pub sound-replies : (n s c o : ℕ) (b : List ℕ) → plain_ok n s b ≡ true → phases_ok n c o (record_at b) ≡ true → all_below 7 (reply_part n s c b) ≡ sound_part n s c o b
+sound-replies n s c o b p q = sym (as_judged n s c o b ∙ rw (p, q))

@@ -2,12 +2,15 @@
 use mathlib.Core.Path.{◌≡◌, refl, sym, ap, ◌∙◌}
 use mathlib.Core.Bool.{Bool, true, false, ◌&&◌}
 use mathlib.Core.List.{List, [], ◌∷◌}
-use Prim.Native.Nat.{ℕ, zero, suc, ◌+◌, ◌*◌, ◌-◌, ◌^◌, ◌≤◌, ◌<◌}
+use Prim.Native.Nat.{ℕ, zero, suc, ◌+◌, ◌*◌, ◌^◌, ◌≤◌, ◌<◌}
 use native.Mathlib.Omega.{arith}
+use native.Mathlib.Nat.{add-zero}
 use lib.Bits.{bit_or, bit_and, or_add_and, and_le_l, and_le_r}
 use lib.Dec.{eqb}
 use lib.Pow.{pow_pos}
-use lib.ListN.{length, get_or, replicate}
+use lib.ListN.{length, get_or, take, drop, replicate}
+use lib.Seq.{drop-cons}
+use Rattle.std.specs.List.{fold}
 use borrow.Author.Tests.{eqb-true, eqb-false, eq-eqb, ne_eqb, lt-ltb, le-leb}
 use Rattle.numbers.specs.Num.{num_at}
 use Rattle.numbers.specs.Fields.{size_of, fields_at}
@@ -38,29 +41,20 @@ or-none a x = go (eqb x 0) refl (eqb a 0) refl
     go false e q f =
         rw e (ne_eqb (bit_or a x) 0 (λ z. eqb-false x 0 e (omega (arith, sum, and_le_l a x, z))))
 
--- the bytes before i have no bit set that is not in `any`
-pub record Clear (b : List ℕ) (any i : ℕ) : Type 0 where
-  pub so : eqb any 0 ≡ all_below (i - 43) (λ k. eqb (get_or b (43 + k) 0) 0)
-  pub first : 43 ≤ i
-  pub last : i ≤ 295
-
-pub clear-start : (b : List ℕ) → Clear b 0 43
+-- the n bytes from the a-th of the replies on have no bit set
+clear-from : (b : List ℕ) (n a any : ℕ) → 43 + a + n ≤ length b → eqb any 0 ≡ all_below a (λ i. eqb (get_or b (43 + i) 0) 0)
+    → eqb (fold bit_or any (take n (drop (43 + a) b))) 0 ≡ all_below (a + n) (λ i. eqb (get_or b (43 + i) 0) 0)
 unfolding all_below
-clear-start b = record { so = refl; first = omega arith; last = omega arith }
+clear-from b zero a any h e = rw add-zero e
+clear-from b (suc n) a any h e =
+    let x : ℕ = get_or b (43 + a) 0 in
+    let k : a + suc n ≡ suc a + n = omega arith in
+    let j : suc (43 + a) ≡ 43 + suc a = omega arith in
+    rw (drop-cons b (43 + a) 0 (omega arith), k, j) (clear-from b n (suc a) (bit_or any x) (omega arith) (or-none any x ∙ rw e))
 
-pub clear_next : (b : List ℕ) (any i : ℕ) → Clear b any i → i < 295 → {x : ℕ} → x ≡ get_or b i 0 → Clear b (bit_or any x) (i + 1)
-unfolding all_below
-clear_next b any i c h {x} e =
-    let f = c.first in
-    let k : i + 1 - 43 ≡ suc (i - 43) = omega arith in
-    let j : 43 + (i - 43) ≡ i = omega arith in
-    let so : eqb (bit_or any x) 0 ≡ (eqb (get_or b (43 + (i - 43)) 0) 0 && all_below (i - 43) (λ k. eqb (get_or b (43 + k) 0) 0)) =
-    or-none any x ∙ rw (e, j, c.so) in
-    record { so = rw k so; first = omega arith; last = omega arith }
-
-pub clear-all : (b : List ℕ) (any i : ℕ) → Clear b any i → (i < 295 → ⊥) → eqb any 0 ≡ no_replies b
-unfolding no_replies
-clear-all b any i c h = let f = c.last in let k : i - 43 ≡ 252 = omega arith in c.so ∙ rw k
+pub clear : (b : List ℕ) → 295 ≤ length b → eqb (fold bit_or 0 (take 252 (drop 43 b))) 0 ≡ no_replies b
+unfolding no_replies all_below
+clear b h = clear-from b 252 0 0 h refl
 
 -- zero bytes are the number 0
 num_at-zero : (w : ℕ) (b : List ℕ) (at : ℕ) → ((i : ℕ) → i < w → get_or b (at + i) 0 ≡ 0) → num_at w b at ≡ 0

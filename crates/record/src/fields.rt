@@ -9,7 +9,7 @@ pub fn joined_in(b: &[u8]) -> u32
     requires { record_length ≤ length b.now }
     ensures { result ≡ (record_at b.now).joined }
 {
-    numbers::get_u32(b, JOINED)
+    numbers::get(b, JOINED)
 }
 
 pub fn vote_in(b: &[u8]) -> Vote
@@ -23,28 +23,28 @@ pub fn status_in(b: &[u8]) -> u8
     requires { record_length ≤ length b.now }
     ensures { result ≡ (record_at b.now).vote.status }
 {
-    numbers::get_u8(b, STATUS)
+    numbers::get(b, STATUS)
 }
 
 pub fn op_in(b: &[u8]) -> Op
     requires { record_length ≤ length b.now }
     ensures { result ≡ (record_at b.now).vote.command.op }
 {
-    codec::op_of(numbers::get_u8(b, COMMAND))
+    codec::op_of(numbers::get::<u8>(b, COMMAND))
 }
 
 pub fn key_in(b: &[u8]) -> u32
     requires { record_length ≤ length b.now }
     ensures { result ≡ (record_at b.now).vote.command.key }
 {
-    numbers::get_u32(b, KEY)
+    numbers::get(b, KEY)
 }
 
 pub fn second_in(b: &[u8]) -> u32
     requires { record_length ≤ length b.now }
     ensures { result ≡ (record_at b.now).vote.command.second }
 {
-    numbers::get_u32(b, SECOND)
+    numbers::get(b, SECOND)
 }
 
 pub fn deps_in(b: &[u8]) -> [u16; 7]
@@ -58,12 +58,12 @@ pub fn mark_in(b: &[u8]) -> u8
     requires { record_length ≤ length b.now }
     ensures { result ≡ (record_at b.now).mark }
 {
-    numbers::get_u8(b, MARK)
+    numbers::get(b, MARK)
 }
 
 pub fn phase_in(b: &[u8]) -> u8
     requires { record_length ≤ length b.now }
     ensures { result ≡ (record_at b.now).phase }
 {
-    numbers::get_u8(b, PHASE)
+    numbers::get(b, PHASE)
 }

@@ -19,6 +19,7 @@ use nouns::logic::{at_most, wide8};
 use nouns::vote::{member, no_vote, none_is_blank, same_vote};
 use paper::{Record, Vote};
 use sound::{ballots_ok, collected_ok, marked_ok, phased_ok, phases_ok};
+use std::array;
 
 pub mod fields;
 pub mod places;
@@ -27,39 +28,20 @@ fn read_votes(b: &[u8], at: usize) -> [Vote; 7]
     requires { at + replies_length ≤ length b.now }
     ensures { result ≡ votes_at 7 b.now at }
 {
-    let a1 = at + codec::VOTE;
-    let a2 = a1 + codec::VOTE;
-    let a3 = a2 + codec::VOTE;
-    let a4 = a3 + codec::VOTE;
-    let a5 = a4 + codec::VOTE;
-    let a6 = a5 + codec::VOTE;
-    let v0 = codec::read_vote(b, at);
-    let v1 = codec::read_vote(b, a1);
-    let v2 = codec::read_vote(b, a2);
-    let v3 = codec::read_vote(b, a3);
-    let v4 = codec::read_vote(b, a4);
-    let v5 = codec::read_vote(b, a5);
-    let v6 = codec::read_vote(b, a6);
-    [v0, v1, v2, v3, v4, v5, v6]
+    array::from_fn(|q| codec::read_vote(b, at + codec::VOTE * q))
 }
 
 pub fn read_record(b: &[u8]) -> Record
     requires { record_length ≤ length b.now }
     ensures { result ≡ record_at b.now }
 {
-    let joined = numbers::get_u32(b, JOINED);
-    let vote = codec::read_vote(b, VOTE);
-    let mark = numbers::get_u8(b, MARK);
-    let phase = numbers::get_u8(b, PHASE);
-    let set = numbers::get_u8(b, SET);
-    let replies = read_votes(b, REPLIES);
     Record {
-        joined,
-        vote,
-        mark,
-        phase,
-        set,
-        replies,
+        joined: numbers::get(b, JOINED),
+        vote: codec::read_vote(b, VOTE),
+        mark: numbers::get(b, MARK),
+        phase: numbers::get(b, PHASE),
+        set: numbers::get(b, SET),
+        replies: read_votes(b, REPLIES),
     }
 }
 
@@ -69,8 +51,7 @@ fn write_votes(b: &mut [u8], at: usize, vs: [Vote; 7])
     ensures sized { length vs ≡ 7 }
 {
     for k in 0..7 {
-        let v = vs[k];
-        codec::write_vote(&mut *b, at + codec::VOTE * k, v);
+        codec::write_vote(b, at + codec::VOTE * k, vs[k]);
     }
 }
 
@@ -78,28 +59,26 @@ fn write_front(b: &mut [u8], r: Record)
     requires { replies_place ≤ length b.old }
     ensures { b.new ≡ splice b.old 0 (front_bytes r) }
 {
-    let vote = r.vote;
-    numbers::put_u32(&mut *b, JOINED, r.joined);
-    codec::write_vote(&mut *b, VOTE, vote);
-    numbers::put_u8(&mut *b, MARK, r.mark);
-    numbers::put_u8(&mut *b, PHASE, r.phase);
-    numbers::put_u8(&mut *b, SET, r.set);
+    numbers::put(b, JOINED, r.joined);
+    codec::write_vote(b, VOTE, r.vote);
+    numbers::put(b, MARK, r.mark);
+    numbers::put(b, PHASE, r.phase);
+    numbers::put(b, SET, r.set);
 }
 
 pub fn write_record(b: &mut [u8], r: Record)
     requires { length b.old ≡ record_length }
     ensures { b.new ≡ record_bytes r }
 {
-    let replies = r.replies;
-    write_front(&mut *b, r);
-    write_votes(&mut *b, REPLIES, replies);
+    write_front(b, r);
+    write_votes(b, REPLIES, r.replies);
 }
 
 fn op_fits(b: &[u8], at: usize) -> bool
     requires { at + vote_length ≤ length b.now }
     ensures { result ≡ op_fits b.now at }
 {
-    at_most(wide8(numbers::get_u8(b, at + codec::COMMAND_AT)), 3)
+    at_most(wide8(numbers::get::<u8>(b, at + codec::COMMAND_AT)), 3)
 }
 
 // The op byte, and the command: a rewire has two keys that rise, a no-op has zero key and edit.
@@ -107,9 +86,9 @@ fn command_fits(b: &[u8]) -> bool
     requires { record_length ≤ length b.now }
     ensures { result ≡ command_fits b.now }
 {
-    let op = numbers::get_u8(b, COMMAND);
-    let second = numbers::get_u32(b, SECOND);
-    let key = numbers::get_u32(b, KEY);
+    let op = numbers::get::<u8>(b, COMMAND);
+    let second = numbers::get::<u32>(b, SECOND);
+    let key = numbers::get::<u32>(b, KEY);
     if op == 3 {
         return key < second;
     }
@@ -122,19 +101,14 @@ fn command_fits(b: &[u8]) -> bool
     if key != 0 {
         return false;
     }
-    let edit = numbers::get_u64(b, EDIT);
-    edit == 0
+    numbers::get::<u64>(b, EDIT) == 0
 }
 
 fn none_is_blank_in(b: &[u8]) -> bool
     requires { record_length ≤ length b.now }
     ensures { result ≡ none_is_blank (vote_at b.now vote_place) }
 {
-    let status = numbers::get_u8(b, STATUS);
-    if status != 0 {
-        return true;
-    }
-    none_is_blank(codec::read_vote(b, VOTE))
+    numbers::get::<u8>(b, STATUS) != 0 || none_is_blank(codec::read_vote(b, VOTE))
 }
 
 // With seven copies every entry has the same limit: said as a number, it is compared with as it stands.
@@ -150,34 +124,25 @@ fn deps_ok_in(b: &[u8], n: usize, s: usize) -> bool
 }
 
 // What holds in any phase of all that stands before the phase. Each field is read where it is asked.
+#[tactic(auto, unfolding(crate::specs::Part::front_ok))]
 fn front_ok(b: &[u8], n: usize, s: usize) -> bool
     requires { record_length ≤ length b.now }
     ensures { result ≡ front_ok n s b.now }
 {
-    if !ballots_ok(n, numbers::get_u32(b, JOINED), numbers::get_u32(b, VOTE)) {
-        return false;
-    }
-    if !command_fits(b) {
-        return false;
-    }
-    if !marked_ok(numbers::get_u8(b, STATUS), numbers::get_u8(b, MARK)) {
-        return false;
-    }
-    if !none_is_blank_in(b) {
-        return false;
-    }
-    deps_ok_in(b, n, s)
+    ballots_ok(n, numbers::get(b, JOINED), numbers::get(b, VOTE))
+        && command_fits(b)
+        && marked_ok(numbers::get(b, STATUS), numbers::get(b, MARK))
+        && none_is_blank_in(b)
+        && deps_ok_in(b, n, s)
 }
 
 // What holds in any phase.
+#[tactic(auto, unfolding(crate::specs::Part::plain_ok))]
 fn plain_ok(b: &[u8], n: usize, s: usize) -> bool
     requires { (record_length ≤ length b.now) × (n ≤ 7) }
     ensures { result ≡ plain_ok n s b.now }
 {
-    if !front_ok(b, n, s) {
-        return false;
-    }
-    phased_ok(n, numbers::get_u8(b, PHASE), numbers::get_u8(b, SET))
+    front_ok(b, n, s) && phased_ok(n, numbers::get(b, PHASE), numbers::get(b, SET))
 }
 
 // What the phase asks.
@@ -185,10 +150,10 @@ fn phases_ok_in(b: &[u8], n: usize, c: usize, o: usize) -> bool
     requires { (record_length ≤ length b.now) × (1 ≤ n) × (c < 8) }
     ensures { result ≡ phases_ok n c o (record_at b.now) }
 {
-    let joined = numbers::get_u32(b, JOINED);
+    let joined = numbers::get::<u32>(b, JOINED);
     let v = codec::read_vote(b, VOTE);
-    let phase = numbers::get_u8(b, PHASE);
-    let set = numbers::get_u8(b, SET);
+    let phase = numbers::get::<u8>(b, PHASE);
+    let set = numbers::get::<u8>(b, SET);
     phases_ok(n, c, o, joined, v, phase, set)
 }
 
@@ -202,11 +167,11 @@ fn reply_part(b: &[u8], n: usize, s: usize, c: usize, q: usize) -> bool
         return false;
     }
     let v = codec::read_vote(b, at);
-    let set = numbers::get_u8(b, SET);
+    let set = numbers::get::<u8>(b, SET);
     if member(q, set) {
-        let joined = numbers::get_u32(b, JOINED);
+        let joined = numbers::get::<u32>(b, JOINED);
         let own = codec::read_vote(b, VOTE);
-        let phase = numbers::get_u8(b, PHASE);
+        let phase = numbers::get::<u8>(b, PHASE);
         return collected_ok(n, s, c, phase, joined, own, q, v);
     }
     same_vote(v, no_vote())
@@ -216,65 +181,38 @@ fn replies_ok(b: &[u8], n: usize, s: usize, c: usize) -> bool
     requires { record_length ≤ length b.now }
     ensures { result ≡ all_below 7 (reply_part n s c b.now) }
 {
-    let mut left = 7;
-    while 0 < left {
-        left -= 1;
-        if !reply_part(b, n, s, c, left) {
-            return false;
-        }
-    }
-    true
+    (0..7).all(|q| reply_part(b, n, s, c, q))
 }
 
 fn no_replies(b: &[u8]) -> bool
     requires { record_length ≤ length b.now }
     ensures { result ≡ no_replies b.now }
 {
-    let mut any = 0;
-    let mut i = REPLIES;
-    while i < LENGTH {
-        any |= b[i];
-        i += 1;
-    }
-    any == 0
+    b[REPLIES..LENGTH].iter().fold(0, |any, x| any | x) == 0
 }
 
+#[tactic(auto, unfolding(crate::specs::Part::is_idle))]
 fn is_idle(b: &[u8]) -> bool
     requires { record_length ≤ length b.now }
     ensures { result ≡ is_idle b.now }
 {
-    let phase = numbers::get_u8(b, PHASE);
-    if phase != 0 {
-        return false;
-    }
-    let set = numbers::get_u8(b, SET);
-    if set != 0 {
-        return false;
-    }
-    no_replies(b)
+    numbers::get::<u8>(b, PHASE) == 0 && numbers::get::<u8>(b, SET) == 0 && no_replies(b)
 }
 
 // Most records are in no phase and have nothing collected: where the rest is right too, they are sound at any copy.
+#[tactic(auto, unfolding(crate::specs::Part::idle_ok))]
 pub fn idle_ok(b: &[u8], n: usize, s: usize) -> bool
     requires { record_length ≤ length b.now }
     ensures { result ≡ idle_ok n s b.now }
 {
-    if !is_idle(b) {
-        return false;
-    }
-    front_ok(b, n, s)
+    is_idle(b) && front_ok(b, n, s)
 }
 
 // The record in these bytes is sound at copy c for an instance of owner o.
+#[tactic(auto, using(crate::proofs::Laws::as_judged))]
 pub fn sound_part(b: &[u8], n: usize, s: usize, c: usize, o: usize) -> bool
     requires { (record_length ≤ length b.now) × (1 ≤ n) × (n ≤ 7) × (c < 8) }
     ensures { result ≡ sound_part n s c o b.now }
 {
-    if !plain_ok(b, n, s) {
-        return false;
-    }
-    if !phases_ok_in(b, n, c, o) {
-        return false;
-    }
-    replies_ok(b, n, s, c)
+    plain_ok(b, n, s) && phases_ok_in(b, n, c, o) && replies_ok(b, n, s, c)
 }

@@ -26,7 +26,7 @@ pub fn mark_at(h: &[u8], x: usize, o: usize) -> usize
     requires { Within h.now x × (o < 7) }
     ensures { result ≡ mark_at h.now x o }
 {
-    wide16(numbers::get_u16(h, 14 * x + 2 * o))
+    wide16(numbers::get::<u16>(h, 14 * x + 2 * o))
 }
 
 pub fn put_row(h: &mut [u8], x: usize, d: [u16; 7])

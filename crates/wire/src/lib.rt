@@ -94,7 +94,7 @@ pub fn kind_at(b: &[u8]) -> usize
     if b.len() == 0 {
         return 0;
     }
-    wide8(numbers::get_u8(b, 0))
+    wide8(numbers::get::<u8>(b, 0))
 }
 
 // The op byte, or 0 where there is none.
@@ -106,7 +106,7 @@ fn op_at(p: Parts, b: &[u8]) -> usize
         return 0;
     }
     let at = command_start(p, HEAD);
-    wide8(numbers::get_u8(b, at))
+    wide8(numbers::get::<u8>(b, at))
 }
 
 fn read_voted(p: Parts, b: &[u8]) -> u32
@@ -116,7 +116,7 @@ fn read_voted(p: Parts, b: &[u8]) -> u32
     if !p.told {
         return 0;
     }
-    numbers::get_u32(b, HEAD)
+    numbers::get::<u32>(b, HEAD)
 }
 
 fn read_status(p: Parts, b: &[u8]) -> u8
@@ -126,7 +126,7 @@ fn read_status(p: Parts, b: &[u8]) -> u8
     if !p.told {
         return 0;
     }
-    numbers::get_u8(b, HEAD + 4)
+    numbers::get::<u8>(b, HEAD + 4)
 }
 
 fn read_command(p: Parts, b: &[u8]) -> Command
@@ -148,7 +148,7 @@ fn read_joined(p: Parts, b: &[u8]) -> u32
         return 0;
     }
     let at = joined_start(p, HEAD);
-    numbers::get_u32(b, at)
+    numbers::get::<u32>(b, at)
 }
 
 #[tactic(auto, unfolding(crate::specs::Wire::carried_at, paper::specs::Message::kept))]
@@ -192,11 +192,11 @@ fn message_at(k: usize, p: Parts, b: &[u8]) -> Message
     requires { OfKind k p b.now }
     ensures { result ≡ message_at b.now }
 {
-    let from = numbers::get_u8(b, 1);
-    let to = numbers::get_u8(b, 2);
-    let owner = numbers::get_u8(b, 3);
-    let number = numbers::get_u16(b, 4);
-    let ballot = numbers::get_u32(b, 6);
+    let from = numbers::get::<u8>(b, 1);
+    let to = numbers::get::<u8>(b, 2);
+    let owner = numbers::get::<u8>(b, 3);
+    let number = numbers::get::<u16>(b, 4);
+    let ballot = numbers::get::<u32>(b, 6);
     let body = read_body(k, p, b);
     let deps = read_beside(p, b);
     Message {
@@ -298,12 +298,12 @@ fn write_head(out: &mut [u8], at: usize, m: Message)
 {
     let body = m.body;
     let kind = kind_of(body);
-    numbers::put_u8(&mut *out, at, kind);
-    numbers::put_u8(&mut *out, at + 1, m.from);
-    numbers::put_u8(&mut *out, at + 2, m.to);
-    numbers::put_u8(&mut *out, at + 3, m.owner);
-    numbers::put_u16(&mut *out, at + 4, m.number);
-    numbers::put_u32(&mut *out, at + 6, m.ballot);
+    numbers::put(&mut *out, at, kind);
+    numbers::put(&mut *out, at + 1, m.from);
+    numbers::put(&mut *out, at + 2, m.to);
+    numbers::put(&mut *out, at + 3, m.owner);
+    numbers::put(&mut *out, at + 4, m.number);
+    numbers::put(&mut *out, at + 6, m.ballot);
 }
 
 fn write_told(out: &mut [u8], at: usize, has: bool, x: Carried)
@@ -311,8 +311,8 @@ fn write_told(out: &mut [u8], at: usize, has: bool, x: Carried)
     ensures { out.new ≡ splice out.old at (part has (told_bytes x)) }
 {
     if has {
-        numbers::put_u32(&mut *out, at, x.voted);
-        numbers::put_u8(&mut *out, at + 4, x.status);
+        numbers::put(&mut *out, at, x.voted);
+        numbers::put(&mut *out, at + 4, x.status);
     }
 }
 
@@ -339,7 +339,7 @@ fn write_joined(out: &mut [u8], at: usize, has: bool, x: Carried)
     ensures { out.new ≡ splice out.old at (part has (joined_bytes x)) }
 {
     if has {
-        numbers::put_u32(out, at, x.joined);
+        numbers::put(out, at, x.joined);
     }
 }
 

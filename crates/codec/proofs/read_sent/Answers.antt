@@ -1,13 +1,18 @@
+use mathlib.Core.Path.{◌≡◌, ap}
+use Prim.Native.Nat.{ℕ, ◌+◌}
+use native.Mathlib.Omega.{arith}
+use Rattle.paper.specs.declared.Op.TheVariants.{Rewire}
+use Rattle.paper.specs.declared.Command.{Command}
+use Rattle.codec.specs.Parts.{command_at, sent_at}
 use Rattle.codec.proofs.read_sent.Goals as goal
 
-pub read_long-requires : goal.read_long-requires
-read_long-requires c = rw c.if-second.true at c.requires
-
 pub returns-then-second : goal.returns-then-second
-returns-then-second c = rw c.if-second.true c.read_long.ensures
-
-pub read_short-requires : goal.read_short-requires
-read_short-requires c = rw c.if-second.false at c.requires
+unfolding command_at sent_at
+returns-then-second c = rw c.if-second.true (ap (λ (k : Command). record { op = Rewire; key = k.key; second = k.second; edit = k.edit }) c.read_command.ensures)
 
 pub returns : goal.returns
-returns c = rw c.if-second.false c.read_short.ensures
+unfolding sent_at
+returns c =
+    let at : ℕ = c.args.at in
+    let e : at + 5 ≡ at + 1 + 4 = omega arith in
+    rw c.if-second.false cc

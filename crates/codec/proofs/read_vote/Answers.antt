@@ -8,5 +8,6 @@ pub returns : goal.returns
 unfolding command_at deps_at vote_at
 returns c =
     let at : ℕ = c.args.at in
-    let e : at + 4 + 1 + 17 ≡ at + 4 + 1 + 1 + 4 + 4 + 8 = omega arith in
+    let e : at + 5 ≡ at + 4 + 1 = omega arith in
+    let f : at + 22 ≡ at + 4 + 1 + 1 + 4 + 4 + 8 = omega arith in
     cc

@@ -12,18 +12,12 @@ use Rattle.codec.proofs.write_command.Goals as goal
 pub returns : goal.returns
 unfolding command_bytes
 returns c =
-    let c4 = c in
-    let c3 = c4 in
-    let c2 = c3 in
-    let c1 = c2 in
-    let o = c1 in
-    let e = o in
-    let l : List ℕ = e.args.s.now in
-    let at = e.args.at in
-    let k = e.args.c in
-    let h : at + 17 ≤ length l = e.requires in
+    let l : List ℕ = c.args.s.now in
+    let at = c.args.at in
+    let k = c.args.c in
+    let h : at + 17 ≤ length l = c.requires in
     let u = bytes_of 1 (op_number k.op) in
-    let w0 = rw o.op_byte-b.ensures at c1.put_u8.ensures in
-    let w1 = splice-step l at u (at + 1) (bytes_of 4 k.key) w0 c2.put_u32.ensures refl (omega arith) in
-    let w2 = splice-step l at (u ++ bytes_of 4 k.key) (at + 5) (bytes_of 4 k.second) w1 c3.put_u32-2.ensures refl (omega arith) in
-    splice-step l at (u ++ bytes_of 4 k.key ++ bytes_of 4 k.second) (at + 9) (bytes_of 8 k.edit) w2 c4.put_u64.ensures refl (omega arith)
+    let w0 = rw c.op_byte.ensures at c.put.ensures in
+    let w1 = splice-step l at u (at + 1) (bytes_of 4 k.key) w0 c.put-2.ensures refl (omega arith) in
+    let w2 = splice-step l at (u ++ bytes_of 4 k.key) (at + 5) (bytes_of 4 k.second) w1 c.put-3.ensures refl (omega arith) in
+    splice-step l at (u ++ bytes_of 4 k.key ++ bytes_of 4 k.second) (at + 9) (bytes_of 8 k.edit) w2 c.put-4.ensures refl (omega arith)

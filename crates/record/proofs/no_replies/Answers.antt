@@ -1,22 +1,11 @@
-use mathlib.Core.Path.{refl}
-use native.Mathlib.Omega.{arith}
-use Rattle.record.proofs.Quick.{clear-start, clear_next, clear-all}
+use Rattle.std.proofs.Common.{rules, tests}
+use lib.Bits.{bit_or}
+use Rattle.std.proofs.lemmas.Iterator.{YieldsList-from_slice}
+use Rattle.std.proofs.lemmas.Iterator.Consumers.{fold_from_yields_List}
+use Rattle.record.proofs.Quick.{clear}
 use Rattle.record.proofs.no_replies.Goals as goal
 
-pub loop-i-init : goal.loop-i-init
-loop-i-init c = (clear-start _, c.requires)
-
-pub bounds-b-i : goal.bounds-b-i
-bounds-b-i c = omega (arith, c.loop-i.invariant.1)
-
-pub overflow_add-i : goal.overflow_add-i
-overflow_add-i c = omega arith
-
-pub loop-i-smaller : goal.loop-i-smaller
-loop-i-smaller c = omega arith
-
-pub loop-i-preserved : goal.loop-i-preserved
-loop-i-preserved c = (clear_next _ _ _ c.loop-i.invariant.0 c.loop-i-test.true refl, c.loop-i.invariant.1)
-
 pub returns : goal.returns
-returns c = clear-all _ _ _ c.loop-i.invariant.0 (λ h. omega arith)
+returns c =
+    let all = fold_from_yields_List _ bit_or 0 c.fold.result c.fold.ensures.ran (YieldsList-from_slice _ c.iter.ensures.rest) (λ a x b q k. search (rules, tests)) in
+    rw all (clear c.args.b.now c.requires)

@@ -1,10 +1,6 @@
-use mathlib.Core.Path.{ap, ◌∙◌}
-use Rattle.paper.specs.Vote.{none_is_blank}
+use borrow.Author.Tests.{ne_eqb}
 use Rattle.record.proofs.Front.{none-some}
 use Rattle.record.proofs.none_is_blank_in.Goals as goal
 
-pub returns-then-status-ne0 : goal.returns-then-status-ne0
-returns-then-status-ne0 c = none-some _ c.get_u8-status.ensures c.if-status-ne0.true
-
-pub returns : goal.returns
-returns c = c.none_is_blank.ensures ∙ ap none_is_blank c.read_vote.ensures
+pub returns-then-get-ne0 : goal.returns-then-get-ne0
+returns-then-get-ne0 c = rw (ne_eqb c.get.result 0 c.if-get-ne0.true) (none-some _ c.get.ensures c.if-get-ne0.true)

@@ -29,7 +29,7 @@ returns c =
     let n1 : length b1 ≡ 40 = simp length-append (omega arith) in
     let n2 : length b2 ≡ 41 = simp length-append (omega arith) in
     let n3 : length b3 ≡ 42 = simp length-append (omega arith) in
-    let w1 = splice-step l 0 (bytes_of 4 r.joined) 4 (vote_bytes r.vote) c1.put_u32.ensures c2.write_vote.ensures refl (omega arith) in
-    let w2 = splice-step l 0 b1 40 (bytes_of 1 r.mark) w1 c3.put_u8.ensures (omega arith) (omega arith) in
-    let w3 = splice-step l 0 b2 41 (bytes_of 1 r.phase) w2 c4.put_u8-2.ensures (omega arith) (omega arith) in
-    splice-step l 0 b3 42 (bytes_of 1 r.set) w3 c5.put_u8-3.ensures (omega arith) (omega arith)
+    let w1 = splice-step l 0 (bytes_of 4 r.joined) 4 (vote_bytes r.vote) c1.put.ensures c2.write_vote.ensures refl (omega arith) in
+    let w2 = splice-step l 0 b1 40 (bytes_of 1 r.mark) w1 c3.put-2.ensures (omega arith) (omega arith) in
+    let w3 = splice-step l 0 b2 41 (bytes_of 1 r.phase) w2 c4.put-3.ensures (omega arith) (omega arith) in
+    splice-step l 0 b3 42 (bytes_of 1 r.set) w3 c5.put-4.ensures (omega arith) (omega arith)

@@ -7,20 +7,20 @@ use Rattle.wire.specs.Wire.{carried_at, beside_at, message_at}
 use Rattle.wire.proofs.Laws.{begins}
 use Rattle.wire.proofs.message_at.Goals as goal
 
-pub get_u8-from-requires : goal.get_u8-from-requires
-get_u8-from-requires c = let s = c in omega (arith, s.requires.exact, begins s.args.p 10)
+pub get-from-requires : goal.get-from-requires
+get-from-requires c = let s = c in omega (arith, s.requires.exact, begins s.args.p 10)
 
-pub get_u8-to-requires : goal.get_u8-to-requires
-get_u8-to-requires c = let s = c in omega (arith, s.requires.exact, begins s.args.p 10)
+pub get-to-requires : goal.get-to-requires
+get-to-requires c = let s = c in omega (arith, s.requires.exact, begins s.args.p 10)
 
-pub get_u8-owner-requires : goal.get_u8-owner-requires
-get_u8-owner-requires c = let s = c in omega (arith, s.requires.exact, begins s.args.p 10)
+pub get-owner-requires : goal.get-owner-requires
+get-owner-requires c = let s = c in omega (arith, s.requires.exact, begins s.args.p 10)
 
-pub get_u16-number-requires : goal.get_u16-number-requires
-get_u16-number-requires c = let s = c in omega (arith, s.requires.exact, begins s.args.p 10)
+pub get-number-requires : goal.get-number-requires
+get-number-requires c = let s = c in omega (arith, s.requires.exact, begins s.args.p 10)
 
-pub get_u32-ballot-requires : goal.get_u32-ballot-requires
-get_u32-ballot-requires c = let s = c in omega (arith, s.requires.exact, begins s.args.p 10)
+pub get-ballot-requires : goal.get-ballot-requires
+get-ballot-requires c = let s = c in omega (arith, s.requires.exact, begins s.args.p 10)
 
 pub read_body-body-requires : goal.read_body-body-requires
 read_body-body-requires c = c.requires.exact
@@ -37,11 +37,11 @@ returns c =
     let body = c.read_body-body.ensures ∙ ap₂ (λ (k : ℕ) (p : Parts). body_of k (carried_at p b)) s.requires.kind parts in
     let deps = c.read_beside-deps.ensures ∙ ap (λ (p : Parts). beside_at p b) parts in
     λ i. record {
-      from = c.get_u8-from.ensures i;
-      to = c.get_u8-to.ensures i;
-      owner = c.get_u8-owner.ensures i;
-      number = c.get_u16-number.ensures i;
-      ballot = c.get_u32-ballot.ensures i;
+      from = c.get-from.ensures i;
+      to = c.get-to.ensures i;
+      owner = c.get-owner.ensures i;
+      number = c.get-number.ensures i;
+      ballot = c.get-ballot.ensures i;
       body = body i;
       deps = deps i;
     }

@@ -10,9 +10,9 @@ pub returns-then-not-p : goal.returns-then-not-p
 unfolding op_at
 returns-then-not-p c = rw (not-true c.args.p.command c.if-not-p.true)
 
-pub get_u8-requires : goal.get_u8-requires
-get_u8-requires c = let s = c in omega (arith, s.requires, c.command_start-at.ensures, command-room s.args.p 10 (not-false _ c.if-not-p.false), sent-least s.args.p.second)
+pub get-requires : goal.get-requires
+get-requires c = let s = c in omega (arith, s.requires, c.command_start-at.ensures, command-room s.args.p 10 (not-false _ c.if-not-p.false), sent-least s.args.p.second)
 
 pub returns : goal.returns
 unfolding op_at
-returns c = rw (not-false c.args.p.command c.if-not-p.false) (c.wide8.ensures ∙ c.get_u8.ensures ∙ ap (num_at 1 c.args.b.now) c.command_start-at.ensures)
+returns c = rw (not-false c.args.p.command c.if-not-p.false) (c.wide8.ensures ∙ c.get.ensures ∙ ap (num_at 1 c.args.b.now) c.command_start-at.ensures)

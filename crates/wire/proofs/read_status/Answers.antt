@@ -6,8 +6,8 @@ use Rattle.wire.proofs.read_status.Goals as goal
 pub returns-then-not-p : goal.returns-then-not-p
 returns-then-not-p c = rw (not-true c.args.p.told c.if-not-p.true)
 
-pub get_u8-requires : goal.get_u8-requires
-get_u8-requires c = let s = c in omega (arith, s.requires, told-room s.args.p 10 (not-false _ c.if-not-p.false))
+pub get-requires : goal.get-requires
+get-requires c = let s = c in omega (arith, s.requires, told-room s.args.p 10 (not-false _ c.if-not-p.false))
 
 pub returns : goal.returns
-returns c = rw (not-false c.args.p.told c.if-not-p.false) c.get_u8.ensures
+returns c = rw (not-false c.args.p.told c.if-not-p.false) c.get.ensures

@@ -29,9 +29,9 @@ returns c =
     let b2 = b1 ++ bytes_of 1 m.to in
     let b3 = b2 ++ bytes_of 1 m.owner in
     let b4 = b3 ++ bytes_of 2 m.number in
-    let w0 = rw k.kind_of-kind.ensures at c1.put_u8.ensures in
-    let w1 = splice-step l at b0 (at + 1) (bytes_of 1 m.from) w0 c2.put_u8-2.ensures refl (omega arith) in
-    let w2 = splice-step l at b1 (at + 2) (bytes_of 1 m.to) w1 c3.put_u8-3.ensures refl (omega arith) in
-    let w3 = splice-step l at b2 (at + 3) (bytes_of 1 m.owner) w2 c4.put_u8-4.ensures refl (omega arith) in
-    let w4 = splice-step l at b3 (at + 4) (bytes_of 2 m.number) w3 c5.put_u16.ensures refl (omega arith) in
-    splice-step l at b4 (at + 6) (bytes_of 4 m.ballot) w4 c6.put_u32.ensures refl (omega arith)
+    let w0 = rw k.kind_of-kind.ensures at c1.put.ensures in
+    let w1 = splice-step l at b0 (at + 1) (bytes_of 1 m.from) w0 c2.put-2.ensures refl (omega arith) in
+    let w2 = splice-step l at b1 (at + 2) (bytes_of 1 m.to) w1 c3.put-3.ensures refl (omega arith) in
+    let w3 = splice-step l at b2 (at + 3) (bytes_of 1 m.owner) w2 c4.put-4.ensures refl (omega arith) in
+    let w4 = splice-step l at b3 (at + 4) (bytes_of 2 m.number) w3 c5.put-5.ensures refl (omega arith) in
+    splice-step l at b4 (at + 6) (bytes_of 4 m.ballot) w4 c6.put-6.ensures refl (omega arith)

@@ -3,4 +3,4 @@ use Rattle.record.proofs.fields.joined_in.Goals as goal
 
 pub returns : goal.returns
 unfolding record_at
-returns c = c.get_u32.ensures
+returns c = c.get.ensures

@@ -4,4 +4,4 @@ use Rattle.record.proofs.fields.key_in.Goals as goal
 
 pub returns : goal.returns
 unfolding record_at vote_at
-returns c = c.get_u32.ensures
+returns c = c.get.ensures

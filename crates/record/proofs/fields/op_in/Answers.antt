@@ -5,4 +5,4 @@ use Rattle.record.proofs.fields.op_in.Goals as goal
 
 pub returns : goal.returns
 unfolding record_at vote_at
-returns c = c.op_of.ensures ∙ ap op_of c.get_u8.ensures
+returns c = c.op_of.ensures ∙ ap op_of c.get.ensures
