@@ -2,50 +2,72 @@
 // specs/; no code stands here.
 #![tactic(auto)]
 
+ghost use Rattle.std.specs.Prelude.{◌≡◌};
+
 use paper::Refusal;
 
-// How many bytes were written; 43 says that a replay would not take the entry.
-#[derive(Clone, Copy)]
-pub enum Entering {
-    Entry(usize),
+// Why no entry was written: a refusal, or 43, that a replay would not take it.
+#[derive(Clone, Copy, Debug, PartialEq, Eq)]
+pub enum Unwritten {
     Refused(Refusal),
     Unsound,
 }
 
-// What is refused before the record is looked at.
-#[derive(Clone, Copy)]
-pub enum Gate {
-    Open,
-    Shut(Refusal),
+impl From<Refusal> for Unwritten {
+    ghost use Rattle.entries.specs.declared.Unwritten.TheVariants.{Refused};
+
+    ghost from_gives = { λ why e. e ≡ Refused why };
+
+    fn from(why: Refusal) -> Unwritten {
+        Unwritten::Refused(why)
+    }
 }
 
 // What is wrong with an entry: its kind, its instance, or its record or mark.
-#[derive(Clone, Copy)]
+#[derive(Clone, Copy, Debug, PartialEq, Eq)]
 pub enum Fault {
     Kind,
     Instance,
     Unsound,
 }
 
-// What stands in front: an entry, less than one, or one that is bad.
-#[derive(Clone, Copy)]
+// What stands in front where nothing is wrong: an entry, or less than one.
+#[derive(Clone, Copy, Debug, PartialEq, Eq)]
 pub enum Front {
     Whole,
     Rest,
-    Bad(Fault),
 }
 
-// Where the walk over a journal ends, and what stands there.
-#[derive(Clone, Copy)]
-pub struct Ended {
-    pub front: Front,
-    pub at: usize,
+// What is wrong, and with the entry at which offset.
+#[derive(Clone, Copy, Debug, PartialEq, Eq)]
+pub struct BadEntry {
+    pub why: Fault,
+    pub offset: usize,
 }
 
-// Where a shorter rest begins, or the journal ends; or what is wrong, and with the entry at which offset.
-#[derive(Clone, Copy)]
-pub enum Replaying {
-    Upto(usize),
-    Bad { why: Fault, offset: usize },
+// Why a journal was not replayed: its table is refused, or one of its entries.
+#[derive(Clone, Copy, Debug, PartialEq, Eq)]
+pub enum Unreplayed {
     Refused(Refusal),
+    Bad(BadEntry),
+}
+
+impl From<Refusal> for Unreplayed {
+    ghost use Rattle.entries.specs.declared.Unreplayed.TheVariants.{Refused};
+
+    ghost from_gives = { λ why e. e ≡ Refused why };
+
+    fn from(why: Refusal) -> Unreplayed {
+        Unreplayed::Refused(why)
+    }
+}
+
+impl From<BadEntry> for Unreplayed {
+    ghost use Rattle.entries.specs.declared.Unreplayed.TheVariants.{Bad};
+
+    ghost from_gives = { λ entry e. e ≡ Bad entry };
+
+    fn from(entry: BadEntry) -> Unreplayed {
+        Unreplayed::Bad(entry)
+    }
 }
