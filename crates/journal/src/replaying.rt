@@ -6,7 +6,7 @@ ghost use Rattle.journal.specs.Judging.{Ready, Puts};
 
 use crate::entry::{RECORD, entry_length, kind_in, number_in, owner_in, part_in};
 use crate::judging::end_of;
-use entries::{Ended, Front, Replaying};
+use entries::Unreplayed;
 use table::records::{put_mark, put_part};
 use table::{Judging, judge_table};
 
@@ -38,27 +38,23 @@ fn put_entries(t: &mut [u8], n: usize, s: usize, b: &[u8])
 }
 
 // Past 1 and 11.
-fn replay_open(t: &mut [u8], n: usize, s: usize, c: usize, b: &[u8]) -> Replaying
+fn replay_open(t: &mut [u8], n: usize, s: usize, c: usize, b: &[u8]) -> Result<usize, Unreplayed>
     requires { Judged n s c t.old }
     ensures answers { result ≡ (replayed_open n s c t.old b.now).answer }
     ensures table { t.new ≡ (replayed_open n s c t.old b.now).table }
 {
-    let Ended { front, at } = end_of(&*t, n, s, c, b);
-    if let Front::Bad(why) = front {
-        return Replaying::Bad { why, offset: at };
-    }
+    let at = end_of(&*t, n, s, c, b)?;
     put_entries(t, n, s, &b[..at]);
-    Replaying::Upto(at)
+    Ok(at)
 }
 
 // The table after the last whole entry, and where a shorter rest begins.
-pub fn replay(t: &mut [u8], n: usize, s: usize, c: usize, b: &[u8]) -> Replaying
+pub fn replay(t: &mut [u8], n: usize, s: usize, c: usize, b: &[u8]) -> Result<usize, Unreplayed>
     ensures answers { result ≡ (replayed n s c t.old b.now).answer }
     ensures table { t.new ≡ (replayed n s c t.old b.now).table }
 {
-    let judging = judge_table(&*t, n, s, c);
-    if let Judging::Refused(why) = judging {
-        return Replaying::Refused(why);
+    if let Judging::Refused(why) = judge_table(&*t, n, s, c) {
+        return Err(Unreplayed::Refused(why));
     }
     replay_open(t, n, s, c, b)
 }

@@ -1,14 +1,13 @@
 use mathlib.Core.Path.{sym, ◌∙◌}
 use Rattle.order.proofs.Judged.{passed}
 use Rattle.journal.proofs.Replayed.{replay-refused, replay-past}
-use borrow.Author.Rules.{rules}
 use Rattle.journal.proofs.replaying.replay.Goals as goal
 
 pub returns-in-Refused : goal.returns-in-Refused
-returns-in-Refused c = replay-refused _ _ _ _ _ _ (sym c.in-Refused.is ∙ c.judge_table-judging.ensures)
+returns-in-Refused c = replay-refused _ _ _ _ _ _ (sym c.in-Refused.is ∙ c.judge_table.ensures)
 
 pub replay_open-requires : goal.replay_open-requires
-replay_open-requires c = passed _ _ _ _ (sym c.in_default.is ∙ c.judge_table-judging.ensures)
+replay_open-requires c = passed _ _ _ _ (sym c.in_default.is ∙ c.judge_table.ensures)
 
 pub returns : goal.returns
-returns c = replay-past _ _ _ _ _ (sym c.in_default.is ∙ c.judge_table-judging.ensures) c.replay_open.ensures
+returns c = replay-past _ _ _ _ _ (sym c.in_default.is ∙ c.judge_table.ensures) c.replay_open.ensures
