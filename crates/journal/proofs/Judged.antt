@@ -16,7 +16,6 @@ use Rattle.table.specs.Table.{record_in}
 use Rattle.table.specs.Calls.{record_of}
 use Rattle.rows.specs.Rows.{slot_of}
 use Rattle.entries.specs.declared.Fault.{Fault}
-use Rattle.entries.specs.declared.Fault.TheVariants as fault
 use Rattle.entries.specs.declared.Front.{Front}
 use Rattle.entries.specs.declared.Front.TheVariants as front
 use Rattle.entries.specs.declared.BadEntry.{BadEntry}

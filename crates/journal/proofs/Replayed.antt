@@ -24,7 +24,7 @@ use Rattle.entries.specs.declared.BadEntry.{BadEntry}
 use Rattle.entries.specs.declared.Unreplayed.{Unreplayed}
 use Rattle.entries.specs.declared.Unreplayed.TheVariants as unreplayed
 use Rattle.entries.specs.Entry.{record_kind, entry_head, entry_length, kind_in, owner_in, number_in, part_in}
-use Rattle.entries.specs.Replay.{committed_in, entry_ok, front_of, applied, behind, or_on, end_of, puts, Replayed, replayed_at, replayed_open, replayed}
+use Rattle.entries.specs.Replay.{committed_in, entry_ok, front_of, applied, behind, or_on, end_of, puts, Replayed, replayed_open, replayed}
 use Rattle.entries.specs.Entry.{Fit}
 use Rattle.journal.specs.Judging.{Held, Ready}
 use Rattle.entries.proofs.Lengths.{length-least, length-record}

@@ -1,6 +1,5 @@
 use native.Mathlib.Omega.{arith}
 use borrow.Author.Tests.{ne_eqb}
-use borrow.Author.Rules.{rules}
 use Rattle.journal.proofs.entry.entry_length.Goals as goal
 
 pub returns-in-20 : goal.returns-in-20

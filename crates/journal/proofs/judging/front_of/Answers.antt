@@ -1,5 +1,4 @@
 use mathlib.Core.Path.{sym, ap, ◌∙◌}
-use borrow.Author.Tests.{not-true, not-false}
 use native.Mathlib.Omega.{arith}
 use Rattle.entries.specs.Entry.{entry_length, kind_in}
 use Rattle.entries.proofs.Lengths.{length-least}

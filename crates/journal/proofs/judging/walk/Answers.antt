@@ -1,5 +1,4 @@
 use mathlib.Core.Path.{◌∙◌, ap}
-use Prim.Native.Nat.{◌-◌}
 use native.Mathlib.Omega.{arith}
 use Rattle.journal.proofs.Judged.{walk_start, walk_end, walk-rests, walk-stops, walk-fit, walk-room, walk-on}
 use Rattle.entries.specs.Entry.{entry_length}

@@ -1,5 +1,4 @@
 use mathlib.Core.Path.{sym, ◌∙◌}
-use borrow.Author.Tests.{not-true, not-false}
 use native.Mathlib.Omega.{arith}
 use Rattle.table.proofs.Laws.{sizes}
 use Rattle.entries.proofs.Written.{enters-small, record-unsound, record-size, record-room, record-put}
