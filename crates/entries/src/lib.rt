@@ -1,8 +1,9 @@
-// What the calls on a journal answer, as types. Entries, what is written and what a replay makes of them are the definitions under
-// specs/; no code stands here.
+// What the calls on a journal answer, as types, and a fault's number. Entries, what is written and what a replay makes of them are
+// the definitions under specs/.
 #![tactic(auto)]
 
 ghost use Rattle.std.specs.Prelude.{◌≡◌};
+ghost use Rattle.entries.specs.Replay.{fault_number};
 
 use paper::Refusal;
 
@@ -29,6 +30,19 @@ pub enum Fault {
     Kind,
     Instance,
     Unsound,
+}
+
+impl Fault {
+    // Its number in the paper.
+    pub fn number(self) -> u32
+        ensures { result ≡ fault_number self }
+    {
+        match self {
+            Fault::Kind => 41,
+            Fault::Instance => 42,
+            Fault::Unsound => 43,
+        }
+    }
 }
 
 // What stands in front where nothing is wrong: an entry, or less than one.
