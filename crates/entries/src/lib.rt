@@ -1,11 +1,41 @@
-// What the calls on a journal answer, as types, and a fault's number. Entries, what is written and what a replay makes of them are
-// the definitions under specs/.
+// The kinds of entries and what the calls on a journal answer, as types, and the numbers of kinds and faults. Entries, what is
+// written and what a replay makes of them are the definitions under specs/.
 #![tactic(auto)]
 
 ghost use Rattle.std.specs.Prelude.{◌≡◌};
+ghost use Rattle.entries.specs.Entry.{kind_number, kind_of};
 ghost use Rattle.entries.specs.Replay.{fault_number};
 
 use paper::Refusal;
+
+// What an entry tells of its instance: its record, or that it was newly marked as handed out.
+#[derive(Clone, Copy, Debug, PartialEq, Eq)]
+pub enum Kind {
+    Record,
+    Mark,
+}
+
+impl Kind {
+    pub fn number(self) -> u8
+        ensures { result ≡ kind_number self }
+    {
+        match self {
+            Kind::Record => 20,
+            Kind::Mark => 21,
+        }
+    }
+
+    // The kind of a number, if there is one.
+    pub fn of(number: usize) -> Option<Kind>
+        ensures { result ≡ kind_of number }
+    {
+        match number {
+            20 => Some(Kind::Record),
+            21 => Some(Kind::Mark),
+            _ => None,
+        }
+    }
+}
 
 // Why no entry was written: a refusal, or 43, that a replay would not take it.
 #[derive(Clone, Copy, Debug, PartialEq, Eq)]

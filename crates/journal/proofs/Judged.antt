@@ -9,7 +9,7 @@ use native.Mathlib.Decide.{ℕ_discrete}
 use lib.Dec.{eqb}
 use lib.ListN.{length, get_or, set, take, drop, length-set, length-drop}
 use lib.Seq.{get_or-set_same, get_or-set_other, take_all, drop-drop}
-use Rattle.std.specs.Prelude.{Result, Ok, Err}
+use Rattle.std.specs.Prelude.{Some, Result, Ok, Err}
 use Rattle.paper.specs.Instance.{instance_ok}
 use Rattle.table.specs.Sizes.{Names}
 use Rattle.table.specs.Table.{record_in}
@@ -19,11 +19,12 @@ use Rattle.entries.specs.declared.Fault.{Fault}
 use Rattle.entries.specs.declared.Front.{Front}
 use Rattle.entries.specs.declared.Front.TheVariants as front
 use Rattle.entries.specs.declared.BadEntry.{BadEntry}
-use Rattle.entries.specs.Entry.{record_kind, entry_length, kind_in, owner_in, number_in, part_in}
+use Rattle.entries.specs.declared.Kind.{Kind}
+use Rattle.entries.specs.Entry.{record_kind, kind_of, kind_length, entry_length, kind_in, owner_in, number_in, part_in}
 use Rattle.entries.specs.Replay.{front_of, behind, or_on}
 use Rattle.entries.specs.Entry.{Fit}
 use Rattle.journal.specs.Judging.{told, noted, end_by, Charted, Tells}
-use Rattle.entries.proofs.Lengths.{length-least}
+use Rattle.entries.proofs.Lengths.{kind-known, kind-some, length-least}
 use Rattle.entries.proofs.Fronts.{front-none, front-fit, or-rests, or-stops}
 
 -- statuses, place by place
@@ -61,8 +62,9 @@ module _ (n s : ℕ) (b : List ℕ) {o j : ℕ} (eo : o ≡ owner_in b) (ej : j 
   pub in-range : r ≡ instance_ok n s (owner_in b) (number_in b)
   in-range = er ∙ rw (eo, ej)
 
-  pub fits_in : n ≤ 7 → s ≤ 64 → {x : ℕ} → x ≡ entry_length (kind_in b) → (x ≡ 0 → ⊥) → x ≤ length b → r ≡ true → Fit n s b
-  fits_in ln ls ex known whole e = record { known = λ z. known (ex ∙ z); whole = rw ex at whole; copies = ln; numbers = ls; range = sym in-range ∙ e }
+  pub fits_in : n ≤ 7 → s ≤ 64 → {x : Kind} → kind_of (kind_in b) ≡ Some x → kind_length x ≤ length b → r ≡ true → Fit n s b
+  fits_in ln ls k whole e =
+      record { known = kind-some (kind_in b) k; whole = rw (kind-known (kind_in b) k) whole; copies = ln; numbers = ls; range = sym in-range ∙ e }
 
 -- what is left behind an offset
 pub rest-is : (b : List ℕ) (at : ℕ) → take (length b - at) (drop at b) ≡ drop at b

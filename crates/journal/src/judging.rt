@@ -6,8 +6,10 @@ ghost use Rattle.entries.specs.Entry.{Fit};
 ghost use Rattle.entries.specs.Replay.{entry_ok, front_of, end_of};
 ghost use Rattle.journal.specs.Judging.{told, noted, end_by, Asked, Charted, Tells, RowCharting, Charting};
 
-use crate::entry::{RECORD, entry_length, kind_in, number_in, owner_in, part_in, part_sound};
-use entries::{BadEntry, Fault, Front};
+use crate::entry::{
+    entry_length, has_record, kind_in, kind_length, number_in, owner_in, part_in, part_sound,
+};
+use entries::{BadEntry, Fault, Front, Kind};
 use nouns::setup::instance_ok;
 use record::fields::status_in;
 use rows::slot_of;
@@ -19,7 +21,7 @@ fn entry_ok(b: &[u8], n: usize, s: usize, c: usize, st: &[u8]) -> bool
     ensures { result ≡ entry_ok n s c (told st.now) b.now }
 {
     let o = owner_in(b);
-    if kind_in(b) == RECORD {
+    if has_record(b) {
         return part_sound(part_in(b), n, s, c, o);
     }
     let x = slot_of(o, number_in(b));
@@ -30,14 +32,11 @@ fn front_of(b: &[u8], n: usize, s: usize, c: usize, st: &[u8]) -> Result<Front, 
     requires { Asked n s c st.now }
     ensures { result ≡ front_of n s c (told st.now) b.now }
 {
-    if b.len() == 0 {
+    if b.is_empty() {
         return Ok(Front::Rest);
     }
-    let size = entry_length(kind_in(b));
-    if size == 0 {
-        return Err(Fault::Kind);
-    }
-    if b.len() < size {
+    let kind = Kind::of(kind_in(b)).ok_or(Fault::Kind)?;
+    if b.len() < kind_length(kind) {
         return Ok(Front::Rest);
     }
     if !instance_ok(n, s, owner_in(b), number_in(b)) {
@@ -54,7 +53,7 @@ fn note(st: &mut [u8], n: usize, s: usize, b: &[u8])
     requires { Fit n s b.now × (length st.old ≡ 448) }
     ensures { st.new ≡ noted st.old b.now }
 {
-    if kind_in(b) != RECORD {
+    if !has_record(b) {
         return;
     }
     let x = slot_of(owner_in(b), number_in(b));

@@ -4,7 +4,7 @@ ghost use Rattle.table.specs.Table.{Judged};
 ghost use Rattle.entries.specs.Replay.{applied, puts, replayed_open, replayed};
 ghost use Rattle.journal.specs.Judging.{Ready, Puts};
 
-use crate::entry::{RECORD, entry_length, kind_in, number_in, owner_in, part_in};
+use crate::entry::{entry_length, has_record, kind_in, number_in, owner_in, part_in};
 use crate::judging::end_of;
 use entries::Unreplayed;
 use table::records::{put_mark, put_part};
@@ -17,7 +17,7 @@ fn put_entry(t: &mut [u8], n: usize, s: usize, b: &[u8])
 {
     let o = owner_in(b);
     let j = number_in(b);
-    if kind_in(b) == RECORD {
+    if has_record(b) {
         put_part(t, n, s, o, j, part_in(b));
         return;
     }

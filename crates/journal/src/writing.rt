@@ -6,8 +6,8 @@ ghost use Rattle.rules.specs.Order.{is_marked};
 ghost use Rattle.table.specs.Table.{record_in};
 ghost use Rattle.entries.specs.Writing.{Enters, gate_of, record_open, mark_open, record_entered, mark_entered};
 
-use crate::entry::{HEAD, MARK, RECORD, part_sound, write_head};
-use entries::Unwritten;
+use crate::entry::{HEAD, part_sound, write_head};
+use entries::{Kind, Unwritten};
 use nouns::setup::instance_ok;
 use paper::Refusal;
 use record::places::LENGTH;
@@ -57,7 +57,7 @@ fn record_open(
     if !part_sound(part, n, s, c, o) {
         return Err(Unwritten::Unsound);
     }
-    write_head(&mut *out, RECORD, o, j);
+    write_head(&mut *out, Kind::Record, o, j);
     numbers::put_bytes(out, HEAD, part);
     Ok(HEAD + LENGTH)
 }
@@ -87,7 +87,15 @@ fn handed_out(t: &[u8], n: usize, s: usize, o: usize, j: usize) -> bool
     status_of(t, n, s, o, j) == 4 && mark_of(t, n, s, o, j) == 1
 }
 
-fn mark_open(t: &[u8], n: usize, s: usize, c: usize, out: &mut [u8], o: usize, j: usize) -> Result<usize, Unwritten>
+fn mark_open(
+    t: &[u8],
+    n: usize,
+    s: usize,
+    c: usize,
+    out: &mut [u8],
+    o: usize,
+    j: usize,
+) -> Result<usize, Unwritten>
     requires { Enters n s c t.now out.old 21 o j }
     ensures answers { result ≡ (mark_open s t.now out.old o j).answer }
     ensures out { out.new ≡ (mark_open s t.now out.old o j).out }
@@ -95,7 +103,7 @@ fn mark_open(t: &[u8], n: usize, s: usize, c: usize, out: &mut [u8], o: usize, j
     if !handed_out(t, n, s, o, j) {
         return Err(Unwritten::Unsound);
     }
-    write_head(out, MARK, o, j);
+    write_head(out, Kind::Mark, o, j);
     Ok(HEAD)
 }
 
