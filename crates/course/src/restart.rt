@@ -1,6 +1,6 @@
 // A copy that was cut off starts again, and a journal begins anew.
 use crate::turn::{Turn, halted, went};
-use entries::Replaying;
+use entries::Unreplayed;
 use say::restart::{say_bad, say_replayed, say_unreplayed};
 use say::value::say;
 use scene::Scene;
@@ -25,12 +25,12 @@ pub fn restart(all: &mut [u8], w: Scene, c: usize) -> Turn {
     let table = disk.table;
     let answer = disk.answer;
     match answer {
-        Replaying::Upto(at) => go_on(all, w, c, &table, at),
-        Replaying::Bad { why, offset } => {
-            say_bad(c, why, offset);
+        Ok(at) => go_on(all, w, c, &table, at),
+        Err(Unreplayed::Bad(bad)) => {
+            say_bad(c, bad);
             went(w)
         }
-        Replaying::Refused(why) => {
+        Err(Unreplayed::Refused(why)) => {
             say_unreplayed(c, why);
             went(w)
         }

@@ -23,7 +23,7 @@ use Rattle.order.specs.declared.Handing.TheVariants.{Codes}
 use Rattle.order.specs.Calls.{settled, handed}
 use Rattle.entries.specs.Entry.{record_entry}
 use Rattle.entries.specs.Replay.{Replayed, committed_in, replayed, replaying_offset}
-use Rattle.entries.specs.declared.Replaying.TheVariants.{Upto}
+use Rattle.std.specs.Prelude.{Ok}
 use Rattle.entries.specs.Journal.{Journal, none}
 use Rattle.entries.proofs.Journal.{joined, replays-rest}
 use Rattle.safety.specs.Run.{Instance, Happening, requested, answered, Setup}
@@ -433,7 +433,7 @@ module _ (n s : ℕ) (setup : Setup n s) where
       cut-journal : Journal n s c k.base (safe_part k ++ cut.kept) cut.end.disk
       cut-journal = joined d.journal (chain-journal n s setup c copy x.history w.state beside.rules beside.tie refl w.sent cut.chain)
 
-      pub cut-replays : replayed n s c k.base (take p k.disk) ≡ record { answer = Upto (length (safe_part k ++ cut.kept)); table = cut.end.disk }
+      pub cut-replays : replayed n s c k.base (take p k.disk) ≡ record { answer = Ok (length (safe_part k ++ cut.kept)); table = cut.end.disk }
       cut-replays =
           ap (replayed n s c k.base) cut_parts
           ∙ replays-rest n s c k.base (safe_part k ++ cut.kept) cut.end.disk cut.rest judged-base cut-journal (cut.less (committed_in s cut.end.disk))
@@ -441,7 +441,7 @@ module _ (n s : ℕ) (setup : Setup n s) where
       pub cut-safe : k.safe ≤ length (safe_part k ++ cut.kept)
       cut-safe = rw (length-append (safe_part k) cut.kept) (omega (arith, length-take-le k.safe k.disk d.within))
 
-      cut-after : (e : ℕ) → (replayed n s c k.base (take p k.disk)).answer ≡ Upto e → After w (changed x c (restarted n s c k p e))
+      cut-after : (e : ℕ) → (replayed n s c k.base (take p k.disk)).answer ≡ Ok e → After w (changed x c (restarted n s c k p e))
       cut-after e a =
           let long : length (safe_part k) ≡ k.safe = length-take-le k.safe k.disk d.within in
           let at : e ≡ length (safe_part k ++ cut.kept) = ap replaying_offset (sym a ∙ ap (λ (r : Replayed). r.answer) cut-replays) in

@@ -28,6 +28,7 @@ use Rattle.order.specs.declared.Handing.TheVariants.{Codes}
 use Rattle.order.specs.Calls.{marked_in, handed}
 use Rattle.entries.specs.Entry.{entry_length, kind_in, record_entry, mark_entry}
 use Rattle.entries.specs.Replay.{front_of}
+use Rattle.std.specs.Prelude.{Ok}
 use Rattle.entries.specs.declared.Front.TheVariants as front
 use Rattle.entries.specs.Journal.{Journal, none, record-then, mark-then}
 use Rattle.entries.proofs.Framed.{short-rest, none_rest}
@@ -229,7 +230,7 @@ pub record Left (n s c : ℕ) (sent : List (List ℕ)) (past : List (Happening S
   pub end : place.Copy
   pub chain : Chain n s c sent past k kept end
   pub parts : take p b ≡ kept ++ rest
-  pub less : (done : ℕ → ℕ → Bool) → front_of n s c done rest ≡ front.Rest
+  pub less : (done : ℕ → ℕ → Bool) → front_of n s c done rest ≡ Ok front.Rest
   pub memory : end.lent ≡ end.disk
   pub none : end.listed ≡ []
 

@@ -17,8 +17,7 @@ use Rattle.rules.specs.Order.{is_marked}
 use Rattle.table.specs.Table.{blank_table, record_in}
 use Rattle.table.specs.Calls.{judged}
 use Rattle.gate.specs.Events.{answer_number}
-use Rattle.entries.specs.declared.Front.TheVariants as front
-use Rattle.entries.specs.declared.Replaying.TheVariants.{Upto}
+use Rattle.std.specs.Prelude.{Ok}
 use Rattle.entries.specs.Replay.{Replayed, replayed, replayed_open, replayed_at, replayed_through, end_of, puts}
 use Rattle.entries.proofs.Journal.{replays}
 use Rattle.safety.specs.Run.{Instance, requested, Setup}
@@ -37,7 +36,7 @@ none-replayed : (n s c : ℕ) (t : List ℕ) → (replayed n s c t []).table ≡
 unfolding replayed replayed_open end_of puts
 none-replayed n s c t = go (judged n s c t)
   where
-    go : (j : Result Unit Refusal) → (replayed_through j t (replayed_at front.Rest 0 s t [])).table ≡ t
+    go : (j : Result Unit Refusal) → (replayed_through j t (replayed_at (Ok 0) s t [])).table ≡ t
     go (Ok x) = refl
     go (Err r) = refl
 
@@ -163,7 +162,7 @@ module _ (n s : ℕ) (setup : Setup n s) where
   in_memory x₀ x st r c l e =
       let w = at st r in
       replays n s c (x.copies c).base (x.copies c).disk (w.sides c l).end.disk (judged-base n s setup x w c l) (all-written n s setup x w c l e)
-      ∙ ap (λ (t : List ℕ). record { answer = Upto (length (x.copies c).disk); table = t }) (sym (memory n s setup x w c l))
+      ∙ ap (λ (t : List ℕ). record { answer = Ok (length (x.copies c).disk); table = t }) (sym (memory n s setup x w c l))
 
   pub restarts : Restarts n s
   restarts x₀ x st r c p l le lt =

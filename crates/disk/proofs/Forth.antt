@@ -26,7 +26,7 @@ use Rattle.order.specs.declared.Handing.TheVariants.{Codes}
 use Rattle.order.specs.Calls.{marked_in, handed}
 use Rattle.entries.specs.Entry.{record_kind, mark_kind, entry_length, kind_in, record_entry, mark_entry}
 use Rattle.entries.specs.Replay.{Replayed, committed_in, replayed}
-use Rattle.entries.specs.declared.Replaying.TheVariants.{Upto}
+use Rattle.std.specs.Prelude.{Ok}
 use Rattle.entries.specs.Journal.{Journal, none, record-then, mark-then}
 use Rattle.entries.proofs.Framed.{record-long, short-rest}
 use Rattle.entries.proofs.Journal.{bounds, record-size, mark-size, replays, replays-rest}
@@ -163,13 +163,13 @@ module _ (n s : ℕ) (setup : Setup n s) where
       did-wait : k.coming ≡ [] → Got (waited k) (l ++ t) []
       did-wait e = step (waited at) (waited k) r.later.history (ap waited r.here) (move.wait c copy (ap (λ (z : Copy). z.coming) r.here ∙ e))
 
-      did-cut : (p e : ℕ) → k.safe ≤ p → p ≤ length k.disk → (replayed n s c k.base (take p k.disk)).answer ≡ Upto e
+      did-cut : (p e : ℕ) → k.safe ≤ p → p ≤ length k.disk → (replayed n s c k.base (take p k.disk)).answer ≡ Ok e
           → Got (restarted n s c k p e) (l ++ t) (cond (ltb e p) ((p - e) ∷ []) [])
       did-cut p e le lt a =
           let h : k ≡ at = sym r.here in
           step (restarted n s c at p e) (restarted n s c k p e) r.later.history (ap (λ (z : Copy). restarted n s c z p e) r.here)
           (move.cut c p e copy (subst (λ (z : Copy). z.safe ≤ p) h le) (subst (λ (z : Copy). p ≤ length z.disk) h lt)
-          (subst (λ (z : Copy). (replayed n s c z.base (take p z.disk)).answer ≡ Upto e) h a))
+          (subst (λ (z : Copy). (replayed n s c z.base (take p z.disk)).answer ≡ Ok e) h a))
 
     -- a call was answered, and its entries are still to be written
     abbrev opened : Copy → List ℕ → List ℕ → List (List ℕ) → Copy
@@ -218,7 +218,7 @@ module _ (n s : ℕ) (setup : Setup n s) where
           let long : length (take i b) ≡ i = ap length piece ∙ length-take-le i e (omega arith) in
           let sum : length d ≡ length k.disk + length (take i b) = length-append k.disk (take i b) in
           let left : take p d ≡ d = take-length d in
-          let answer : replayed n s c k.base (take p d) ≡ record { answer = Upto (length k.disk); table = q.disk } =
+          let answer : replayed n s c k.base (take p d) ≡ record { answer = Ok (length k.disk); table = q.disk } =
           ap (replayed n s c k.base) (left ∙ ap (λ (m : List ℕ). k.disk ++ m) piece)
           ∙ replays-rest n s c k.base k.disk q.disk (take i e) judged-base v.journal (short-rest n s c (committed_in s q.disk) e i size less) in
           let j : Copy = wrote (opened k b u h) i in
@@ -237,7 +237,7 @@ module _ (n s : ℕ) (setup : Setup n s) where
       cut_off t g =
           let p : ℕ = length k.disk in
           let left : take p k.disk ≡ k.disk = take-length k.disk in
-          let answer : replayed n s c k.base k.disk ≡ record { answer = Upto (length k.disk); table = q.disk } = replays n s c k.base k.disk q.disk judged-base v.journal in
+          let answer : replayed n s c k.base k.disk ≡ record { answer = Ok (length k.disk); table = q.disk } = replays n s c k.base k.disk q.disk judged-base v.journal in
           record {
             now = restarted n s c k p p;
             got = subst (Got (restarted n s c k p p) t) (ap (λ (b : Bool). cond b ((p - p) ∷ []) []) (le-ltb p p (omega arith)))

@@ -24,7 +24,7 @@ use Rattle.gate.specs.Events.{event_of}
 use Rattle.order.specs.Calls.{marked_in, handed_table, handed_codes, handed}
 use Rattle.entries.specs.Entry.{record_kind, mark_kind, entry_length, record_entry, mark_entry}
 use Rattle.entries.specs.Writing.{gate_of, record_open, mark_open, record_entered, mark_entered}
-use Rattle.entries.specs.declared.Gate.TheVariants as gate
+use Rattle.std.specs.Prelude.{Ok}
 use Rattle.safety.specs.Run.{Setup}
 use Rattle.demand.specs.Run.{outcome}
 use Rattle.demand.proofs.Handing.{mark-kept, mark-here, next-table, next-codes, left, listed-pending}
@@ -36,7 +36,7 @@ use Rattle.disk.proofs.Beside.{Beside, started, run-after, move-after, rules-of,
 
 module _ (n s c : ℕ) (t : List ℕ) (k : Kept n s c t) (o j : ℕ) (i : instance_ok n s o j ≡ true) (room : List ℕ) where
   -- a sound table, an instance of it and room enough
-  open-gate : (size : ℕ) → size ≤ length room → gate_of n s c t (length room) size o j ≡ gate.Open
+  open-gate : (size : ℕ) → size ≤ length room → gate_of n s c t (length room) size o j ≡ Ok tt
   unfolding gate_of
   open-gate size le = rw (k.setup, le-ltb (length room) size le, i)
 

@@ -8,9 +8,8 @@ use Rattle.order.specs.declared.Handing.TheVariants.{Codes}
 use Rattle.order.specs.Calls.{handed}
 use Rattle.entries.specs.Entry.{record_kind, mark_kind, entry_length, mark_entry}
 use Rattle.entries.specs.Writing.{Entered, record_entered, mark_entered}
-use Rattle.entries.specs.declared.Entering.TheVariants.{Entry}
 use Rattle.entries.specs.Replay.{replayed}
-use Rattle.entries.specs.declared.Replaying.TheVariants.{Upto}
+use Rattle.std.specs.Prelude.{Ok}
 use Rattle.demand.specs.Demand.{View}
 use Rattle.demand.specs.Run.{Call, outcome, Possible}
 use Rattle.disk.specs.Run.{saved_table, saved_marks, State, Start, acted, Run}
@@ -32,18 +31,18 @@ journalled n s =
 
 -- an entry at the front of a room
 abbrev pub wrote : List ℕ → List ℕ → Entered
-wrote room entry = record { answer = Entry (length entry); out = splice room 0 entry }
+wrote room entry = record { answer = Ok (length entry); out = splice room 0 entry }
 
 module _ (n s : ℕ) where
   -- entries that are whole on disk, replayed onto the table that the journal was begun with, give the table in memory
   abbrev pub InMemory : Type 0
   InMemory = (x₀ x : State) → Start n s x₀ → Run n s x₀ x → (c : ℕ) → c < n → (x.copies c).coming ≡ []
-      → replayed n s c (x.copies c).base (x.copies c).disk ≡ record { answer = Upto (length (x.copies c).disk); table = (x.copies c).lent }
+      → replayed n s c (x.copies c).base (x.copies c).disk ≡ record { answer = Ok (length (x.copies c).disk); table = (x.copies c).lent }
 
   -- no entry that a run wrote is refused: whatever a cut leaves of a journal replays, and what was waited for is among it
   pub record Restart (x : State) (c p : ℕ) : Type 0 where
     pub upto : ℕ
-    pub answer : (replayed n s c (x.copies c).base (take p (x.copies c).disk)).answer ≡ Upto upto
+    pub answer : (replayed n s c (x.copies c).base (take p (x.copies c).disk)).answer ≡ Ok upto
     pub kept : (x.copies c).safe ≤ upto
 
   abbrev pub Restarts : Type 0

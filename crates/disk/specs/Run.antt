@@ -12,7 +12,7 @@ use Rattle.order.specs.declared.Handing.TheVariants.{Codes}
 use Rattle.order.specs.Calls.{settled, Handed, handed}
 use Rattle.entries.specs.Entry.{mark_kind, kind_in, owner_in, number_in, record_entry, mark_entry}
 use Rattle.entries.specs.Replay.{behind, replayed}
-use Rattle.entries.specs.declared.Replaying.TheVariants.{Upto}
+use Rattle.std.specs.Prelude.{Ok}
 use Rattle.safety.specs.Run.{Instance, Happening, answered, replaced}
 use Rattle.demand.specs.Run.{Call, outcome, Possible, recorded, written}
 
@@ -199,7 +199,7 @@ pub data Move (n s : ℕ) (x : State) : State → Type 0 where
       → Move n s x (remembered x (x.history ++ answered c o j (settled n s c (x.copies c).lent o j) ∷ []))
   -- a cut, at any moment and at any byte that was not waited for; the copy restarts by what the replay call answers
   cut : (c p e : ℕ) → c < n → (x.copies c).safe ≤ p → p ≤ length (x.copies c).disk
-      → (replayed n s c (x.copies c).base (take p (x.copies c).disk)).answer ≡ Upto e
+      → (replayed n s c (x.copies c).base (take p (x.copies c).disk)).answer ≡ Ok e
       → Move n s x (changed x c (restarted n s c (x.copies c) p e))
   -- a journal is begun anew from the saved table
   begin : (c : ℕ) → c < n → Saved (x.copies c) → Move n s x (changed x c (anew (x.copies c)))

@@ -7,12 +7,12 @@ use native.Mathlib.Omega.{arith}
 use lib.ListN.{length, get_or, take, drop, length-append}
 use lib.Seq.{take_at, drop_at, length-take-le, get_or-take}
 use borrow.Author.Tests.{lt-ltb, ne_eqb, le-ltb}
+use Rattle.std.specs.Prelude.{Ok, Err}
 use Rattle.numbers.proofs.Fields.{fields_at-fields_bytes}
 use Rattle.paper.specs.Instance.{instance_ok}
 use Rattle.table.specs.Calls.{part_size}
 use Rattle.entries.specs.declared.Fault.{Fault}
 use Rattle.entries.specs.declared.Fault.TheVariants as fault
-use Rattle.entries.specs.declared.Front.{Front}
 use Rattle.entries.specs.declared.Front.TheVariants as front
 use Rattle.entries.specs.Entry.{record_kind, mark_kind, head_widths, entry_head, entry_length, kind_in, owner_in, number_in, part_in, head_bytes, record_entry, mark_entry}
 use Rattle.entries.specs.Replay.{entry_ok, front_of, behind}
@@ -66,20 +66,14 @@ module _ (o j : ℕ) (lo : o < 256) (lj : j < 65536) where
         let a : record_entry o j part ++ more ≡ head_bytes record_kind o j ++ (part ++ more) = append_assoc (head_bytes record_kind o j) part more in
         ap part_in a ∙ ap (take part_size) (drop_at (head_bytes record_kind o j) (part ++ more) entry_head refl) ∙ take_at part more part_size size
 
--- a number to tell what stands in front by
-unfoldable pub front_code : Front → ℕ
-front_code front.Whole = 0
-front_code front.Rest = 1
-front_code (front.Bad f) = 2
-
 -- such an entry is whole, if its instance is in range and 43 is not refused
 module _ (n s c : ℕ) (done : ℕ → ℕ → Bool) where
   taken : (z a l i e : Bool) → z ≡ false → a ≡ false → l ≡ false → i ≡ true → e ≡ true
-      → cond z front.Rest (cond a (front.Bad fault.Kind) (cond l front.Rest (cond (not i) (front.Bad fault.Instance) (cond (not e) (front.Bad fault.Unsound) front.Whole)))) ≡ front.Whole
+      → cond z (Ok front.Rest) (cond a (Err fault.Kind) (cond l (Ok front.Rest) (cond (not i) (Err fault.Instance) (cond (not e) (Err fault.Unsound) (Ok front.Whole))))) ≡ Ok front.Whole
   taken z a l i e p q r g h = rw (p, q, r, g, h)
 
   pub whole-front : (b : List ℕ) (k o j : ℕ) (more : List ℕ) → Reads b k o j more → 0 < entry_length k → instance_ok n s o j ≡ true → entry_ok n s c done b ≡ true
-      → front_of n s c done b ≡ front.Whole
+      → front_of n s c done b ≡ Ok front.Whole
   unfolding front_of
   whole-front b k o j more r some range ok =
       let size : entry_length (kind_in b) ≡ entry_length k = ap entry_length r.kind in
@@ -88,11 +82,11 @@ module _ (n s c : ℕ) (done : ℕ → ℕ → Bool) where
       (ap₂ (instance_ok n s) r.owner r.number ∙ range) ok
 
   rested : (z a l i e : Bool) → z ≡ false → a ≡ false → l ≡ true
-      → cond z front.Rest (cond a (front.Bad fault.Kind) (cond l front.Rest (cond (not i) (front.Bad fault.Instance) (cond (not e) (front.Bad fault.Unsound) front.Whole)))) ≡ front.Rest
+      → cond z (Ok front.Rest) (cond a (Err fault.Kind) (cond l (Ok front.Rest) (cond (not i) (Err fault.Instance) (cond (not e) (Err fault.Unsound) (Ok front.Whole))))) ≡ Ok front.Rest
   rested z a l i e p q r = rw (p, q, r)
 
   -- a known kind that is cut short is a rest
-  pub short-rest : (e : List ℕ) (p : ℕ) → length e ≡ entry_length (kind_in e) → p < length e → front_of n s c done (take p e) ≡ front.Rest
+  pub short-rest : (e : List ℕ) (p : ℕ) → length e ≡ entry_length (kind_in e) → p < length e → front_of n s c done (take p e) ≡ Ok front.Rest
   unfolding front_of
   short-rest e zero size lt = refl
   short-rest e (suc p) size lt =
@@ -102,12 +96,11 @@ module _ (n s c : ℕ) (done : ℕ → ℕ → Bool) where
       rested _ _ _ (instance_ok n s (owner_in (take (suc p) e)) (number_in (take (suc p) e))) (entry_ok n s c done (take (suc p) e)) (ne_eqb (length (take (suc p) e)) 0 (λ z. omega arith)) (ne_eqb (entry_length (kind_in (take (suc p) e))) 0 (λ z. omega arith)) (lt-ltb (length (take (suc p) e)) (entry_length (kind_in (take (suc p) e))) (omega arith))
 
   -- and so is nothing at all
-  pub none_rest : front_of n s c done [] ≡ front.Rest
+  pub none_rest : front_of n s c done [] ≡ Ok front.Rest
   unfolding front_of
   none_rest = refl
 
   -- only of some bytes can an entry be bad
-  pub bad-some : (b : List ℕ) (f : Fault) → front_of n s c done b ≡ front.Bad f → 0 < length b
-  unfolding front_code
-  bad-some [] f e = let z : ◌≡◌ {A = ℕ} 1 2 = ap front_code (sym none_rest ∙ e) in absurd (omega arith)
+  pub bad-some : (b : List ℕ) (f : Fault) → front_of n s c done b ≡ Err f → 0 < length b
+  bad-some [] f e = let q = sym none_rest ∙ e in let z : ◌≡◌ {A = ℕ} 0 1 = cc in absurd (omega arith)
   bad-some (x ∷ b) f e = omega arith

@@ -7,33 +7,34 @@ use native.Mathlib.Omega.{arith}
 use lib.Dec.{ltb, eqb}
 use lib.ListN.{length}
 use borrow.Author.Tests.{eqb-false, ltb-false, eq-eqb, ne_eqb, lt-ltb, le-ltb}
+use Rattle.std.specs.Prelude.{Result, Ok, Err}
 use Rattle.paper.specs.Instance.{instance_ok}
 use Rattle.entries.specs.declared.Fault.{Fault}
 use Rattle.entries.specs.declared.Fault.TheVariants as fault
 use Rattle.entries.specs.declared.Front.{Front}
 use Rattle.entries.specs.declared.Front.TheVariants as front
-use Rattle.entries.specs.declared.Ended.{Ended}
+use Rattle.entries.specs.declared.BadEntry.{BadEntry}
 use Rattle.entries.specs.Entry.{entry_length, kind_in, owner_in, number_in, Fit}
 use Rattle.entries.specs.Replay.{entry_ok, front_of, or_on}
 use Rattle.entries.proofs.Lengths.{length-least}
 
 -- what stands in front, outcome by outcome
 module _ (n s c : ℕ) (f : ℕ → ℕ → Bool) (b : List ℕ) where
-  pub front-none : length b ≡ 0 → front.Rest ≡ front_of n s c f b
+  pub front-none : length b ≡ 0 → Ok front.Rest ≡ front_of n s c f b
   unfolding front_of
   front-none e = rw (eq-eqb (length b) 0 e)
 
   module _ (some : length b ≡ 0 → ⊥) where
-    pub front-kind : entry_length (kind_in b) ≡ 0 → front.Bad fault.Kind ≡ front_of n s c f b
+    pub front-kind : entry_length (kind_in b) ≡ 0 → Err fault.Kind ≡ front_of n s c f b
     unfolding front_of
     front-kind e = rw (ne_eqb (length b) 0 some, eq-eqb (entry_length (kind_in b)) 0 e)
 
     module _ (known : entry_length (kind_in b) ≡ 0 → ⊥) where
-      pub front-short : length b < entry_length (kind_in b) → front.Rest ≡ front_of n s c f b
+      pub front-short : length b < entry_length (kind_in b) → Ok front.Rest ≡ front_of n s c f b
       unfolding front_of
       front-short l = rw (ne_eqb (length b) 0 some, ne_eqb (entry_length (kind_in b)) 0 known, lt-ltb (length b) (entry_length (kind_in b)) l)
 
-      pub front-range : entry_length (kind_in b) ≤ length b → instance_ok n s (owner_in b) (number_in b) ≡ false → front.Bad fault.Instance ≡ front_of n s c f b
+      pub front-range : entry_length (kind_in b) ≤ length b → instance_ok n s (owner_in b) (number_in b) ≡ false → Err fault.Instance ≡ front_of n s c f b
       unfolding front_of
       front-range l r = rw (ne_eqb (length b) 0 some, ne_eqb (entry_length (kind_in b)) 0 known, le-ltb (length b) (entry_length (kind_in b)) l, r)
 
@@ -41,23 +42,23 @@ module _ (n s c : ℕ) (f : ℕ → ℕ → Bool) (b : List ℕ) where
     some : length b ≡ 0 → ⊥
     some e = omega (arith, length-least (kind_in b) g.known, g.whole)
 
-    pub front-unsound : entry_ok n s c f b ≡ false → front.Bad fault.Unsound ≡ front_of n s c f b
+    pub front-unsound : entry_ok n s c f b ≡ false → Err fault.Unsound ≡ front_of n s c f b
     unfolding front_of
     front-unsound k = rw (ne_eqb (length b) 0 some, ne_eqb (entry_length (kind_in b)) 0 g.known, le-ltb (length b) (entry_length (kind_in b)) g.whole, g.range, k)
 
-    pub front-whole : entry_ok n s c f b ≡ true → front.Whole ≡ front_of n s c f b
+    pub front-whole : entry_ok n s c f b ≡ true → Ok front.Whole ≡ front_of n s c f b
     unfolding front_of
     front-whole k = rw (ne_eqb (length b) 0 some, ne_eqb (entry_length (kind_in b)) 0 g.known, le-ltb (length b) (entry_length (kind_in b)) g.whole, g.range, k)
 
   -- what is whole is neither a rest nor bad
-  clash-rest : {A : Type 0} → front.Whole ≡ front.Rest → A
+  clash-rest : {A : Type 0} → ◌≡◌ {A = Result Front Fault} (Ok front.Whole) (Ok front.Rest) → A
   clash-rest e = let z : ◌≡◌ {A = ℕ} 0 1 = cc in absurd (omega arith)
 
-  clash-bad : {A : Type 0} (x : Fault) → front.Whole ≡ front.Bad x → A
+  clash-bad : {A : Type 0} (x : Fault) → ◌≡◌ {A = Result Front Fault} (Ok front.Whole) (Err x) → A
   clash-bad x e = let z : ◌≡◌ {A = ℕ} 0 1 = cc in absurd (omega arith)
 
   -- and what a whole entry tells
-  pub front-fit : n ≤ 7 → s ≤ 64 → front.Whole ≡ front_of n s c f b → Fit n s b × (entry_ok n s c f b ≡ true)
+  pub front-fit : n ≤ 7 → s ≤ 64 → Ok front.Whole ≡ front_of n s c f b → Fit n s b × (entry_ok n s c f b ≡ true)
   unfolding front_of
   front-fit ln ls e =
       go (eqb (length b) 0) (eqb (entry_length (kind_in b)) 0) (ltb (length b) (entry_length (kind_in b))) (instance_ok n s (owner_in b) (number_in b)) (entry_ok n s c f b) refl refl refl refl refl
@@ -82,8 +83,9 @@ front_same n s c f g b h = go (instance_ok n s (owner_in b) (number_in b)) refl
     go true e = rw (h e)
     go false e = rw e
 
--- a walk stops where no whole entry stands
-pub or-stops : (x : Front) (at : ℕ) (on : Ended) → (x ≡ front.Whole → ⊥) → ◌≡◌ {A = Ended} (record { front = x; at = at }) (or_on x at on)
-or-stops front.Whole at on h = absurd (h refl)
-or-stops front.Rest at on h = refl
-or-stops (front.Bad f) at on h = refl
+-- a walk stops at a rest, and at what is bad
+pub or-rests : (at : ℕ) (on : Result ℕ BadEntry) → Ok at ≡ or_on (Ok front.Rest) at on
+or-rests at on = refl
+
+pub or-stops : (f : Fault) (at : ℕ) (on : Result ℕ BadEntry) → Err (record { why = f; offset = at }) ≡ or_on (Err f) at on
+or-stops f at on = refl

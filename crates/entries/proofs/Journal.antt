@@ -8,6 +8,7 @@ use lib.Dec.{leb, ltb, eqb}
 use lib.ListN.{length, take, drop, length-append}
 use lib.Seq.{take-append_seam, drop-append_seam, take-append-le, take-append-add, take-length, length-take-le}
 use borrow.Author.Tests.{ltb-true, ltb-false, leb-true, leb-false}
+use Rattle.std.specs.Prelude.{Result, Ok, Err}
 use Rattle.paper.specs.Instance.{instance_ok}
 use Rattle.paper.proofs.Laws.{and-true}
 use Rattle.record.specs.Part.{sound_part}
@@ -19,8 +20,8 @@ use Rattle.order.specs.Calls.{marked_in}
 use Rattle.entries.specs.declared.Fault.{Fault}
 use Rattle.entries.specs.declared.Front.{Front}
 use Rattle.entries.specs.declared.Front.TheVariants as front
-use Rattle.entries.specs.declared.Ended.{Ended}
-use Rattle.entries.specs.declared.Replaying.TheVariants as replaying
+use Rattle.entries.specs.declared.BadEntry.{BadEntry}
+use Rattle.entries.specs.declared.Unreplayed.TheVariants as unreplayed
 use Rattle.entries.specs.Entry.{record_kind, mark_kind, entry_length, kind_in, owner_in, number_in, part_in, record_entry, mark_entry}
 use Rattle.entries.specs.Replay.{committed_in, front_of, applied, behind, or_on, end_of, puts, replayed_at, replayed_open, replayed}
 use Rattle.entries.specs.Journal.{Journal, none, record-then, mark-then, Replays, AnyCut, GoesOn, FirstBad}
@@ -79,7 +80,7 @@ module _ (n s c : ℕ) (few : n ≤ 7) (low : s ≤ 64) where
           ap (λ (k : ℕ). cond (eqb k record_kind) (put_part s u (owner_in m) (number_in m) (part_in m)) (marked_in s u (owner_in m) (number_in m))) r.kind
           ∙ ap₂ (marked_in s u) r.owner r.number
 
-      m-whole : is_committed (record_in s u o j) ≡ true → front_of n s c (committed_in s u) (mark_entry o j ++ more) ≡ front.Whole
+      m-whole : is_committed (record_in s u o j) ≡ true → front_of n s c (committed_in s u) (mark_entry o j ++ more) ≡ Ok front.Whole
       m-whole h =
           let r = m-reads in
           whole-front n s c (committed_in s u) m mark_kind o j more r (omega arith) range
@@ -91,7 +92,7 @@ module _ (n s c : ℕ) (few : n ≤ 7) (low : s ≤ 64) where
       unfolding end_of
       mark_on h k at =
           let r = m-reads in
-          ap (λ (f : Front). or_on f at (end_of k n s c (applied s u m) (behind m) (at + entry_length (kind_in m)))) (m-whole h)
+          ap (λ (f : Result Front Fault). or_on f at (end_of k n s c (applied s u m) (behind m) (at + entry_length (kind_in m)))) (m-whole h)
           ∙ same_end k m-applied r.rest (ap (λ (x : ℕ). at + entry_length x) r.kind)
 
       mark-puts : (k : ℕ) → puts (suc k) s u (mark_entry o j ++ more) ≡ puts k s (marked_in s u o j) more
@@ -116,7 +117,7 @@ module _ (n s c : ℕ) (few : n ≤ 7) (low : s ≤ 64) where
           ap (λ (k : ℕ). cond (eqb k record_kind) (put_part s u (owner_in e) (number_in e) (part_in e)) (marked_in s u (owner_in e) (number_in e))) r.kind
           ∙ ap₂ (λ (p i : ℕ). put_part s u p i (part_in e)) r.owner r.number ∙ ap (put_part s u o j) e-part
 
-      e-whole : sound_part n s c o part ≡ true → front_of n s c (committed_in s u) (record_entry o j part ++ more) ≡ front.Whole
+      e-whole : sound_part n s c o part ≡ true → front_of n s c (committed_in s u) (record_entry o j part ++ more) ≡ Ok front.Whole
       e-whole h =
           let r = e-reads in
           whole-front n s c (committed_in s u) e record_kind o j more r (omega arith) range
@@ -129,7 +130,7 @@ module _ (n s c : ℕ) (few : n ≤ 7) (low : s ≤ 64) where
       record-on h k at =
           let r = e-reads in
           let z = bounds o j range in
-          ap (λ (f : Front). or_on f at (end_of k n s c (applied s u e) (behind e) (at + entry_length (kind_in e)))) (e-whole h)
+          ap (λ (f : Result Front Fault). or_on f at (end_of k n s c (applied s u e) (behind e) (at + entry_length (kind_in e)))) (e-whole h)
           ∙ same_end k e-applied r.rest (ap (λ (x : ℕ). at + entry_length x) r.kind ∙ ap (λ (x : ℕ). at + x) (sym (record-long o j z.0 z.1 part size)))
 
       record-puts : (k : ℕ) → puts (suc k) s u (record_entry o j part ++ more) ≡ puts k s (put_part s u o j part) more
@@ -179,23 +180,23 @@ module _ (n s c : ℕ) (few : n ≤ 7) (low : s ≤ 64) where
       ap₂ (λ (x : ℕ) (y : List ℕ). puts x s t y) m (sym (append-nil b)) ∙ puts-journal w (k - count w) [] ∙ none_left (k - count w) u
 
 -- less than an entry ends a walk
-pub rest-ends : (k n s c : ℕ) (u rest : List ℕ) (at : ℕ) → front_of n s c (committed_in s u) rest ≡ front.Rest → end_of k n s c u rest at ≡ record { front = front.Rest; at = at }
+pub rest-ends : (k n s c : ℕ) (u rest : List ℕ) (at : ℕ) → front_of n s c (committed_in s u) rest ≡ Ok front.Rest → end_of k n s c u rest at ≡ Ok at
 unfolding end_of
 rest-ends zero n s c u rest at r = refl
-rest-ends (suc k) n s c u rest at r = ap (λ (f : Front). or_on f at (end_of k n s c (applied s u rest) (behind rest) (at + entry_length (kind_in rest)))) r
+rest-ends (suc k) n s c u rest at r = ap (λ (f : Result Front Fault). or_on f at (end_of k n s c (applied s u rest) (behind rest) (at + entry_length (kind_in rest)))) r
 
 -- and so does a bad one, if it is come to
-pub bad-ends : (k n s c : ℕ) (u rest : List ℕ) (at : ℕ) (f : Fault) → 0 < k → front_of n s c (committed_in s u) rest ≡ front.Bad f
-    → end_of k n s c u rest at ≡ record { front = front.Bad f; at = at }
+pub bad-ends : (k n s c : ℕ) (u rest : List ℕ) (at : ℕ) (f : Fault) → 0 < k → front_of n s c (committed_in s u) rest ≡ Err f
+    → end_of k n s c u rest at ≡ Err (record { why = f; offset = at })
 unfolding end_of
 bad-ends zero n s c u rest at f z r = absurd (omega arith)
-bad-ends (suc k) n s c u rest at f z r = ap (λ (f : Front). or_on f at (end_of k n s c (applied s u rest) (behind rest) (at + entry_length (kind_in rest)))) r
+bad-ends (suc k) n s c u rest at f z r = ap (λ (f : Result Front Fault). or_on f at (end_of k n s c (applied s u rest) (behind rest) (at + entry_length (kind_in rest)))) r
 
 -- the answer of a replay, by where its walk ends
 module _ (n s c : ℕ) (t b : List ℕ) (h : Judged n s c t) where
-  pub replayed-is : (f : Front) (at : ℕ) → end_of (length b) n s c t b 0 ≡ record { front = f; at = at } → replayed n s c t b ≡ replayed_at f at s t b
+  pub replayed-is : (x : Result ℕ BadEntry) → end_of (length b) n s c t b 0 ≡ x → replayed n s c t b ≡ replayed_at x s t b
   unfolding replayed replayed_open judged
-  replayed-is f at e = rw (h.setup, h.sound) (ap (λ (x : Ended). replayed_at x.front x.at s t b) e)
+  replayed-is x e = rw (h.setup, h.sound) (ap (λ (y : Result ℕ BadEntry). replayed_at y s t b) e)
 
 -- behind a journal comes less than an entry, or a bad one
 module _ (n s c : ℕ) (t b u rest : List ℕ) (h : Judged n s c t) (w : Journal n s c t b u) where
@@ -213,27 +214,27 @@ module _ (n s c : ℕ) (t b u rest : List ℕ) (h : Judged n s c t) (w : Journal
       ap (λ (k : ℕ). end_of k n s c t (b ++ rest) 0) m ∙ end-journal n s c few low w (length (b ++ rest) - count w) rest 0
 
   -- nothing more than a rest
-  pub replays-rest : front_of n s c (committed_in s u) rest ≡ front.Rest → replayed n s c t (b ++ rest) ≡ record { answer = replaying.Upto (length b); table = u }
+  pub replays-rest : front_of n s c (committed_in s u) rest ≡ Ok front.Rest → replayed n s c t (b ++ rest) ≡ record { answer = Ok (length b); table = u }
   replays-rest r =
       let y = length-append b rest in
-      replayed-is n s c t (b ++ rest) h front.Rest (length b) (past ∙ rest-ends (length (b ++ rest) - count w) n s c u rest (0 + length b) r ∙ ap (λ (x : ℕ). record { front = front.Rest; at = x }) (omega arith))
-      ∙ ap (λ (x : List ℕ). record { answer = replaying.Upto (length b); table = x })
+      replayed-is n s c t (b ++ rest) h (Ok (length b)) (past ∙ rest-ends (length (b ++ rest) - count w) n s c u rest (0 + length b) r ∙ ap (λ (x : ℕ). Ok x) (omega arith))
+      ∙ ap (λ (x : List ℕ). record { answer = Ok (length b); table = x })
       (ap (puts (length (b ++ rest)) s t) (take-append_seam b rest) ∙ all-puts n s c few low w (length (b ++ rest)) (omega arith))
 
   -- a bad entry: nothing is changed
-  pub replays-bad : (f : Fault) → front_of n s c (committed_in s u) rest ≡ front.Bad f → replayed n s c t (b ++ rest) ≡ record { answer = replaying.Bad f (length b); table = t }
+  pub replays-bad : (f : Fault) → front_of n s c (committed_in s u) rest ≡ Err f → replayed n s c t (b ++ rest) ≡ record { answer = Err (unreplayed.Bad (record { why = f; offset = length b })); table = t }
   replays-bad f r =
       let y = length-append b rest in
       let z = count-few n s c few low w in
       let some = bad-some n s c (committed_in s u) rest f r in
-      replayed-is n s c t (b ++ rest) h (front.Bad f) (length b)
-      (past ∙ bad-ends (length (b ++ rest) - count w) n s c u rest (0 + length b) f (omega arith) r ∙ ap (λ (x : ℕ). record { front = front.Bad f; at = x }) (omega arith))
+      replayed-is n s c t (b ++ rest) h (Err (record { why = f; offset = length b }))
+      (past ∙ bad-ends (length (b ++ rest) - count w) n s c u rest (0 + length b) f (omega arith) r ∙ ap (λ (x : ℕ). Err (record { why = f; offset = x })) (omega arith))
 
 pub replays : Replays
 replays n s c t b u h w = ap (replayed n s c t) (sym (append-nil b)) ∙ replays-rest n s c t b u [] h w (none_rest n s c (committed_in s u))
 
 pub goes_on : GoesOn
-goes_on n s c t b u more v h w m = replays n s c t (b ++ more) v h (joined w m) ∙ ap (λ (x : ℕ). record { answer = replaying.Upto x; table = v }) (length-append b more)
+goes_on n s c t b u more v h w m = replays n s c t (b ++ more) v h (joined w m) ∙ ap (λ (x : ℕ). record { answer = Ok x; table = v }) (length-append b more)
 
 pub first-bad : FirstBad
 first-bad n s c t b u rest f h w r = replays-bad n s c t b u rest h w f r
@@ -248,7 +249,7 @@ record Parts (n s c : ℕ) (t b u : List ℕ) (p : ℕ) : Type 0 where
   before : Journal n s c t kept table
   after : Journal n s c table lost u
   parts : take p b ≡ kept ++ rest
-  less : (done : ℕ → ℕ → Bool) → front_of n s c done rest ≡ front.Rest
+  less : (done : ℕ → ℕ → Bool) → front_of n s c done rest ≡ Ok front.Rest
 
 module _ (n s c : ℕ) (few : n ≤ 7) (low : s ≤ 64) where
   -- all of it

@@ -1,17 +1,20 @@
 -- An entry by its kind: how long it is, and that one that fits has its parts and names an instance. Assumes nothing.
 use Prim.Native.Nat.{ℕ, ◌+◌, ◌≤◌, ◌<◌}
-use mathlib.Core.Path.{◌≡◌, refl}
+use mathlib.Core.Path.{◌≡◌, refl, ap}
 use mathlib.Core.Bool.{Bool, true, false}
 use mathlib.Core.List.{List}
 use native.Mathlib.Omega.{arith}
 use lib.Dec.{leb, eqb}
 use lib.ListN.{length, length-take, length-drop}
 use borrow.Author.Tests.{leb-true, ltb-true}
+use Rattle.std.specs.Prelude.{Some, None}
 use Rattle.paper.specs.Instance.{instance_ok, owner_ok, number_ok}
 use Rattle.paper.proofs.Laws.{and-true}
 use Rattle.table.specs.Sizes.{Names}
 use Rattle.table.specs.Calls.{part_size}
-use Rattle.entries.specs.Entry.{record_kind, mark_kind, entry_head, entry_length, kind_in, owner_in, number_in, part_in}
+use Rattle.entries.specs.declared.Kind.{Kind}
+use Rattle.entries.specs.declared.Kind.TheVariants as kind
+use Rattle.entries.specs.Entry.{record_kind, mark_kind, kind_of, kind_length, length_of, entry_head, entry_length, kind_in, owner_in, number_in, part_in}
 use Rattle.entries.specs.Entry.{Fit}
 
 -- an entry of a known kind has a head at least
@@ -22,6 +25,20 @@ length-least k h = go (eqb k record_kind) (eqb k mark_kind) refl refl
     go true y e f = rw e (omega arith)
     go false true e f = rw (e, f) (omega arith)
     go false false e f = absurd (h (rw (e, f)))
+
+pub kind-least : (x : Kind) → entry_head ≤ kind_length x
+kind-least kind.Record = omega arith
+kind-least kind.Mark = omega arith
+
+-- the length of a kind by its number
+pub kind-known : (k : ℕ) {x : Kind} → kind_of k ≡ Some x → entry_length k ≡ kind_length x
+kind-known k e = ap length_of e
+
+pub kind-some : (k : ℕ) {x : Kind} → kind_of k ≡ Some x → entry_length k ≡ 0 → ⊥
+kind-some k {x} e z = omega (arith, kind-known k e, kind-least x)
+
+pub kind-unknown : (k : ℕ) → kind_of k ≡ None → entry_length k ≡ 0
+kind-unknown k e = ap length_of e
 
 -- one that carries a record has that too
 pub length-record : (k : ℕ) → eqb k record_kind ≡ true → entry_length k ≡ entry_head + part_size

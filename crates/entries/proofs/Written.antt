@@ -7,6 +7,7 @@ use native.Mathlib.Omega.{arith}
 use lib.Dec.{ltb}
 use lib.ListN.{length}
 use borrow.Author.Tests.{ltb-false}
+use Rattle.std.specs.Prelude.{Result, Ok, Err}
 use Rattle.numbers.specs.Num.{splice}
 use Rattle.numbers.proofs.Laws.{splice-step, length-splice}
 use Rattle.paper.specs.Instance.{instance_ok}
@@ -20,19 +21,17 @@ use Rattle.table.proofs.Laws.{sizes, names}
 use Rattle.table.proofs.Saved.{part-size}
 use Rattle.rules.specs.Step.{is_committed}
 use Rattle.rules.specs.Order.{is_marked}
-use Rattle.entries.specs.declared.Entering.{Entering}
-use Rattle.entries.specs.declared.Entering.TheVariants as entering
-use Rattle.entries.specs.declared.Gate.{Gate}
-use Rattle.entries.specs.declared.Gate.TheVariants as gate
+use Rattle.entries.specs.declared.Unwritten.{Unwritten}
+use Rattle.entries.specs.declared.Unwritten.TheVariants as unwritten
 use Rattle.entries.specs.Entry.{record_kind, entry_head, entry_length, head_bytes, mark_entry}
 use Rattle.entries.specs.Writing.{gate_of, Entered, Enters, through, record_open, mark_open}
 
 -- a gate is not both
-clash : {A : Type 0} (r : Refusal) → gate.Open ≡ gate.Shut r → A
+clash : {A : Type 0} {u : Unit {0}} (r : Refusal) → Ok u ≡ Err r → A
 clash r e = let z : ◌≡◌ {A = ℕ} 0 1 = cc in absurd (omega arith)
 
 -- what an open gate has asked
-pub enters : (n s c : ℕ) (t out : List ℕ) (k o j : ℕ) → gate.Open ≡ gate_of n s c t (length out) (entry_length k) o j → Enters n s c t out k o j
+pub enters : (n s c : ℕ) (t out : List ℕ) (k o j : ℕ) → Ok tt ≡ gate_of n s c t (length out) (entry_length k) o j → Enters n s c t out k o j
 unfolding gate_of
 enters n s c t out k o j e = go (fits_setup n s c t) (ltb (length out) (entry_length k)) (instance_ok n s o j) refl refl refl
   where
@@ -43,14 +42,14 @@ enters n s c t out k o j e = go (fits_setup n s c t) (ltb (length out) (entry_le
     go true false false p q r = clash why.Instance (e ∙ rw (p, q, r))
 
 -- the answer and the room of what a call writes
-abbrev pub Met : Entered → Entering → List ℕ → Type 0
+abbrev pub Met : Entered → Result ℕ Unwritten → List ℕ → Type 0
 Met e a l = record { answers : a ≡ e.answer; out : l ≡ e.out }
 
 -- a shut gate leaves the room as it was; an open one hands on
-pub shut : (g : Gate) (out : List ℕ) (rest : Entered) (r : Refusal) → gate.Shut r ≡ g → Met (through g out rest) (entering.Refused r) out
+pub shut : (g : Result (Unit {0}) Refusal) (out : List ℕ) (rest : Entered) (r : Refusal) → Err r ≡ g → Met (through g out rest) (Err (unwritten.Refused r)) out
 shut g out rest r e = rw (← e) (record { answers = refl; out = refl })
 
-pub opened : (g : Gate) (out : List ℕ) (rest : Entered) → gate.Open ≡ g → {x : Entering} {l : List ℕ} → Met rest x l → Met (through g out rest) x l
+pub opened : (g : Result (Unit {0}) Refusal) (out : List ℕ) (rest : Entered) → Ok tt ≡ g → {x : Result ℕ Unwritten} {l : List ℕ} → Met rest x l → Met (through g out rest) x l
 opened g out rest e p = rw (← e) p
 
 -- past the gate
@@ -66,7 +65,7 @@ module _ (n s c : ℕ) (t out : List ℕ) (k o j : ℕ) (e : Enters n s c t out 
 -- a record that is not sound, and one that is
 module _ (n s c : ℕ) (t out : List ℕ) (o j : ℕ) where
   pub record-unsound : {part : List ℕ} → part ≡ part_of n s c t o j → sound_part n s c o part ≡ false
-      → Met (record_open n s c t out o j) entering.Unsound out
+      → Met (record_open n s c t out o j) (Err unwritten.Unsound) out
   unfolding record_open
   record-unsound p h = rw (← p, h) (record { answers = refl; out = refl })
 
@@ -83,24 +82,24 @@ module _ (n s c : ℕ) (t out : List ℕ) (o j : ℕ) where
 
   pub record-put : Enters n s c t out record_kind o j → {part l₁ l₂ : List ℕ} → part ≡ part_of n s c t o j → sound_part n s c o part ≡ true
       → l₁ ≡ splice out 0 (head_bytes record_kind o j) → l₂ ≡ splice l₁ entry_head part
-      → Met (record_open n s c t out o j) (entering.Entry (entry_head + part_size)) l₂
+      → Met (record_open n s c t out o j) (Ok (entry_head + part_size)) l₂
   unfolding record_open
   record-put e {part = part} p h v w =
       let size = record-size e p in
       rw (← p, h)
       (record {
-        answers = ap entering.Entry (omega (arith, size));
+        answers = ap (λ (k : ℕ). Ok k) (omega (arith, size));
         out = splice-step out 0 (head_bytes record_kind o j) entry_head part v w refl (omega (arith, size, e.room));
       })
 
 -- a mark on an instance that is not committed and marked, and on one that is
 module _ (s : ℕ) (t out : List ℕ) (o j : ℕ) where
   pub mark-unsound : (is_committed (record_in s t o j) && is_marked (record_in s t o j)) ≡ false
-      → Met (mark_open s t out o j) entering.Unsound out
+      → Met (mark_open s t out o j) (Err unwritten.Unsound) out
   unfolding mark_open
   mark-unsound h = rw h (record { answers = refl; out = refl })
 
   pub mark-put : (is_committed (record_in s t o j) && is_marked (record_in s t o j)) ≡ true → {l : List ℕ} → l ≡ splice out 0 (mark_entry o j)
-      → Met (mark_open s t out o j) (entering.Entry entry_head) l
+      → Met (mark_open s t out o j) (Ok entry_head) l
   unfolding mark_open
   mark-put h v = rw h (record { answers = refl; out = v })

@@ -1,9 +1,11 @@
 -- 3/12: an entry in its bytes, as docs/LAYOUT.md has it. Assumes nothing.
-use Rattle.std.specs.Prelude.{ℕ, ◌+◌, ◌≤◌, ◌≡◌, true, cond, List, [], ◌∷◌, ◌++◌, eqb, length, take, drop}
+use Rattle.std.specs.Prelude.{ℕ, ◌+◌, ◌≤◌, ◌≡◌, true, cond, List, [], ◌∷◌, ◌++◌, Option, Some, None, eqb, length, take, drop}
 use Rattle.numbers.specs.Num.{num_at}
 use Rattle.numbers.specs.Fields.{size_of, fields_bytes}
 use Rattle.paper.specs.Instance.{instance_ok}
 use Rattle.table.specs.Calls.{part_size}
+use Rattle.entries.specs.declared.Kind.{Kind}
+use Rattle.entries.specs.declared.Kind.TheVariants as kind
 
 -- an instance and its record
 abbrev pub record_kind : ℕ
@@ -13,6 +15,14 @@ record_kind = 20
 abbrev pub mark_kind : ℕ
 mark_kind = 21
 
+abbrev pub kind_number : Kind → ℕ
+kind_number kind.Record = record_kind
+kind_number kind.Mark = mark_kind
+
+-- the kind of a number, if there is one
+abbrev pub kind_of : ℕ → Option Kind
+kind_of k = cond (eqb k record_kind) (Some kind.Record) (cond (eqb k mark_kind) (Some kind.Mark) None)
+
 -- kind u8, owner u8, number u16
 abbrev pub head_widths : List ℕ
 head_widths = 1 ∷ 1 ∷ 2 ∷ []
@@ -21,8 +31,16 @@ abbrev pub entry_head : ℕ
 entry_head = size_of head_widths
 
 -- the kind alone says how long an entry is; 0 where there is no such kind
+abbrev pub kind_length : Kind → ℕ
+kind_length kind.Record = entry_head + part_size
+kind_length kind.Mark = entry_head
+
+abbrev pub length_of : Option Kind → ℕ
+length_of (Some k) = kind_length k
+length_of None = 0
+
 abbrev pub entry_length : ℕ → ℕ
-entry_length k = cond (eqb k record_kind) (entry_head + part_size) (cond (eqb k mark_kind) entry_head 0)
+entry_length k = length_of (kind_of k)
 
 -- as read
 abbrev pub kind_in : List ℕ → ℕ

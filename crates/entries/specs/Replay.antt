@@ -13,9 +13,9 @@ use Rattle.entries.specs.declared.Fault.{Fault}
 use Rattle.entries.specs.declared.Fault.TheVariants as fault
 use Rattle.entries.specs.declared.Front.{Front}
 use Rattle.entries.specs.declared.Front.TheVariants as front
-use Rattle.entries.specs.declared.Ended.{Ended}
-use Rattle.entries.specs.declared.Replaying.{Replaying}
-use Rattle.entries.specs.declared.Replaying.TheVariants as replaying
+use Rattle.entries.specs.declared.BadEntry.{BadEntry}
+use Rattle.entries.specs.declared.Unreplayed.{Unreplayed}
+use Rattle.entries.specs.declared.Unreplayed.TheVariants as unreplayed
 use Rattle.entries.specs.Entry.{record_kind, entry_length, kind_in, owner_in, number_in, part_in}
 
 -- which instances of a table are committed
@@ -27,13 +27,13 @@ abbrev pub entry_ok : ℕ → ℕ → ℕ → (ℕ → ℕ → Bool) → List �
 entry_ok n s c committed b = cond (eqb (kind_in b) record_kind) (sound_part n s c (owner_in b) (part_in b)) (committed (owner_in b) (number_in b))
 
 -- what stands in front: 41 wherever it stands; a known kind cut short is the rest; then 42, then 43
-unfoldable pub front_of : ℕ → ℕ → ℕ → (ℕ → ℕ → Bool) → List ℕ → Front
+unfoldable pub front_of : ℕ → ℕ → ℕ → (ℕ → ℕ → Bool) → List ℕ → Result Front Fault
 front_of n s c committed b =
-    cond (eqb (length b) 0) front.Rest
-    (cond (eqb (entry_length (kind_in b)) 0) (front.Bad fault.Kind)
-    (cond (ltb (length b) (entry_length (kind_in b))) front.Rest
-    (cond (not (instance_ok n s (owner_in b) (number_in b))) (front.Bad fault.Instance)
-    (cond (not (entry_ok n s c committed b)) (front.Bad fault.Unsound) front.Whole))))
+    cond (eqb (length b) 0) (Ok front.Rest)
+    (cond (eqb (entry_length (kind_in b)) 0) (Err fault.Kind)
+    (cond (ltb (length b) (entry_length (kind_in b))) (Ok front.Rest)
+    (cond (not (instance_ok n s (owner_in b) (number_in b))) (Err fault.Instance)
+    (cond (not (entry_ok n s c committed b)) (Err fault.Unsound) (Ok front.Whole)))))
 
 -- the table with the entry in front: its record in its place, or its mark
 unfoldable pub applied : ℕ → List ℕ → List ℕ → List ℕ
@@ -43,14 +43,14 @@ applied s t b = cond (eqb (kind_in b) record_kind) (put_part s t (owner_in b) (n
 abbrev pub behind : List ℕ → List ℕ
 behind b = drop (entry_length (kind_in b)) b
 
--- where a walk over k entries at most ends, each judged on the table after those before it
-abbrev pub or_on : Front → ℕ → Ended → Ended
-or_on front.Whole at on = on
-or_on front.Rest at on = record { front = front.Rest; at = at }
-or_on (front.Bad f) at on = record { front = front.Bad f; at = at }
+-- where a walk over k entries at most ends, each judged on the table after those before it; or which of them is bad
+abbrev pub or_on : Result Front Fault → ℕ → Result ℕ BadEntry → Result ℕ BadEntry
+or_on (Ok front.Whole) at on = on
+or_on (Ok front.Rest) at on = Ok at
+or_on (Err f) at on = Err (record { why = f; offset = at })
 
-unfoldable pub end_of : ℕ → ℕ → ℕ → ℕ → List ℕ → List ℕ → ℕ → Ended
-end_of zero n s c t b at = record { front = front.Rest; at = at }
+unfoldable pub end_of : ℕ → ℕ → ℕ → ℕ → List ℕ → List ℕ → ℕ → Result ℕ BadEntry
+end_of zero n s c t b at = Ok at
 end_of (suc k) n s c t b at =
     or_on (front_of n s c (committed_in s t) b) at (end_of k n s c (applied s t b) (behind b) (at + entry_length (kind_in b)))
 
@@ -62,22 +62,21 @@ puts (suc k) s t (x ∷ b) = puts k s (applied s t (x ∷ b)) (behind (x ∷ b))
 
 -- the answer, and the table after
 pub record Replayed : Type 0 where
-  pub answer : Replaying
+  pub answer : Result ℕ Unreplayed
   pub table : List ℕ
 
 -- the first bad entry counts, and nothing is changed then; else the table after the last whole entry, and where the rest begins
-abbrev pub replayed_at : Front → ℕ → ℕ → List ℕ → List ℕ → Replayed
-replayed_at front.Whole at s t b = record { answer = replaying.Upto at; table = puts (length b) s t (take at b) }
-replayed_at front.Rest at s t b = record { answer = replaying.Upto at; table = puts (length b) s t (take at b) }
-replayed_at (front.Bad f) at s t b = record { answer = replaying.Bad f at; table = t }
+abbrev pub replayed_at : Result ℕ BadEntry → ℕ → List ℕ → List ℕ → Replayed
+replayed_at (Ok at) s t b = record { answer = Ok at; table = puts (length b) s t (take at b) }
+replayed_at (Err x) s t b = record { answer = Err (unreplayed.Bad x); table = t }
 
 -- an entry has a byte at least, so there are no more entries than bytes
 unfoldable pub replayed_open : ℕ → ℕ → ℕ → List ℕ → List ℕ → Replayed
-replayed_open n s c t b = replayed_at (end_of (length b) n s c t b 0).front (end_of (length b) n s c t b 0).at s t b
+replayed_open n s c t b = replayed_at (end_of (length b) n s c t b 0) s t b
 
 abbrev pub replayed_through : Result Unit Refusal → List ℕ → Replayed → Replayed
 replayed_through (Ok x) t rest = rest
-replayed_through (Err r) t rest = record { answer = replaying.Refused r; table = t }
+replayed_through (Err r) t rest = record { answer = Err (unreplayed.Refused r); table = t }
 
 -- 1 and 11 of the lent table, then the first bad entry
 unfoldable pub replayed : ℕ → ℕ → ℕ → List ℕ → List ℕ → Replayed
@@ -90,12 +89,12 @@ fault_number fault.Instance = 42
 fault_number fault.Unsound = 43
 
 -- the paper's number of an answer, 0 for none, and the offset that comes with it
-abbrev pub replaying_number : Replaying → ℕ
-replaying_number (replaying.Upto at) = 0
-replaying_number (replaying.Bad f at) = fault_number f
-replaying_number (replaying.Refused r) = number_of r
+abbrev pub replaying_number : Result ℕ Unreplayed → ℕ
+replaying_number (Ok at) = 0
+replaying_number (Err (unreplayed.Bad x)) = fault_number x.why
+replaying_number (Err (unreplayed.Refused r)) = number_of r
 
-abbrev pub replaying_offset : Replaying → ℕ
-replaying_offset (replaying.Upto at) = at
-replaying_offset (replaying.Bad f at) = at
-replaying_offset (replaying.Refused r) = 0
+abbrev pub replaying_offset : Result ℕ Unreplayed → ℕ
+replaying_offset (Ok at) = at
+replaying_offset (Err (unreplayed.Bad x)) = x.offset
+replaying_offset (Err (unreplayed.Refused r)) = 0

@@ -9,22 +9,23 @@ use native.Mathlib.Decide.{ℕ_discrete}
 use lib.Dec.{eqb}
 use lib.ListN.{length, get_or, set, take, drop, length-set, length-drop}
 use lib.Seq.{get_or-set_same, get_or-set_other, take_all, drop-drop}
+use Rattle.std.specs.Prelude.{Some, Result, Ok, Err}
 use Rattle.paper.specs.Instance.{instance_ok}
 use Rattle.table.specs.Sizes.{Names}
 use Rattle.table.specs.Table.{record_in}
 use Rattle.table.specs.Calls.{record_of}
 use Rattle.rows.specs.Rows.{slot_of}
 use Rattle.entries.specs.declared.Fault.{Fault}
-use Rattle.entries.specs.declared.Fault.TheVariants as fault
 use Rattle.entries.specs.declared.Front.{Front}
 use Rattle.entries.specs.declared.Front.TheVariants as front
-use Rattle.entries.specs.declared.Ended.{Ended}
-use Rattle.entries.specs.Entry.{record_kind, entry_length, kind_in, owner_in, number_in, part_in}
+use Rattle.entries.specs.declared.BadEntry.{BadEntry}
+use Rattle.entries.specs.declared.Kind.{Kind}
+use Rattle.entries.specs.Entry.{record_kind, kind_of, kind_length, entry_length, kind_in, owner_in, number_in, part_in}
 use Rattle.entries.specs.Replay.{front_of, behind, or_on}
 use Rattle.entries.specs.Entry.{Fit}
 use Rattle.journal.specs.Judging.{told, noted, end_by, Charted, Tells}
-use Rattle.entries.proofs.Lengths.{length-least}
-use Rattle.entries.proofs.Fronts.{front-none, front-fit, or-stops}
+use Rattle.entries.proofs.Lengths.{kind-known, kind-some, length-least}
+use Rattle.entries.proofs.Fronts.{front-none, front-fit, or-rests, or-stops}
 
 -- statuses, place by place
 pub chart-start : (n s : ℕ) (t st : List ℕ) → length st ≡ 448 → Charted n s t (64 * 0) st
@@ -61,8 +62,9 @@ module _ (n s : ℕ) (b : List ℕ) {o j : ℕ} (eo : o ≡ owner_in b) (ej : j 
   pub in-range : r ≡ instance_ok n s (owner_in b) (number_in b)
   in-range = er ∙ rw (eo, ej)
 
-  pub fits_in : n ≤ 7 → s ≤ 64 → {x : ℕ} → x ≡ entry_length (kind_in b) → (x ≡ 0 → ⊥) → x ≤ length b → r ≡ true → Fit n s b
-  fits_in ln ls ex known whole e = record { known = λ z. known (ex ∙ z); whole = rw ex at whole; copies = ln; numbers = ls; range = sym in-range ∙ e }
+  pub fits_in : n ≤ 7 → s ≤ 64 → {x : Kind} → kind_of (kind_in b) ≡ Some x → kind_length x ≤ length b → r ≡ true → Fit n s b
+  fits_in ln ls k whole e =
+      record { known = kind-some (kind_in b) k; whole = rw (kind-known (kind_in b) k) whole; copies = ln; numbers = ls; range = sym in-range ∙ e }
 
 -- what is left behind an offset
 pub rest-is : (b : List ℕ) (at : ℕ) → take (length b - at) (drop at b) ≡ drop at b
@@ -102,41 +104,50 @@ by-step zero n s c st b at l = absurd (omega arith)
 by-step (suc k) n s c st b at l = let e : suc k - 1 ≡ k = omega arith in rw e
 
 -- nothing left
-by-none : (k n s c : ℕ) (st b : List ℕ) (at : ℕ) → length b ≡ 0 → ◌≡◌ {A = Ended} (record { front = front.Rest; at = at }) (end_by k n s c st b at)
+by-none : (k n s c : ℕ) (st b : List ℕ) (at : ℕ) → length b ≡ 0 → Ok at ≡ end_by k n s c st b at
 unfolding end_by
 by-none zero n s c st b at e = refl
 by-none (suc k) n s c st b at e = rw (← front-none n s c (told st) b e)
 
 -- the walk at an offset: at the end, before what is no whole entry, and before one
 module _ (n s c : ℕ) (st₀ b st : List ℕ) (at : ℕ) (w : Walked n s c st₀ b st at) where
-  pub walk_end : length b ≤ at → ◌≡◌ {A = Ended} (record { front = front.Rest; at = at }) (end_by (length b) n s c st₀ b 0)
+  pub walk_end : length b ≤ at → Ok at ≡ end_by (length b) n s c st₀ b 0
   walk_end l = by-none w.left n s c st (drop at b) at (simp length-drop (omega arith)) ∙ sym w.so
 
   module _ (l : at < length b) where
     one_left : 0 < w.left
     one_left = omega (arith, w.enough)
 
-    pub walk-stops : {x : Front} → x ≡ front_of n s c (told st) (take (length b - at) (drop at b)) → (x ≡ front.Whole → ⊥)
-        → ◌≡◌ {A = Ended} (record { front = x; at = at }) (end_by (length b) n s c st₀ b 0)
-    walk-stops {x} e h =
+    -- where the walk ends further on, and here, by what stands here
+    abbrev on : Result ℕ BadEntry
+    on = end_by (w.left - 1) n s c (noted st (drop at b)) (behind (drop at b)) (at + entry_length (kind_in (drop at b)))
+
+    here : {x : Result Front Fault} → x ≡ front_of n s c (told st) (take (length b - at) (drop at b))
+        → or_on x at on ≡ end_by (length b) n s c st₀ b 0
+    here {x} e =
         let f : x ≡ front_of n s c (told st) (drop at b) = e ∙ ap (front_of n s c (told st)) (rest-is b at) in
-        or-stops x at _ h
-        ∙ ap (λ (y : Front). or_on y at (end_by (w.left - 1) n s c (noted st (drop at b)) (behind (drop at b)) (at + entry_length (kind_in (drop at b))))) f
+        ap (λ (y : Result Front Fault). or_on y at on) f
         ∙ sym (w.so ∙ by-step w.left n s c st (drop at b) at one_left)
 
+    pub walk-rests : Ok front.Rest ≡ front_of n s c (told st) (take (length b - at) (drop at b)) → Ok at ≡ end_by (length b) n s c st₀ b 0
+    walk-rests e = or-rests at on ∙ here e
+
+    pub walk-stops : {f : Fault} → Err f ≡ front_of n s c (told st) (take (length b - at) (drop at b)) → Err (record { why = f; offset = at }) ≡ end_by (length b) n s c st₀ b 0
+    walk-stops {f} e = or-stops f at on ∙ here e
+
     -- the entry in front fits
-    pub walk-fit : n ≤ 7 → s ≤ 64 → front.Whole ≡ front_of n s c (told st) (take (length b - at) (drop at b)) → Fit n s (take (length b - at) (drop at b))
+    pub walk-fit : n ≤ 7 → s ≤ 64 → Ok front.Whole ≡ front_of n s c (told st) (take (length b - at) (drop at b)) → Fit n s (take (length b - at) (drop at b))
     walk-fit ln ls e = (front-fit n s c (told st) (take (length b - at) (drop at b)) ln ls e).0
 
-    pub walk-room : n ≤ 7 → s ≤ 64 → front.Whole ≡ front_of n s c (told st) (take (length b - at) (drop at b)) → {x : ℕ}
+    pub walk-room : n ≤ 7 → s ≤ 64 → Ok front.Whole ≡ front_of n s c (told st) (take (length b - at) (drop at b)) → {x : ℕ}
         → x ≡ entry_length (kind_in (take (length b - at) (drop at b))) → (0 < x) × (at + x ≤ length b)
     walk-room ln ls e ex = rest-room n s b at l (walk-fit ln ls e) ex
 
-    pub walk-on : n ≤ 7 → s ≤ 64 → front.Whole ≡ front_of n s c (told st) (take (length b - at) (drop at b)) → {st₁ : List ℕ} {x : ℕ}
+    pub walk-on : n ≤ 7 → s ≤ 64 → Ok front.Whole ≡ front_of n s c (told st) (take (length b - at) (drop at b)) → {st₁ : List ℕ} {x : ℕ}
         → st₁ ≡ noted st (take (length b - at) (drop at b)) → x ≡ entry_length (kind_in (take (length b - at) (drop at b))) → Walked n s c st₀ b st₁ (at + x)
     walk-on ln ls e {st₁} {x} es ex =
         let room = walk-room ln ls e ex in
-        let f : front.Whole ≡ front_of n s c (told st) (drop at b) = rw rest-is at e in
+        let f : Ok front.Whole ≡ front_of n s c (told st) (drop at b) = rw rest-is at e in
         let v : st₁ ≡ noted st (drop at b) = es ∙ ap (noted st) (rest-is b at) in
         let y : x ≡ entry_length (kind_in (drop at b)) = ex ∙ ap (λ (r : List ℕ). entry_length (kind_in r)) (rest-is b at) in
         let d : behind (drop at b) ≡ drop (at + x) b = ap (λ (k : ℕ). drop k (drop at b)) (sym y) ∙ drop-drop x at b in

@@ -8,6 +8,7 @@ use native.Mathlib.Decide.{ℕ_discrete}
 use lib.Dec.{eqb}
 use lib.ListN.{length, get_or, set, take, drop, length-set, length-drop}
 use lib.Seq.{get_or-set_same, get_or-set_other, get_or-drop, drop-drop}
+use Rattle.std.specs.Prelude.{Result, Ok, Err}
 use Rattle.numbers.specs.Num.{Bytes}
 use Rattle.paper.specs.declared.Record.{Record}
 use Rattle.record.specs.Part.{sound_part}
@@ -21,9 +22,10 @@ use Rattle.table.proofs.Saved.{back_long, back-own, back-other, back_whole, back
 use Rattle.rules.specs.Order.{marked}
 use Rattle.rows.specs.Rows.{slot_of}
 use Rattle.order.specs.Calls.{marked_in}
+use Rattle.entries.specs.declared.Fault.{Fault}
 use Rattle.entries.specs.declared.Front.{Front}
 use Rattle.entries.specs.declared.Front.TheVariants as front
-use Rattle.entries.specs.declared.Ended.{Ended}
+use Rattle.entries.specs.declared.BadEntry.{BadEntry}
 use Rattle.entries.specs.Entry.{record_kind, entry_head, entry_length, kind_in, owner_in, number_in, part_in}
 use Rattle.entries.specs.Replay.{committed_in, entry_ok, front_of, applied, behind, or_on, end_of, puts}
 use Rattle.entries.specs.Entry.{Fit}
@@ -149,10 +151,10 @@ drop-bytes : (k : ℕ) (b : List ℕ) → Bytes b → Bytes (drop k b)
 drop-bytes k b y i = rw (get_or-drop k b i 0) (y (k + i))
 
 -- the walk by statuses is the walk by tables: step by step the same stands in front
-or_same : (x : Front) (at : ℕ) (a b : Ended) → (front.Whole ≡ x → a ≡ b) → or_on x at a ≡ or_on x at b
-or_same front.Whole at a b h = h refl
-or_same front.Rest at a b h = refl
-or_same (front.Bad f) at a b h = refl
+or_same : (x : Result Front Fault) (at : ℕ) (a b : Result ℕ BadEntry) → (Ok front.Whole ≡ x → a ≡ b) → or_on x at a ≡ or_on x at b
+or_same (Ok front.Whole) at a b h = h refl
+or_same (Ok front.Rest) at a b h = refl
+or_same (Err f) at a b h = refl
 
 tells-front : (n s c : ℕ) (t st b : List ℕ) → Held n s t → Tells n s t st → front_of n s c (told st) b ≡ front_of n s c (committed_in s t) b
 tells-front n s c t st b h z =
@@ -199,21 +201,28 @@ puts-step zero s t b l m = absurd (omega arith)
 puts-step (suc k) s t [] l m = absurd (omega arith)
 puts-step (suc k) s t (x ∷ b) l m = let e : suc k - 1 ≡ k = omega arith in rw e
 
+-- two ends that are the same offset, and one that is no offset
+pub same_end : {at e : ℕ} → ◌≡◌ {A = Result ℕ BadEntry} (Ok at) (Ok e) → at ≡ e
+same_end p = cc
+
+pub no_end : {A : Type 0} {x : BadEntry} {e : ℕ} → ◌≡◌ {A = Result ℕ BadEntry} (Err x) (Ok e) → A
+no_end p = let z : ◌≡◌ {A = ℕ} 0 1 = cc in absurd (omega arith)
+
 -- where nothing whole stands in front, a walk ends
-or-past : (x : Front) (at e : ℕ) (on : Ended) → (or_on x at on).at ≡ e → at < e → (front.Whole ≡ x) × (on.at ≡ e)
-or-past front.Whole at e on p l = (refl, p)
-or-past front.Rest at e on p l = absurd (omega arith)
-or-past (front.Bad f) at e on p l = absurd (omega arith)
+or-past : (x : Result Front Fault) (at e : ℕ) (on : Result ℕ BadEntry) → or_on x at on ≡ Ok e → at < e → (Ok front.Whole ≡ x) × (on ≡ Ok e)
+or-past (Ok front.Whole) at e on p l = (refl, p)
+or-past (Ok front.Rest) at e on p l = absurd (omega (arith, same_end p))
+or-past (Err f) at e on p l = no_end p
 
 -- a walk that ends further on has a whole entry in front
 pub record Past (k n s c : ℕ) (t b : List ℕ) (at e : ℕ) : Type 0 where
   pub some : 0 < k
-  pub whole : front.Whole ≡ front_of n s c (committed_in s t) b
-  pub on : (end_of (k - 1) n s c (applied s t b) (behind b) (at + entry_length (kind_in b))).at ≡ e
+  pub whole : Ok front.Whole ≡ front_of n s c (committed_in s t) b
+  pub on : end_of (k - 1) n s c (applied s t b) (behind b) (at + entry_length (kind_in b)) ≡ Ok e
 
-pub end-past : (k n s c : ℕ) (t b : List ℕ) (at e : ℕ) → (end_of k n s c t b at).at ≡ e → at < e → Past k n s c t b at e
+pub end-past : (k n s c : ℕ) (t b : List ℕ) (at e : ℕ) → end_of k n s c t b at ≡ Ok e → at < e → Past k n s c t b at e
 unfolding end_of
-end-past zero n s c t b at e p l = absurd (omega arith)
+end-past zero n s c t b at e p l = absurd (omega (arith, same_end p))
 end-past (suc k) n s c t b at e p l =
     let q = or-past (front_of n s c (committed_in s t) b) at e (end_of k n s c (applied s t b) (behind b) (at + entry_length (kind_in b))) p l in
     let i : suc k - 1 ≡ k = omega arith in
@@ -225,7 +234,7 @@ pub record Putting (n s : ℕ) (t₀ b t : List ℕ) (at : ℕ) : Type 0 where
   pub held : Held n s t
   pub copy : ℕ
   pub left : ℕ
-  pub ends : (end_of left n s copy t (drop at b) at).at ≡ length b
+  pub ends : end_of left n s copy t (drop at b) at ≡ Ok (length b)
   pub so : puts (length b) s t₀ b ≡ puts left s t (drop at b)
 
 pub put-start : (n s : ℕ) (t b : List ℕ) → Ready n s t b → Putting n s t b t 0

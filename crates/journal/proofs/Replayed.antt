@@ -10,7 +10,7 @@ use native.Mathlib.Nat.{eq-or-lt_of_le}
 use lib.Dec.{eqb}
 use lib.ListN.{length, get_or, take, drop, length-drop, take-append-drop, get_or-append}
 use lib.Seq.{take-append-le, drop-append-le, length-take-le}
-use Rattle.std.specs.Prelude.{Ok, Err}
+use Rattle.std.specs.Prelude.{Result, Ok, Err}
 use Rattle.paper.specs.Instance.{instance_ok}
 use Rattle.paper.specs.declared.Refusal.{Refusal}
 use Rattle.record.specs.Part.{sound_part}
@@ -19,16 +19,16 @@ use Rattle.order.specs.Calls.{marked_in}
 use Rattle.entries.specs.declared.Fault.{Fault}
 use Rattle.entries.specs.declared.Front.{Front}
 use Rattle.entries.specs.declared.Front.TheVariants as front
-use Rattle.entries.specs.declared.Ended.{Ended}
-use Rattle.entries.specs.declared.Replaying.{Replaying}
-use Rattle.entries.specs.declared.Replaying.TheVariants as replaying
+use Rattle.entries.specs.declared.BadEntry.{BadEntry}
+use Rattle.entries.specs.declared.Unreplayed.{Unreplayed}
+use Rattle.entries.specs.declared.Unreplayed.TheVariants as unreplayed
 use Rattle.entries.specs.Entry.{record_kind, entry_head, entry_length, kind_in, owner_in, number_in, part_in}
-use Rattle.entries.specs.Replay.{committed_in, entry_ok, front_of, applied, behind, or_on, end_of, puts, Replayed, replayed_at, replayed_open, replayed}
+use Rattle.entries.specs.Replay.{committed_in, entry_ok, front_of, applied, behind, or_on, end_of, puts, Replayed, replayed_open, replayed}
 use Rattle.entries.specs.Entry.{Fit}
 use Rattle.journal.specs.Judging.{Held, Ready}
 use Rattle.entries.proofs.Lengths.{length-least, length-record}
 use Rattle.entries.proofs.Fronts.{front-none, front-whole, front-fit}
-use Rattle.journal.proofs.Put.{puts_none, puts-step, end-past}
+use Rattle.journal.proofs.Put.{puts_none, puts-step, same_end, no_end, end-past}
 
 -- two choices by one test
 cond_same : {A : Type 0} (x : Bool) (p q u v : A) → (x ≡ true → p ≡ u) → q ≡ v → cond x p q ≡ cond x u v
@@ -36,7 +36,7 @@ cond_same true p q u v f g = f refl
 cond_same false p q u v f g = g
 
 -- the answer and the table of a replay
-abbrev pub Met : Replayed → Replaying → List ℕ → Type 0
+abbrev pub Met : Replayed → Result ℕ Unreplayed → List ℕ → Type 0
 Met r a t = record { answers : a ≡ r.answer; table : t ≡ r.table }
 
 -- the entry in front, cut off from what stands behind it
@@ -86,79 +86,86 @@ module _ (n s : ℕ) (a r : List ℕ) (g : Fit n s (a ++ r)) (l : entry_length (
   behind-cut = drop-append-le (entry_length (kind_in (a ++ r))) a r l ∙ ap (λ (k : ℕ). drop (entry_length k) a ++ r) kind-cut
 
 -- where a walk can end: not before its start, nor behind the list
-or-least : (x : Front) (at : ℕ) (on : Ended) → at ≤ on.at → at ≤ (or_on x at on).at
-or-least front.Whole at on l = l
-or-least front.Rest at on l = omega arith
-or-least (front.Bad f) at on l = omega arith
+or-least : (x : Result Front Fault) (at e : ℕ) (on : Result ℕ BadEntry) → or_on x at on ≡ Ok e → (on ≡ Ok e → at ≤ e) → at ≤ e
+or-least (Ok front.Whole) at e on p l = l p
+or-least (Ok front.Rest) at e on p l = omega (arith, same_end p)
+or-least (Err f) at e on p l = no_end p
 
-or_most : (x : Front) (at m : ℕ) (on : Ended) → at ≤ m → (front.Whole ≡ x → on.at ≤ m) → (or_on x at on).at ≤ m
-or_most front.Whole at m on l h = h refl
-or_most front.Rest at m on l h = l
-or_most (front.Bad f) at m on l h = l
+or_most : (x : Result Front Fault) (at m e : ℕ) (on : Result ℕ BadEntry) → or_on x at on ≡ Ok e → at ≤ m → (Ok front.Whole ≡ x → on ≡ Ok e → e ≤ m) → e ≤ m
+or_most (Ok front.Whole) at m e on p l h = h refl p
+or_most (Ok front.Rest) at m e on p l h = omega (arith, same_end p)
+or_most (Err f) at m e on p l h = no_end p
 
-end-least : (k n s c : ℕ) (t b : List ℕ) (at : ℕ) → at ≤ (end_of k n s c t b at).at
+end-least : (k n s c : ℕ) (t b : List ℕ) (at e : ℕ) → end_of k n s c t b at ≡ Ok e → at ≤ e
 unfolding end_of
-end-least zero n s c t b at = omega arith
-end-least (suc k) n s c t b at =
-    or-least (front_of n s c (committed_in s t) b) at _ (omega (arith, end-least k n s c (applied s t b) (behind b) (at + entry_length (kind_in b))))
+end-least zero n s c t b at e p = omega (arith, same_end p)
+end-least (suc k) n s c t b at e p =
+    or-least (front_of n s c (committed_in s t) b) at e _ p (λ q. omega (arith, end-least k n s c (applied s t b) (behind b) (at + entry_length (kind_in b)) e q))
 
-end-most : (k n s c : ℕ) (t b : List ℕ) (at : ℕ) → n ≤ 7 → s ≤ 64 → (end_of k n s c t b at).at ≤ at + length b
+end-most : (k n s c : ℕ) (t b : List ℕ) (at e : ℕ) → n ≤ 7 → s ≤ 64 → end_of k n s c t b at ≡ Ok e → e ≤ at + length b
 unfolding end_of
-end-most zero n s c t b at ln ls = omega arith
-end-most (suc k) n s c t b at ln ls =
-    or_most (front_of n s c (committed_in s t) b) at (at + length b) _ (omega arith)
-    (λ e.
-    let g = front-fit n s c (committed_in s t) b ln ls e in
-    omega (arith, g.0.whole, end-most k n s c (applied s t b) (behind b) (at + entry_length (kind_in b)) ln ls, length-drop (entry_length (kind_in b)) b))
+end-most zero n s c t b at e ln ls p = omega (arith, same_end p)
+end-most (suc k) n s c t b at e ln ls p =
+    or_most (front_of n s c (committed_in s t) b) at (at + length b) e _ p (omega arith)
+    (λ w q.
+    let g = front-fit n s c (committed_in s t) b ln ls w in
+    omega (arith, g.0.whole, end-most k n s c (applied s t b) (behind b) (at + entry_length (kind_in b)) e ln ls q, length-drop (entry_length (kind_in b)) b))
 
 -- a walk with no step left, one with nothing left, and one step
-end-zero : (n s c : ℕ) (t b : List ℕ) (at : ℕ) → (end_of 0 n s c t b at).at ≡ at
+end-zero : (n s c : ℕ) (t b : List ℕ) (at : ℕ) → end_of 0 n s c t b at ≡ Ok at
 unfolding end_of
 end-zero n s c t b at = refl
 
-end_none : (k n s c : ℕ) (t b : List ℕ) (at : ℕ) → length b ≡ 0 → (end_of k n s c t b at).at ≡ at
+end_none : (k n s c : ℕ) (t b : List ℕ) (at : ℕ) → length b ≡ 0 → end_of k n s c t b at ≡ Ok at
 unfolding end_of
 end_none zero n s c t b at e = refl
 end_none (suc k) n s c t b at e = rw (← front-none n s c (committed_in s t) b e)
 
-end_step : (k n s c : ℕ) (t b : List ℕ) (at : ℕ) → 0 < k → front.Whole ≡ front_of n s c (committed_in s t) b
+end_step : (k n s c : ℕ) (t b : List ℕ) (at : ℕ) → 0 < k → Ok front.Whole ≡ front_of n s c (committed_in s t) b
     → end_of k n s c t b at ≡ end_of (k - 1) n s c (applied s t b) (behind b) (at + entry_length (kind_in b))
 unfolding end_of
 end_step zero n s c t b at l e = absurd (omega arith)
 end_step (suc k) n s c t b at l e = let i : suc k - 1 ≡ k = omega arith in rw (← e, i)
+
+-- a walk that ends at an offset, by another spelling of it
+at-end : {at e : ℕ} → at ≡ e → ◌≡◌ {A = Result ℕ BadEntry} (Ok at) (Ok e)
+at-end i = ap (λ (x : ℕ). Ok x) i
 
 -- behind the first entry a walk over all of a list goes on over the rest of it
 rest-long : (n s : ℕ) (a : List ℕ) (at : ℕ) → Fit n s a → at + length a ≡ at + entry_length (kind_in a) + length (behind a)
 rest-long n s a at g = omega (arith, g.whole, length-drop (entry_length (kind_in a)) a)
 
 -- the same walk, where the list is cut at its end
-end-cut : (k k' n s c : ℕ) (t a r : List ℕ) (at : ℕ) → n ≤ 7 → s ≤ 64 → (end_of k n s c t (a ++ r) at).at ≡ at + length a → length a ≤ k'
-    → (end_of k' n s c t a at).at ≡ at + length a
-end-cut zero k' n s c t a r at ln ls e m = let z = end-zero n s c t (a ++ r) at in end_none k' n s c t a at (omega arith) ∙ sym z ∙ e
+end-cut : (k k' n s c : ℕ) (t a r : List ℕ) (at : ℕ) → n ≤ 7 → s ≤ 64 → end_of k n s c t (a ++ r) at ≡ Ok (at + length a) → length a ≤ k'
+    → end_of k' n s c t a at ≡ Ok (at + length a)
+end-cut zero k' n s c t a r at ln ls e m =
+    let i : at ≡ at + length a = same_end (sym (end-zero n s c t (a ++ r) at) ∙ e) in
+    end_none k' n s c t a at (omega arith) ∙ at-end i
 end-cut (suc k) k' n s c t a r at ln ls e m =
     ⊎_elim
-    (λ (z : 0 ≡ length a). let i : at ≡ at + length a = omega arith in end_none k' n s c t a at (sym z) ∙ i)
+    (λ (z : 0 ≡ length a). let i : at ≡ at + length a = omega arith in end_none k' n s c t a at (sym z) ∙ at-end i)
     (λ (l : 0 < length a).
     let p = end-past (suc k) n s c t (a ++ r) at (at + length a) e (omega arith) in
     let i : suc k - 1 ≡ k = omega arith in
-    let on : (end_of k n s c (applied s t (a ++ r)) (behind (a ++ r)) (at + entry_length (kind_in (a ++ r)))).at ≡ at + length a = rw i at p.on in
+    let on : end_of k n s c (applied s t (a ++ r)) (behind (a ++ r)) (at + entry_length (kind_in (a ++ r))) ≡ Ok (at + length a) = rw i at p.on in
     let g = front-fit n s c (committed_in s t) (a ++ r) ln ls p.whole in
     let fits : entry_length (kind_in (a ++ r)) ≤ length a =
-    omega (arith, on, end-least k n s c (applied s t (a ++ r)) (behind (a ++ r)) (at + entry_length (kind_in (a ++ r)))) in
+    omega (arith, end-least k n s c (applied s t (a ++ r)) (behind (a ++ r)) (at + entry_length (kind_in (a ++ r))) (at + length a) on) in
     let f : Fit n s a = fit_cut n s a r g.0 fits in
-    let w : front.Whole ≡ front_of n s c (committed_in s t) a =
+    let w : Ok front.Whole ≡ front_of n s c (committed_in s t) a =
     front-whole n s c (committed_in s t) a f (sym (ok-cut n s a r g.0 fits c (committed_in s t)) ∙ g.1) in
-    let cut : (end_of k n s c (applied s t a) (behind a ++ r) (at + entry_length (kind_in a))).at ≡ at + entry_length (kind_in a) + length (behind a) =
-    rw (← applied-cut n s a r g.0 fits t, ← behind-cut n s a r g.0 fits, ← kind-cut n s a r g.0 fits) on ∙ rest-long n s a at f in
-    ap (λ (x : Ended). x.at) (end_step k' n s c t a at (omega arith) w)
+    let cut : end_of k n s c (applied s t a) (behind a ++ r) (at + entry_length (kind_in a)) ≡ Ok (at + entry_length (kind_in a) + length (behind a)) =
+    rw (← applied-cut n s a r g.0 fits t, ← behind-cut n s a r g.0 fits, ← kind-cut n s a r g.0 fits) on ∙ at-end (rest-long n s a at f) in
+    end_step k' n s c t a at (omega arith) w
     ∙ end-cut k (k' - 1) n s c (applied s t a) (behind a) r (at + entry_length (kind_in a)) ln ls cut (omega (arith, length-drop (entry_length (kind_in a)) a, length-least (kind_in a) f.known))
-    ∙ sym (rest-long n s a at f))
+    ∙ at-end (sym (rest-long n s a at f)))
     (eq-or-lt_of_le {n = 0} {m = length a} (omega arith))
 
 -- as many steps as bytes are enough to put all of them
-puts-enough : (k k₁ k₂ n s c : ℕ) (t a : List ℕ) (at : ℕ) → n ≤ 7 → s ≤ 64 → (end_of k n s c t a at).at ≡ at + length a → length a ≤ k₁ → length a ≤ k₂
+puts-enough : (k k₁ k₂ n s c : ℕ) (t a : List ℕ) (at : ℕ) → n ≤ 7 → s ≤ 64 → end_of k n s c t a at ≡ Ok (at + length a) → length a ≤ k₁ → length a ≤ k₂
     → puts k₁ s t a ≡ puts k₂ s t a
-puts-enough zero k₁ k₂ n s c t a at ln ls e m₁ m₂ = let z = end-zero n s c t a at in puts_none k₁ s t a (omega arith) ∙ sym (puts_none k₂ s t a (omega arith))
+puts-enough zero k₁ k₂ n s c t a at ln ls e m₁ m₂ =
+    let i : at ≡ at + length a = same_end (sym (end-zero n s c t a at) ∙ e) in puts_none k₁ s t a (omega arith) ∙ sym (puts_none k₂ s t a (omega arith))
 puts-enough (suc k) k₁ k₂ n s c t a at ln ls e m₁ m₂ =
     ⊎_elim
     (λ (z : 0 ≡ length a). puts_none k₁ s t a (sym z) ∙ sym (puts_none k₂ s t a (sym z)))
@@ -166,8 +173,8 @@ puts-enough (suc k) k₁ k₂ n s c t a at ln ls e m₁ m₂ =
     let p = end-past (suc k) n s c t a at (at + length a) e (omega arith) in
     let i : suc k - 1 ≡ k = omega arith in
     let g = (front-fit n s c (committed_in s t) a ln ls p.whole).0 in
-    let on : (end_of k n s c (applied s t a) (behind a) (at + entry_length (kind_in a))).at ≡ at + entry_length (kind_in a) + length (behind a) =
-    rw i at p.on ∙ rest-long n s a at g in
+    let on : end_of k n s c (applied s t a) (behind a) (at + entry_length (kind_in a)) ≡ Ok (at + entry_length (kind_in a) + length (behind a)) =
+    rw i at p.on ∙ at-end (rest-long n s a at g) in
     let d = length-drop (entry_length (kind_in a)) a in
     let b = length-least (kind_in a) g.known in
     puts-step k₁ s t a (omega arith) l
@@ -176,48 +183,43 @@ puts-enough (suc k) k₁ k₂ n s c t a at ln ls e m₁ m₂ =
     (eq-or-lt_of_le {n = 0} {m = length a} (omega arith))
 
 -- past 1 and 11: the entries that were taken are put
-module _ (n s c : ℕ) (t b : List ℕ) {x : Ended} (e : x ≡ end_of (length b) n s c t b 0) where
+module _ (n s c : ℕ) (t b : List ℕ) {at : ℕ} (e : Ok at ≡ end_of (length b) n s c t b 0) where
   module _ (ln : n ≤ 7) (ls : s ≤ 64) where
-    few : x.at ≤ length b
-    few = rw e (omega (arith, end-most (length b) n s c t b 0 ln ls))
+    few : at ≤ length b
+    few = omega (arith, end-most (length b) n s c t b 0 at ln ls (sym e))
 
-    pub upto-length : x.at ≡ length (take x.at b)
-    upto-length = sym (length-take-le x.at b few)
+    pub upto-length : at ≡ length (take at b)
+    upto-length = sym (length-take-le at b few)
 
-    ends : (end_of (length (take x.at b)) n s c t (take x.at b) 0).at ≡ 0 + length (take x.at b)
+    ends : end_of (length (take at b)) n s c t (take at b) 0 ≡ Ok (0 + length (take at b))
     ends =
-        let z : (end_of (length b) n s c t (take x.at b ++ drop x.at b) 0).at ≡ 0 + length (take x.at b) =
-        rw take-append-drop (ap (λ (y : Ended). y.at) (sym e) ∙ (omega (arith, upto-length))) in
-        end-cut (length b) (length (take x.at b)) n s c t (take x.at b) (drop x.at b) 0 ln ls z (omega arith)
+        let z : end_of (length b) n s c t (take at b ++ drop at b) 0 ≡ Ok (0 + length (take at b)) =
+        rw take-append-drop (sym e ∙ at-end (omega (arith, upto-length))) in
+        end-cut (length b) (length (take at b)) n s c t (take at b) (drop at b) 0 ln ls z (omega arith)
 
-    enough : puts (length (take x.at b)) s t (take x.at b) ≡ puts (length b) s t (take x.at b)
+    enough : puts (length (take at b)) s t (take at b) ≡ puts (length b) s t (take at b)
     enough =
-        puts-enough (length (take x.at b)) (length (take x.at b)) (length b) n s c t (take x.at b) 0 ln ls ends (omega arith) (omega (arith, few, upto-length))
+        puts-enough (length (take at b)) (length (take at b)) (length b) n s c t (take at b) 0 ln ls ends (omega arith) (omega (arith, few, upto-length))
 
-  pub upto-ready : Held n s t → Ready n s t (take x.at b)
-  upto-ready h = record { held = h; copy = c; ends = ends h.copies h.numbers ∙ (omega arith) }
+  pub upto-ready : Held n s t → Ready n s t (take at b)
+  upto-ready h = record { held = h; copy = c; ends = ends h.copies h.numbers ∙ at-end (omega arith) }
 
-  pub open-bad : (f : Fault) → x.front ≡ front.Bad f → Met (replayed_open n s c t b) (replaying.Bad f x.at) t
+  pub open-upto : Held n s t → {t₁ : List ℕ} → t₁ ≡ puts (length (take at b)) s t (take at b) → Met (replayed_open n s c t b) (Ok at) t₁
   unfolding replayed_open
-  open-bad f h = rw (← e, h) (record { answers = refl; table = refl })
+  open-upto h et = rw (← e) (record { answers = refl; table = et ∙ enough h.copies h.numbers })
 
-  pub open-upto : Held n s t → ((f : Fault) → x.front ≡ front.Bad f → ⊥) → {t₁ : List ℕ} → t₁ ≡ puts (length (take x.at b)) s t (take x.at b)
-      → Met (replayed_open n s c t b) (replaying.Upto x.at) t₁
-  unfolding replayed_open
-  open-upto h good {t₁} et = rw (← e) (go x.front good)
-    where
-      go : (y : Front) → ((f : Fault) → y ≡ front.Bad f → ⊥) → Met (replayed_at y x.at s t b) (replaying.Upto x.at) t₁
-      go front.Whole k = record { answers = refl; table = et ∙ enough h.copies h.numbers }
-      go front.Rest k = record { answers = refl; table = et ∙ enough h.copies h.numbers }
-      go (front.Bad f) k = absurd (k f refl)
+-- or one of them is bad
+pub open-bad : (n s c : ℕ) (t b : List ℕ) {x : BadEntry} → Err x ≡ end_of (length b) n s c t b 0 → Met (replayed_open n s c t b) (Err (unreplayed.Bad x)) t
+unfolding replayed_open
+open-bad n s c t b e = rw (← e) (record { answers = refl; table = refl })
 
 -- 1 and 11, and past them
 module _ (n s c : ℕ) (t b : List ℕ) where
-  pub replay-refused : (r : Refusal) → Err r ≡ judged n s c t → Met (replayed n s c t b) (replaying.Refused r) t
+  pub replay-refused : (r : Refusal) → Err r ≡ judged n s c t → Met (replayed n s c t b) (Err (unreplayed.Refused r)) t
   unfolding replayed
   replay-refused r e = rw (← e) (record { answers = refl; table = refl })
 
-  pub replay-past : Ok tt ≡ judged n s c t → {x : Replaying} {t₁ : List ℕ}
+  pub replay-past : Ok tt ≡ judged n s c t → {x : Result ℕ Unreplayed} {t₁ : List ℕ}
       → Met (replayed_open n s c t b) x t₁ → Met (replayed n s c t b) x t₁
   unfolding replayed
   replay-past e p = rw (← e) p

@@ -1,14 +1,13 @@
 -- What a replay's two passes rest on. The first keeps the status of each instance, 64 places to an owner, in place of the table.
 -- Assumes nothing.
 -- st: the statuses.
-use Rattle.std.specs.Prelude.{ℕ, zero, suc, ◌+◌, ◌*◌, ◌≤◌, ◌<◌, ◌≡◌, Bool, cond, List, eqb, length, get_or, set}
+use Rattle.std.specs.Prelude.{ℕ, zero, suc, ◌+◌, ◌*◌, ◌≤◌, ◌<◌, ◌≡◌, Bool, cond, List, Result, Ok, eqb, length, get_or, set}
 use Rattle.table.specs.Place.{table_length}
 use Rattle.table.specs.Sizes.{Names}
 use Rattle.table.specs.Table.{record_in, Whole}
 use Rattle.table.specs.Calls.{record_of}
 use Rattle.rows.specs.Rows.{slot_of}
-use Rattle.entries.specs.declared.Front.TheVariants as front
-use Rattle.entries.specs.declared.Ended.{Ended}
+use Rattle.entries.specs.declared.BadEntry.{BadEntry}
 use Rattle.entries.specs.Entry.{record_kind, entry_length, kind_in, owner_in, number_in, part_in, Fit}
 use Rattle.entries.specs.Replay.{front_of, behind, or_on, end_of}
 
@@ -21,8 +20,8 @@ abbrev pub noted : List ℕ → List ℕ → List ℕ
 noted st b = cond (eqb (kind_in b) record_kind) (set st (slot_of (owner_in b) (number_in b)) (record_of (part_in b)).vote.status) st
 
 -- where the walk ends, by statuses
-unfoldable pub end_by : ℕ → ℕ → ℕ → ℕ → List ℕ → List ℕ → ℕ → Ended
-end_by zero n s c st b at = record { front = front.Rest; at = at }
+unfoldable pub end_by : ℕ → ℕ → ℕ → ℕ → List ℕ → List ℕ → ℕ → Result ℕ BadEntry
+end_by zero n s c st b at = Ok at
 end_by (suc k) n s c st b at = or_on (front_of n s c (told st) b) at (end_by k n s c (noted st b) (behind b) (at + entry_length (kind_in b)))
 
 -- sizes of the setup, and a place for each status
@@ -67,7 +66,7 @@ pub record Held (n s : ℕ) (t : List ℕ) : Type 0 where
 pub record Ready (n s : ℕ) (t b : List ℕ) : Type 0 where
   pub held : Held n s t
   pub copy : ℕ
-  pub ends : (end_of (length b) n s copy t b 0).at ≡ length b
+  pub ends : end_of (length b) n s copy t b 0 ≡ Ok (length b)
 
 -- the entry in front can be put
 pub record Puts (n s : ℕ) (t b : List ℕ) : Type 0 where

@@ -1,19 +1,14 @@
 // An entry in its bytes: kind, owner and number, then what the kind carries.
-ghost use Rattle.std.specs.Prelude.{◌≡◌, ◌+◌, ◌≤◌, ◌<◌, length};
+ghost use Rattle.std.specs.Prelude.{◌≡◌, ◌+◌, ◌≤◌, ◌<◌, eqb, length};
 ghost use Rattle.numbers.specs.Num.{splice};
 ghost use Rattle.record.specs.Part.{sound_part};
 ghost use Rattle.table.specs.Calls.{part_size};
-ghost use Rattle.entries.specs.Entry.{entry_head, entry_length, kind_in, owner_in, number_in, part_in, head_bytes};
+ghost use Rattle.entries.specs.Entry.{record_kind, kind_number, kind_length, entry_head, entry_length, kind_in, owner_in, number_in, part_in, head_bytes};
 
+use entries::Kind;
 use nouns::logic::{wide8, wide16};
 use record::places::LENGTH;
 use record::{idle_ok, sound_part};
-
-// An instance and its record.
-pub const RECORD: usize = 20;
-
-// An instance that was newly marked.
-pub const MARK: usize = 21;
 
 const KIND: usize = 0;
 
@@ -27,10 +22,15 @@ pub const HEAD: usize = NUMBER + 2;
 pub fn entry_length(kind: usize) -> usize
     ensures { result ≡ entry_length kind }
 {
+    Kind::of(kind).map_or(0, kind_length)
+}
+
+pub fn kind_length(kind: Kind) -> usize
+    ensures { result ≡ kind_length kind }
+{
     match kind {
-        20 => HEAD + LENGTH,
-        21 => HEAD,
-        _ => 0,
+        Kind::Record => HEAD + LENGTH,
+        Kind::Mark => HEAD,
     }
 }
 
@@ -39,6 +39,14 @@ pub fn kind_in(b: &[u8]) -> usize
     ensures { result ≡ kind_in b.now }
 {
     wide8(numbers::get::<u8>(b, KIND))
+}
+
+// The entry is a record's.
+pub fn has_record(b: &[u8]) -> bool
+    requires { 1 ≤ length b.now }
+    ensures { result ≡ eqb (kind_in b.now) record_kind }
+{
+    Kind::of(kind_in(b)) == Some(Kind::Record)
 }
 
 pub fn owner_in(b: &[u8]) -> usize
@@ -77,11 +85,11 @@ pub fn part_sound(part: &[u8], n: usize, s: usize, c: usize, o: usize) -> bool
 }
 
 // Kind, owner and number at the front.
-pub fn write_head(out: &mut [u8], kind: usize, o: usize, j: usize)
-    requires { (entry_head ≤ length out.old) × (kind < 256) × (o < 256) × (j < 65536) }
-    ensures { out.new ≡ splice out.old 0 (head_bytes kind o j) }
+pub fn write_head(out: &mut [u8], kind: Kind, o: usize, j: usize)
+    requires { (entry_head ≤ length out.old) × (o < 256) × (j < 65536) }
+    ensures { out.new ≡ splice out.old 0 (head_bytes (kind_number kind) o j) }
 {
-    numbers::put(&mut *out, KIND, kind as u8);
+    numbers::put(&mut *out, KIND, kind.number());
     numbers::put(&mut *out, OWNER, o as u8);
     numbers::put(&mut *out, NUMBER, j as u16);
 }

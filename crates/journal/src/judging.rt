@@ -6,8 +6,10 @@ ghost use Rattle.entries.specs.Entry.{Fit};
 ghost use Rattle.entries.specs.Replay.{entry_ok, front_of, end_of};
 ghost use Rattle.journal.specs.Judging.{told, noted, end_by, Asked, Charted, Tells, RowCharting, Charting};
 
-use crate::entry::{RECORD, entry_length, kind_in, number_in, owner_in, part_in, part_sound};
-use entries::{Ended, Fault, Front};
+use crate::entry::{
+    entry_length, has_record, kind_in, kind_length, number_in, owner_in, part_in, part_sound,
+};
+use entries::{BadEntry, Fault, Front, Kind};
 use nouns::setup::instance_ok;
 use record::fields::status_in;
 use rows::slot_of;
@@ -19,34 +21,31 @@ fn entry_ok(b: &[u8], n: usize, s: usize, c: usize, st: &[u8]) -> bool
     ensures { result ≡ entry_ok n s c (told st.now) b.now }
 {
     let o = owner_in(b);
-    if kind_in(b) == RECORD {
+    if has_record(b) {
         return part_sound(part_in(b), n, s, c, o);
     }
     let x = slot_of(o, number_in(b));
     st[x] == 4
 }
 
-fn front_of(b: &[u8], n: usize, s: usize, c: usize, st: &[u8]) -> Front
+fn front_of(b: &[u8], n: usize, s: usize, c: usize, st: &[u8]) -> Result<Front, Fault>
     requires { Asked n s c st.now }
     ensures { result ≡ front_of n s c (told st.now) b.now }
 {
-    if b.len() == 0 {
-        return Front::Rest;
+    if b.is_empty() {
+        return Ok(Front::Rest);
     }
-    let size = entry_length(kind_in(b));
-    if size == 0 {
-        return Front::Bad(Fault::Kind);
-    }
-    if b.len() < size {
-        return Front::Rest;
+    let kind = Kind::of(kind_in(b)).ok_or(Fault::Kind)?;
+    if b.len() < kind_length(kind) {
+        return Ok(Front::Rest);
     }
     if !instance_ok(n, s, owner_in(b), number_in(b)) {
-        return Front::Bad(Fault::Instance);
+        return Err(Fault::Instance);
     }
     if !entry_ok(b, n, s, c, st) {
-        return Front::Bad(Fault::Unsound);
+        return Err(Fault::Unsound);
     }
-    Front::Whole
+    Ok(Front::Whole)
 }
 
 // The statuses after the entry in front; a mark changes none.
@@ -54,31 +53,28 @@ fn note(st: &mut [u8], n: usize, s: usize, b: &[u8])
     requires { Fit n s b.now × (length st.old ≡ 448) }
     ensures { st.new ≡ noted st.old b.now }
 {
-    if kind_in(b) != RECORD {
+    if !has_record(b) {
         return;
     }
     let x = slot_of(owner_in(b), number_in(b));
     st[x] = status_in(part_in(b));
 }
 
-fn walk(b: &[u8], n: usize, s: usize, c: usize, st: &mut [u8]) -> Ended
+fn walk(b: &[u8], n: usize, s: usize, c: usize, st: &mut [u8]) -> Result<usize, BadEntry>
     requires { Asked n s c st.old }
     ensures { result ≡ end_by (length b.now) n s c st.old b.now 0 }
 {
     let mut at = 0;
     while at < b.len() {
         let rest = &b[at..];
-        let front = front_of(rest, n, s, c, &*st);
-        let Front::Whole = front else {
-            return Ended { front, at };
-        };
-        note(&mut *st, n, s, rest);
+        match front_of(rest, n, s, c, &*st) {
+            Ok(Front::Whole) => note(&mut *st, n, s, rest),
+            Ok(Front::Rest) => return Ok(at),
+            Err(why) => return Err(BadEntry { why, offset: at }),
+        }
         at += entry_length(kind_in(rest));
     }
-    Ended {
-        front: Front::Rest,
-        at,
-    }
+    Ok(at)
 }
 
 fn chart_row(t: &[u8], n: usize, s: usize, st: &mut [u8], o: usize)
@@ -101,8 +97,8 @@ fn chart(t: &[u8], n: usize, s: usize, st: &mut [u8])
     }
 }
 
-// Where the entries end that a replay onto the table takes.
-pub fn end_of(t: &[u8], n: usize, s: usize, c: usize, b: &[u8]) -> Ended
+// Where the entries end that a replay onto the table takes, or which one is bad.
+pub fn end_of(t: &[u8], n: usize, s: usize, c: usize, b: &[u8]) -> Result<usize, BadEntry>
     requires { Judged n s c t.now }
     ensures { result ≡ end_of (length b.now) n s c t.now b.now 0 }
 {

@@ -4,9 +4,9 @@ ghost use Rattle.table.specs.Table.{Judged};
 ghost use Rattle.entries.specs.Replay.{applied, puts, replayed_open, replayed};
 ghost use Rattle.journal.specs.Judging.{Ready, Puts};
 
-use crate::entry::{RECORD, entry_length, kind_in, number_in, owner_in, part_in};
+use crate::entry::{entry_length, has_record, kind_in, number_in, owner_in, part_in};
 use crate::judging::end_of;
-use entries::{Ended, Front, Replaying};
+use entries::Unreplayed;
 use table::records::{put_mark, put_part};
 use table::judge_table;
 
@@ -17,7 +17,7 @@ fn put_entry(t: &mut [u8], n: usize, s: usize, b: &[u8])
 {
     let o = owner_in(b);
     let j = number_in(b);
-    if kind_in(b) == RECORD {
+    if has_record(b) {
         put_part(t, n, s, o, j, part_in(b));
         return;
     }
@@ -38,26 +38,21 @@ fn put_entries(t: &mut [u8], n: usize, s: usize, b: &[u8])
 }
 
 // Past 1 and 11.
-fn replay_open(t: &mut [u8], n: usize, s: usize, c: usize, b: &[u8]) -> Replaying
+fn replay_open(t: &mut [u8], n: usize, s: usize, c: usize, b: &[u8]) -> Result<usize, Unreplayed>
     requires { Judged n s c t.old }
     ensures answers { result ≡ (replayed_open n s c t.old b.now).answer }
     ensures table { t.new ≡ (replayed_open n s c t.old b.now).table }
 {
-    let Ended { front, at } = end_of(&*t, n, s, c, b);
-    if let Front::Bad(why) = front {
-        return Replaying::Bad { why, offset: at };
-    }
+    let at = end_of(&*t, n, s, c, b)?;
     put_entries(t, n, s, &b[..at]);
-    Replaying::Upto(at)
+    Ok(at)
 }
 
 // The table after the last whole entry, and where a shorter rest begins.
-pub fn replay(t: &mut [u8], n: usize, s: usize, c: usize, b: &[u8]) -> Replaying
+pub fn replay(t: &mut [u8], n: usize, s: usize, c: usize, b: &[u8]) -> Result<usize, Unreplayed>
     ensures answers { result ≡ (replayed n s c t.old b.now).answer }
     ensures table { t.new ≡ (replayed n s c t.old b.now).table }
 {
-    if let Err(why) = judge_table(&*t, n, s, c) {
-        return Replaying::Refused(why);
-    }
+    judge_table(&*t, n, s, c)?;
     replay_open(t, n, s, c, b)
 }

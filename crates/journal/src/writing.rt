@@ -6,9 +6,8 @@ ghost use Rattle.rules.specs.Order.{is_marked};
 ghost use Rattle.table.specs.Table.{record_in};
 ghost use Rattle.entries.specs.Writing.{Enters, gate_of, record_open, mark_open, record_entered, mark_entered};
 
-use crate::entry::{HEAD, MARK, RECORD, part_sound, write_head};
-use entries::{Entering, Gate};
-use nouns::logic::{both, equal, wide8};
+use crate::entry::{HEAD, part_sound, write_head};
+use entries::{Kind, Unwritten};
 use nouns::setup::instance_ok;
 use paper::Refusal;
 use record::places::LENGTH;
@@ -16,6 +15,7 @@ use table::records::{mark_of, status_of};
 use table::{fits_setup, record_part};
 
 // What is refused before the record is looked at.
+#[tactic(auto, unfolding(entries::specs::Writing::gate_of))]
 fn gate_of(
     t: &[u8],
     n: usize,
@@ -25,19 +25,19 @@ fn gate_of(
     size: usize,
     o: usize,
     j: usize,
-) -> Gate
+) -> Result<(), Refusal>
     ensures { result ≡ gate_of n s c t.now room size o j }
 {
     if !fits_setup(t, n, s, c) {
-        return Gate::Shut(Refusal::Setup);
+        return Err(Refusal::Setup);
     }
     if room < size {
-        return Gate::Shut(Refusal::Room);
+        return Err(Refusal::Room);
     }
     if !instance_ok(n, s, o, j) {
-        return Gate::Shut(Refusal::Instance);
+        return Err(Refusal::Instance);
     }
-    Gate::Open
+    Ok(())
 }
 
 fn record_open(
@@ -48,18 +48,18 @@ fn record_open(
     out: &mut [u8],
     o: usize,
     j: usize,
-) -> Entering
+) -> Result<usize, Unwritten>
     requires { Enters n s c t.now out.old 20 o j }
     ensures answers { result ≡ (record_open n s c t.now out.old o j).answer }
     ensures out { out.new ≡ (record_open n s c t.now out.old o j).out }
 {
     let part = record_part(t, n, s, c, o, j);
     if !part_sound(part, n, s, c, o) {
-        return Entering::Unsound;
+        return Err(Unwritten::Unsound);
     }
-    write_head(&mut *out, RECORD, o, j);
+    write_head(&mut *out, Kind::Record, o, j);
     numbers::put_bytes(out, HEAD, part);
-    Entering::Entry(HEAD + LENGTH)
+    Ok(HEAD + LENGTH)
 }
 
 // The entry of an event: the instance that it answered, and its record as it stands in the table.
@@ -71,14 +71,12 @@ pub fn record_entry(
     out: &mut [u8],
     o: usize,
     j: usize,
-) -> Entering
+) -> Result<usize, Unwritten>
     ensures answers { result ≡ (record_entered n s c t.now out.old o j).answer }
     ensures out { out.new ≡ (record_entered n s c t.now out.old o j).out }
 {
-    match gate_of(t, n, s, c, out.len(), HEAD + LENGTH, o, j) {
-        Gate::Shut(why) => Entering::Refused(why),
-        Gate::Open => record_open(t, n, s, c, out, o, j),
-    }
+    gate_of(t, n, s, c, out.len(), HEAD + LENGTH, o, j)?;
+    record_open(t, n, s, c, out, o, j)
 }
 
 // o.j is committed and marked.
@@ -86,20 +84,27 @@ fn handed_out(t: &[u8], n: usize, s: usize, o: usize, j: usize) -> bool
     requires { Has n s o j t.now }
     ensures { result ≡ (is_committed (record_in s t.now o j) && is_marked (record_in s t.now o j)) }
 {
-    let committed = equal(wide8(status_of(t, n, s, o, j)), 4);
-    both(committed, equal(wide8(mark_of(t, n, s, o, j)), 1))
+    status_of(t, n, s, o, j) == 4 && mark_of(t, n, s, o, j) == 1
 }
 
-fn mark_open(t: &[u8], n: usize, s: usize, c: usize, out: &mut [u8], o: usize, j: usize) -> Entering
+fn mark_open(
+    t: &[u8],
+    n: usize,
+    s: usize,
+    c: usize,
+    out: &mut [u8],
+    o: usize,
+    j: usize,
+) -> Result<usize, Unwritten>
     requires { Enters n s c t.now out.old 21 o j }
     ensures answers { result ≡ (mark_open s t.now out.old o j).answer }
     ensures out { out.new ≡ (mark_open s t.now out.old o j).out }
 {
     if !handed_out(t, n, s, o, j) {
-        return Entering::Unsound;
+        return Err(Unwritten::Unsound);
     }
-    write_head(out, MARK, o, j);
-    Entering::Entry(HEAD)
+    write_head(out, Kind::Mark, o, j);
+    Ok(HEAD)
 }
 
 // The entry of a code that was handed out.
@@ -111,12 +116,10 @@ pub fn mark_entry(
     out: &mut [u8],
     o: usize,
     j: usize,
-) -> Entering
+) -> Result<usize, Unwritten>
     ensures answers { result ≡ (mark_entered n s c t.now out.old o j).answer }
     ensures out { out.new ≡ (mark_entered n s c t.now out.old o j).out }
 {
-    match gate_of(t, n, s, c, out.len(), HEAD, o, j) {
-        Gate::Shut(why) => Entering::Refused(why),
-        Gate::Open => mark_open(t, n, s, c, out, o, j),
-    }
+    gate_of(t, n, s, c, out.len(), HEAD, o, j)?;
+    mark_open(t, n, s, c, out, o, j)
 }

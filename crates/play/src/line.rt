@@ -4,7 +4,8 @@ use course::deliver::{between, deliver_all};
 use course::restart::{begin_journal, restart};
 use course::turn::{Turn, halted, went};
 use course::work::event;
-use journal::entry::{MARK, RECORD, entry_length};
+use entries::Kind;
+use journal::entry::kind_length;
 use nouns::setup::setup_ok;
 use say::show::{show_all, show_copy};
 use say::value::say;
@@ -41,8 +42,8 @@ fn act(all: &mut [u8], w: Scene, c: usize, what: Act) -> Turn {
 // An entry has the byte that the cut falls at.
 fn has_byte(when: Moment) -> bool {
     match when {
-        Moment::Entry(bytes) => bytes < entry_length(RECORD),
-        Moment::Marks { whole: _, bytes } => bytes < entry_length(MARK),
+        Moment::Entry(bytes) => bytes < kind_length(Kind::Record),
+        Moment::Marks { whole: _, bytes } => bytes < kind_length(Kind::Mark),
         _ => true,
     }
 }

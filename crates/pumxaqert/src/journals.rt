@@ -2,9 +2,9 @@
 ghost use Rattle.std.specs.Prelude.{◌≡◌};
 ghost use Rattle.entries.specs.Entry.{entry_length};
 ghost use Rattle.entries.specs.Writing.{record_entered, mark_entered, entering_number, entering_length};
-ghost use Rattle.entries.specs.Replay.{replayed, fault_number, replaying_number, replaying_offset};
+ghost use Rattle.entries.specs.Replay.{replayed, replaying_number, replaying_offset};
 
-use entries::{Entering, Fault, Replaying};
+use entries::{BadEntry, Unreplayed, Unwritten};
 use nouns::refusal::number_of;
 
 // How long an entry of a kind is; 0 where there is no such kind.
@@ -16,20 +16,20 @@ pub extern "C" fn pumxaqert_entry_length(kind: usize) -> usize
 }
 
 // The refusal's number, or 0 with how many bytes were written.
-fn give_entered(a: Entering, written: &mut usize) -> u32
+fn give_entered(a: Result<usize, Unwritten>, written: &mut usize) -> u32
     ensures number { result ≡ entering_number a }
     ensures count { written.new ≡ entering_length a }
 {
     match a {
-        Entering::Entry(k) => {
+        Ok(k) => {
             *written = k;
             0
         }
-        Entering::Refused(why) => {
+        Err(Unwritten::Refused(why)) => {
             *written = 0;
             number_of(why)
         }
-        Entering::Unsound => {
+        Err(Unwritten::Unsound) => {
             *written = 0;
             43
         }
@@ -78,31 +78,21 @@ pub extern "C" fn pumxaqert_mark_entry(
     )
 }
 
-fn fault_number(f: Fault) -> u32
-    ensures { result ≡ fault_number f }
-{
-    match f {
-        Fault::Kind => 41,
-        Fault::Instance => 42,
-        Fault::Unsound => 43,
-    }
-}
-
 // The refusal's number with the offset of a bad entry, or 0 with where the rest begins.
-fn give_replayed(a: Replaying, offset: &mut usize) -> u32
+fn give_replayed(a: Result<usize, Unreplayed>, offset: &mut usize) -> u32
     ensures number { result ≡ replaying_number a }
     ensures offset { offset.new ≡ replaying_offset a }
 {
     match a {
-        Replaying::Upto(at) => {
+        Ok(at) => {
             *offset = at;
             0
         }
-        Replaying::Bad { why, offset: at } => {
+        Err(Unreplayed::Bad(BadEntry { why, offset: at })) => {
             *offset = at;
-            fault_number(why)
+            why.number()
         }
-        Replaying::Refused(why) => {
+        Err(Unreplayed::Refused(why)) => {
             *offset = 0;
             number_of(why)
         }

@@ -3,7 +3,7 @@ ghost use Rattle.std.specs.Prelude.{◌≤◌};
 
 use crate::event::put_no;
 use crate::told::{Outcome, Told, called, end_of, ended, said, torn};
-use entries::Replaying;
+use entries::Unreplayed;
 use nouns::logic::either;
 use storage::{add, is_full, journal_in, mark_of, record_of, replay_onto, walk};
 use text::bytes::write;
@@ -45,18 +45,18 @@ pub fn keep_marks(w: Told, t: &[u8], d: &mut [u8], list: &[u16], k: usize) -> To
 }
 
 // The copy goes on with what a replay made of its journal: how many entries of the last call it kept.
-fn restarted(w: Told, d: &[u8], answer: Replaying) -> Outcome {
+fn restarted(w: Told, d: &[u8], answer: Result<usize, Unreplayed>) -> Outcome {
     match answer {
-        Replaying::Upto(at) => {
+        Ok(at) => {
             let kept = walk(journal_in(d, at), w.before, usize::MAX);
             let text = put_form(empty(), b"= kept #", [kept.count, 0, 0, 0]);
             said(text, torn(ended(w, w.last, at)))
         }
-        Replaying::Bad { why: _, offset } => said(
-            put_form(empty(), b"= bad entry #", [offset, 0, 0, 0]),
+        Err(Unreplayed::Bad(bad)) => said(
+            put_form(empty(), b"= bad entry #", [bad.offset, 0, 0, 0]),
             w,
         ),
-        Replaying::Refused(why) => said(put_no(why), w),
+        Err(Unreplayed::Refused(why)) => said(put_no(why), w),
     }
 }
 

@@ -1,6 +1,6 @@
 // What a replay made of a journal.
 use crate::value::{begin, put_refusal};
-use entries::Fault;
+use entries::BadEntry;
 use journal::entry::entry_length;
 use paper::Refusal;
 use storage::walk;
@@ -43,20 +43,12 @@ pub fn say_replayed(c: usize, journal: &[u8], at: usize) {
 }
 
 // The number of a bad entry's fault, with the offset.
-fn fault(f: Fault) -> usize {
-    match f {
-        Fault::Kind => 41,
-        Fault::Instance => 42,
-        Fault::Unsound => 43,
-    }
-}
-
-pub fn say_bad(c: usize, why: Fault, offset: usize) {
+pub fn say_bad(c: usize, bad: BadEntry) {
     finish(begin(
         b"  copy #: the journal is refused #, at offset #",
         c,
-        fault(why),
-        offset,
+        bad.why.number() as usize,
+        bad.offset,
     ));
 }
 

@@ -3,7 +3,7 @@
 use crate::Scene;
 use crate::copies::{end_of, with_end};
 use crate::tables::{TABLES, start_of, table_in, table_mut};
-use entries::Replaying;
+use entries::Unreplayed;
 use storage::{DISK, Entry, add_part, journal_in, mark_of, record_of, replay_onto};
 use table::{LONGEST, length_of, record_part};
 use text::bytes::{front_mut, move_bytes, part, part_mut, write};
@@ -78,7 +78,7 @@ pub fn save(all: &mut [u8], w: Scene, c: usize, entry: Entry) -> Scene {
 #[derive(Clone, Copy)]
 pub struct Replayed {
     pub table: [u8; LONGEST],
-    pub answer: Replaying,
+    pub answer: Result<usize, Unreplayed>,
 }
 
 pub fn saved(all: &[u8], w: Scene, c: usize) -> Replayed {

@@ -3,7 +3,7 @@
 
 ghost use Rattle.std.specs.Prelude.{◌+◌, ◌≤◌, length};
 
-use entries::{Entering, Replaying};
+use entries::Unreplayed;
 use journal::entry::{HEAD, entry_length, kind_in};
 use journal::replaying::replay;
 use journal::writing::{mark_entry, record_entry};
@@ -31,17 +31,10 @@ pub struct Entry {
     pub bytes: [u8; ENTRY],
 }
 
-fn written(answer: Entering) -> usize {
-    match answer {
-        Entering::Entry(k) => k,
-        _ => 0,
-    }
-}
-
 // The entry of an event that answered o.j.
 pub fn record_of(t: &[u8], n: usize, s: usize, c: usize, o: usize, j: usize) -> Entry {
     let mut bytes = [0u8; ENTRY];
-    let length = written(record_entry(t, n, s, c, &mut bytes, o, j));
+    let length = record_entry(t, n, s, c, &mut bytes, o, j).unwrap_or(0);
     Entry { length, bytes }
 }
 
@@ -50,7 +43,7 @@ pub fn mark_of(t: &[u8], n: usize, s: usize, c: usize, code: u16) -> Entry {
     let mut bytes = [0u8; ENTRY];
     let o = owner_of(code);
     let j = number_of(code);
-    let length = written(mark_entry(t, n, s, c, &mut bytes, o, j));
+    let length = mark_entry(t, n, s, c, &mut bytes, o, j).unwrap_or(0);
     Entry { length, bytes }
 }
 
@@ -87,7 +80,7 @@ pub fn replay_onto(
     c: usize,
     disk: &[u8],
     end: usize,
-) -> Replaying {
+) -> Result<usize, Unreplayed> {
     let begun = front(disk, t.len());
     write(&mut *t, 0, begun);
     replay(t, n, s, c, journal_in(disk, end))

@@ -1,5 +1,4 @@
 use mathlib.Core.Path.{sym, ◌∙◌}
-use Prim.Native.Nat.{◌*◌, ◌-◌}
 use native.Mathlib.Omega.{arith}
 use Rattle.journal.proofs.Judged.{chart-start, chart-all}
 use Rattle.journal.proofs.judging.chart.Goals as goal

@@ -1,4 +1,3 @@
-use mathlib.Core.Path.{◌∙◌}
 use Prim.Native.Nat.{◌+◌, ◌*◌, ◌-◌, ◌≤◌}
 use Rattle.journal.specs.Judging.{Charted}
 use Rattle.journal.proofs.judging.chart_row.Given as goal

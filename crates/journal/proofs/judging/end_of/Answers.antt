@@ -2,7 +2,6 @@ use mathlib.Core.Path.{refl, ◌∙◌}
 use Rattle.table.proofs.Laws.{sizes}
 use native.Mathlib.Omega.{arith}
 use Rattle.journal.proofs.Put.{held_in, end_same}
-use borrow.Author.Rules.{rules}
 use Rattle.journal.proofs.judging.end_of.Goals as goal
 
 pub returns : goal.returns

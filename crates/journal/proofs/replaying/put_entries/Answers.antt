@@ -1,10 +1,8 @@
 use mathlib.Core.Path.{sym, ap, ◌∙◌}
-use Prim.Native.Nat.{◌-◌}
 use native.Mathlib.Omega.{arith}
-use lib.ListN.{length-take, length-drop, length}
+use lib.ListN.{length-take, length-drop}
 use Rattle.entries.specs.Entry.{entry_length}
-use Rattle.journal.proofs.Put.{put-start, put-end, put_fit, put-room, Putting, put_on}
-use borrow.Author.Rules.{rules}
+use Rattle.journal.proofs.Put.{put-start, put-end, put_fit, put-room, put_on}
 use Rattle.journal.proofs.replaying.put_entries.Goals as goal
 
 pub overflow_add-at : goal.overflow_add-at

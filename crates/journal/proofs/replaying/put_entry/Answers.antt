@@ -1,6 +1,4 @@
 use mathlib.Core.Path.{sym, ◌∙◌}
-use borrow.Author.Tests.{eq-eqb, ne_eqb}
-use Rattle.entries.specs.Entry.{kind_in}
 use Rattle.entries.proofs.Lengths.{fit-head, fit-part}
 use Rattle.journal.proofs.Put.{put_has, put_whole, record-applied, mark-applied}
 use Rattle.journal.proofs.replaying.put_entry.Goals as goal
@@ -12,16 +10,16 @@ pub number_in-j-requires : goal.number_in-j-requires
 number_in-j-requires c = fit-head _ _ _ c.requires.fit
 
 pub part_in-requires : goal.part_in-requires
-part_in-requires c = fit-part _ _ _ c.requires.fit (eq-eqb (kind_in c.args.b.now) 20 (sym c.kind_in.ensures ∙ c.if-kind_in-eq-RECORD.true))
+part_in-requires c = fit-part _ _ _ c.requires.fit (sym c.has_record.ensures ∙ c.if-has_record.true)
 
 pub put_part-requires : goal.put_part-requires
 put_part-requires c = (put_has _ _ _ c.args.b.now c.owner_in-o.ensures c.number_in-j.ensures c.requires, c.part_in.ensures.long)
 
-pub returns-then-kind_in-eq-RECORD : goal.returns-then-kind_in-eq-RECORD
-returns-then-kind_in-eq-RECORD c = record-applied c.args.n _ _ _ c.owner_in-o.ensures c.number_in-j.ensures (eq-eqb (kind_in c.args.b.now) 20 (sym c.kind_in.ensures ∙ c.if-kind_in-eq-RECORD.true)) c.part_in.ensures.part c.put_part.ensures
+pub returns-then-has_record : goal.returns-then-has_record
+returns-then-has_record c = record-applied c.args.n _ _ _ c.owner_in-o.ensures c.number_in-j.ensures (sym c.has_record.ensures ∙ c.if-has_record.true) c.part_in.ensures.part c.put_part.ensures
 
 pub put_mark-requires : goal.put_mark-requires
 put_mark-requires c = (put_has _ _ _ c.args.b.now c.owner_in-o.ensures c.number_in-j.ensures c.requires, put_whole _ _ _ c.args.b.now c.owner_in-o.ensures c.number_in-j.ensures c.requires)
 
 pub returns : goal.returns
-returns c = mark-applied c.args.n _ _ _ c.owner_in-o.ensures c.number_in-j.ensures (ne_eqb (kind_in c.args.b.now) 20 (λ e. c.if-kind_in-eq-RECORD.false (c.kind_in.ensures ∙ e))) c.put_mark.ensures
+returns c = mark-applied c.args.n _ _ _ c.owner_in-o.ensures c.number_in-j.ensures (sym c.has_record.ensures ∙ c.if-has_record.false) c.put_mark.ensures

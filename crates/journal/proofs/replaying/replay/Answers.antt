@@ -1,7 +1,6 @@
 use mathlib.Core.Path.{sym, ◌∙◌}
 use Rattle.order.proofs.Judged.{passed}
 use Rattle.journal.proofs.Replayed.{replay-refused, replay-past}
-use borrow.Author.Rules.{rules}
 use Rattle.journal.proofs.replaying.replay.Goals as goal
 
 pub returns-in-Err : goal.returns-in-Err

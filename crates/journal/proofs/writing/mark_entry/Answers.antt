@@ -1,17 +1,16 @@
-use mathlib.Core.Path.{sym, ◌∙◌}
+use Rattle.std.proofs.lemmas.Result.{err_from_is_err_and}
 use Rattle.entries.specs.Entry.{mark_kind}
 use Rattle.entries.specs.Writing.{mark_entered}
 use Rattle.entries.proofs.Written.{enters, shut, opened}
-use borrow.Author.Rules.{rules}
 use Rattle.journal.proofs.writing.mark_entry.Goals as goal
 
 pub mark_open-requires : goal.mark_open-requires
-mark_open-requires c = enters _ _ _ _ _ mark_kind _ _ (sym c.in-Open.is ∙ c.gate_of.ensures)
+mark_open-requires c = enters _ _ _ _ _ mark_kind _ _ c.in_ok-gate_of.ensures
 
-pub returns-in-Shut : goal.returns-in-Shut
+pub returns-in_err-gate_of : goal.returns-in_err-gate_of
 unfolding mark_entered
-returns-in-Shut c = shut _ _ _ _ (sym c.in-Shut.is ∙ c.gate_of.ensures)
+returns-in_err-gate_of c = let p = err_from_is_err_and c.from_residual.result c.from_residual.ensures.1 in rw (p.1, p.2) (shut _ _ _ _ c.in_err-gate_of.ensures)
 
-pub returns-in-Open : goal.returns-in-Open
+pub returns : goal.returns
 unfolding mark_entered
-returns-in-Open c = opened _ _ _ (sym c.in-Open.is ∙ c.gate_of.ensures) c.mark_open.ensures
+returns c = opened _ _ _ c.in_ok-gate_of.ensures c.mark_open.ensures

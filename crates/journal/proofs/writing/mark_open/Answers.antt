@@ -1,5 +1,4 @@
 use mathlib.Core.Path.{sym, ◌∙◌}
-use borrow.Author.Tests.{not-true, not-false}
 use native.Mathlib.Omega.{arith}
 use Rattle.entries.proofs.Written.{enters-has, enters-small, mark-unsound, mark-put}
 use Rattle.journal.proofs.writing.mark_open.Goals as goal
@@ -11,7 +10,7 @@ pub returns-then-not-handed_out : goal.returns-then-not-handed_out
 returns-then-not-handed_out c = mark-unsound _ _ _ _ _ (sym c.handed_out.ensures ∙ c.if-not-handed_out.true)
 
 pub write_head-requires : goal.write_head-requires
-write_head-requires c = let a = enters-small _ _ _ _ _ _ _ _ c.requires in (c.requires.room, omega arith, a.0, a.1)
+write_head-requires c = let a = enters-small _ _ _ _ _ _ _ _ c.requires in (c.requires.room, a.0, a.1)
 
 pub returns : goal.returns
 returns c = mark-put _ _ _ _ _ (sym c.handed_out.ensures ∙ c.if-not-handed_out.false) c.write_head.ensures

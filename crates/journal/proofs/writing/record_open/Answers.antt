@@ -1,5 +1,4 @@
 use mathlib.Core.Path.{sym, ◌∙◌}
-use borrow.Author.Tests.{not-true, not-false}
 use native.Mathlib.Omega.{arith}
 use Rattle.table.proofs.Laws.{sizes}
 use Rattle.entries.proofs.Written.{enters-small, record-unsound, record-size, record-room, record-put}
@@ -15,7 +14,7 @@ pub returns-then-not-part_sound : goal.returns-then-not-part_sound
 returns-then-not-part_sound c = record-unsound _ _ _ _ _ _ _ c.record_part-part.ensures (sym c.part_sound.ensures ∙ c.if-not-part_sound.true)
 
 pub write_head-requires : goal.write_head-requires
-write_head-requires c = let a = enters-small _ _ _ _ _ _ _ _ c.requires in (omega (arith, c.requires.room), omega arith, a.0, a.1)
+write_head-requires c = let a = enters-small _ _ _ _ _ _ _ _ c.requires in (omega (arith, c.requires.room), a.0, a.1)
 
 pub put_bytes-requires : goal.put_bytes-requires
 put_bytes-requires c = record-room _ _ _ _ _ _ _ c.requires c.record_part-part.ensures c.write_head.ensures
