@@ -1,5 +1,6 @@
 -- A run over bytes beside a run of the rules: each saved table is sound and its records are the rules' table, and all that is
 -- sent is the bytes of a valid message of the rules. Assumes nothing.
+use Rattle.std.specs.Prelude.{Some}
 use Prim.Native.Nat.{ℕ, ◌<◌}
 use mathlib.Core.Path.{◌≡◌, refl, sym, ap, ap₂, ◌∙◌, subst}
 use mathlib.Core.Bool.{Bool, true, false, cond}
@@ -15,10 +16,9 @@ use Rattle.paper.specs.Vote.{blank}
 use Rattle.paper.specs.declared.Record.{Record}
 use Rattle.paper.specs.declared.Message.{Message}
 use Rattle.rules.specs.declared.Step.{Step}
-use Rattle.rules.specs.declared.First.TheVariants.{At}
 use Rattle.rules.specs.Seen.{Records}
 use Rattle.rules.specs.Events.{put, messages}
-use Rattle.rules.specs.Order.{next_out, mark}
+use Rattle.rules.specs.Order.{instance, next_out, mark}
 use Rattle.wire.specs.Wire.{message_bytes}
 use Rattle.table.specs.Table.{blank_table, record_in, put_record, Kept}
 use Rattle.seen.specs.Records.{records_in}
@@ -217,7 +217,7 @@ module _ (n s : ℕ) (setup : Setup n s) where
     pub marked-here : (code : ℕ) (rest : List ℕ) → k.listed ≡ code ∷ rest → Marked n s c (saved_table k) k.lent code rest
     marked-here code rest e = marked_next n s c (saved_table k) k.lent code rest k.listed (side.kept copy) side.pending e
 
-    pub mark-out : (code : ℕ) (rest : List ℕ) (m : Marked n s c (saved_table k) k.lent code rest) → next_out n s (y.tables c) ≡ At m.owner m.number
+    pub mark-out : (code : ℕ) (rest : List ℕ) (m : Marked n s c (saved_table k) k.lent code rest) → next_out n s (y.tables c) ≡ Some (instance m.owner m.number)
     mark-out code rest m =
         let t : List ℕ = saved_table k in
         ap (next_out n s) side.table ∙ sym (next-alike n s (records_in s t) (records n s t) (alike n s t)) ∙ m.next

@@ -1,4 +1,5 @@
 -- What happened over bytes, as the rules' history has it. Assumes nothing.
+use Rattle.std.specs.Prelude.{Option, Some, None}
 use Prim.Native.Nat.{ℕ}
 use mathlib.Core.Path.{◌≡◌, refl, sym, ap}
 use mathlib.Core.Bool.{Bool, true, false, cond, not}
@@ -8,10 +9,9 @@ use Rattle.paper.specs.Instance.{instance_ok}
 use Rattle.paper.specs.declared.Command.{Command}
 use Rattle.paper.specs.declared.Refusal.TheVariants as why
 use Rattle.paper.specs.declared.Vote.{Vote}
-use Rattle.rules.specs.declared.First.{First}
-use Rattle.rules.specs.declared.First.TheVariants.{At, Nowhere}
+use Rattle.rules.specs.declared.Instance.{Instance}
 use Rattle.rules.specs.Seen.{Records}
-use Rattle.rules.specs.Order.{found, first_open}
+use Rattle.rules.specs.Order.{instance, found, first_open}
 use Rattle.table.specs.Table.{record_in, Kept}
 use Rattle.seen.specs.Records.{records_in}
 use Rattle.closed.proofs.Laws.{clash}
@@ -66,9 +66,9 @@ pub settled-heard : (n s c : ℕ) (t : List ℕ) (u : Records) → Kept n s c t 
 unfolding settled settled_open
 settled-heard n s c t u k same o j = rw (sound-judged n s c t k) (go (instance_ok n s o j) refl)
   where
-    by : (f : First) (a b : Command) → a ≡ b → answer_of (found f (Settled a) Waits) ≡ found f (rules.settled b) rules.waits
-    by Nowhere a b e = ap rules.settled e
-    by (At p i) a b e = refl
+    by : (f : Option Instance) (a b : Command) → a ≡ b → answer_of (found f (Settled a) Waits) ≡ found f (rules.settled b) rules.waits
+    by None a b e = ap rules.settled e
+    by (Some i) a b e = refl
 
     go : (b : Bool) → instance_ok n s o j ≡ b
         → answer_of (cond (not b) (Refused why.Instance) (found (first_open n s (records_in s t) o j) (Settled (record_in s t o j).vote.command) Waits))

@@ -1,4 +1,5 @@
 -- W1 to W10 hold of the public calls: each table is what the call before it left, and the rules compute the rest. Assumes nothing.
+use Rattle.std.specs.Prelude.{Some, None}
 use Prim.Native.Nat.{ℕ, ◌≤◌}
 use mathlib.Core.Path.{◌≡◌, refl, ap, ◌∙◌}
 use mathlib.Core.List.{List, [], ◌∷◌}
@@ -30,15 +31,14 @@ use Rattle.rules.specs.Committing.{committing}
 use Rattle.rules.specs.Accepting.{accepting_join, accepting, join_all}
 use Rattle.rules.specs.Prepare.{prepare}
 use Rattle.rules.specs.PrepareOk.{on_prepare_ok, prepared_by, quorum, decide, accepted_from, afresh_command, top_voted, maybe_fast}
-use Rattle.rules.specs.Order.{next_out, first_number, first_owner, first_open, candidate, is_settled, waits_for, reaches, reaches_in, covers_in, everywhere, somewhere}
+use Rattle.rules.specs.Order.{instance, next_out, first_number, first_owner, first_open, candidate, is_settled, waits_for, reaches, reaches_in, covers_in, everywhere, somewhere}
 use Rattle.rules.specs.Recover.{recover}
 use Rattle.paper.specs.Deps.{no_deps}
 use Rattle.paper.specs.declared.Message.{Message}
 use Rattle.paper.specs.declared.Body.TheVariants.{PreAccept, PreAcceptOk, Commit, Prepare, PrepareOk}
 use Rattle.rules.specs.Examples.{write, deps3}
-use Rattle.rules.specs.declared.First.TheVariants.{At, Nowhere}
 use Rattle.rules.specs.Seen.{Records}
-use Rattle.rules.specs.Order.{code_of, marked, mark, hand_out}
+use Rattle.rules.specs.Order.{instance, code_of, marked, mark, hand_out}
 use Rattle.table.specs.Table.{blank_table, put_record}
 use Rattle.gate.specs.Out.{all_bytes}
 use Rattle.gate.specs.Events.{acted}
@@ -53,7 +53,7 @@ abbrev commit_of : ℕ → List ℕ → Message
 commit_of o d = record { from = 1; to = 0; owner = o; number = 1; ballot = 0; body = Commit (write 1); deps = d }
 
 -- a hand-out of three places that finds two
-two_out : (t : List ℕ) (u : Records) → Holds 3 4 0 t u → (o j p i : ℕ) → next_out 3 4 u ≡ At o j → next_out 3 4 (mark u o j) ≡ At p i → next_out 3 4 (mark (mark u o j) p i) ≡ Nowhere
+two_out : (t : List ℕ) (u : Records) → Holds 3 4 0 t u → (o j p i : ℕ) → next_out 3 4 u ≡ Some (instance o j) → next_out 3 4 (mark u o j) ≡ Some (instance p i) → next_out 3 4 (mark (mark u o j) p i) ≡ None
     → handed 3 4 0 t (9 ∷ 9 ∷ 9 ∷ [])
     ≡ record {
       answer = Codes 2;

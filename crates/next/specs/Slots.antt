@@ -1,8 +1,8 @@
 -- Which instance is handed out next, and what is kept of it from one call to the next. Assumes nothing.
 -- h: a row of seven marks for each instance; st: 0 waits, 1 settled, 2 handed out.
-use Rattle.std.specs.Prelude.{ℕ, ◌-◌, ◌≤◌, ◌<◌, ◌≡◌, ◌⊎◌, Bool, true, false, ◌&&◌, ◌||◌, not, List, leb, eqb, length, get_or}
+use Rattle.std.specs.Prelude.{ℕ, ◌-◌, ◌≤◌, ◌<◌, ◌≡◌, ◌⊎◌, Bool, true, false, ◌&&◌, ◌||◌, not, List, leb, eqb, length, get_or, Option}
 use Rattle.paper.specs.Logic.{implies, all_below}
-use Rattle.rules.specs.declared.First.{First}
+use Rattle.rules.specs.declared.Instance.{Instance}
 use Rattle.rules.specs.Order.{everywhere, first}
 use Rattle.reach.specs.High.{Inst}
 use Rattle.rows.specs.Rows.{slot_of, mark_at}
@@ -16,7 +16,7 @@ unfoldable pub ready_in : ℕ → ℕ → List ℕ → List ℕ → ℕ → ℕ 
 ready_in n s h st p k = eqb (get_or st (slot_of p k) 0) 1 && everywhere n s (lets h st p k)
 
 -- the lowest that is ready
-unfoldable pub next_in : ℕ → ℕ → List ℕ → List ℕ → First
+unfoldable pub next_in : ℕ → ℕ → List ℕ → List ℕ → Option Instance
 next_in n s h st = first n s (ready_in n s h st)
 
 pub record Lists (n s : ℕ) (h st : List ℕ) : Type 0 where

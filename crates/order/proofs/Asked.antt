@@ -1,4 +1,5 @@
 -- The outcomes of the settled question, one law each. Assumes nothing.
+use Rattle.std.specs.Prelude.{Some, None}
 use Prim.Native.Nat.{ℕ, zero, suc}
 use mathlib.Core.Path.{◌≡◌, refl}
 use mathlib.Core.Bool.{true, false}
@@ -9,8 +10,7 @@ use Rattle.paper.specs.Instance.{instance_ok}
 use Rattle.paper.specs.declared.Record.{Record}
 use Rattle.paper.specs.declared.Refusal.{Refusal}
 use Rattle.paper.specs.declared.Refusal.TheVariants as why
-use Rattle.rules.specs.declared.First.TheVariants.{At, Nowhere}
-use Rattle.rules.specs.Order.{first_open}
+use Rattle.rules.specs.Order.{instance, first_open}
 use Rattle.table.specs.Table.{record_in}
 use Rattle.table.specs.Calls.{judged}
 use Rattle.table.specs.declared.Judging.TheVariants as judging
@@ -56,11 +56,11 @@ module _ (n s c : ℕ) (t : List ℕ) (o j : ℕ) where
   unfolding settled_open
   settled-6 i = rw i
 
-  pub settled-waits : (p k : ℕ) → instance_ok n s o j ≡ true → At p k ≡ first_open n s (records_in s t) o j → Waits p k ≡ settled_open n s t o j
+  pub settled-waits : (p k : ℕ) → instance_ok n s o j ≡ true → Some (instance p k) ≡ first_open n s (records_in s t) o j → Waits p k ≡ settled_open n s t o j
   unfolding settled_open
   settled-waits p k i e = rw (i, ← e)
 
-  pub settled-gives : instance_ok n s o j ≡ true → Nowhere ≡ first_open n s (records_in s t) o j → {r : Record} → r ≡ record_in s t o j → Settled r.vote.command ≡ settled_open n s t o j
+  pub settled-gives : instance_ok n s o j ≡ true → None ≡ first_open n s (records_in s t) o j → {r : Record} → r ≡ record_in s t o j → Settled r.vote.command ≡ settled_open n s t o j
   unfolding settled_open
   settled-gives i e er = rw (i, ← e, er)
 

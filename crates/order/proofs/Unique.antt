@@ -1,4 +1,5 @@
 -- No second result satisfies a contract of this crate's calls, and number and values tell the answers apart. Assumes nothing.
+use Rattle.std.specs.Prelude.{Option, Some, None}
 use mathlib.Core.Path.{◌≡◌, sym, ap, ap₂, ◌∙◌}
 use mathlib.Core.Bool.{Bool, true, false, not, cond}
 use mathlib.Core.List.{List}
@@ -9,9 +10,8 @@ use Rattle.paper.proofs.Laws.{op_number-apart}
 use Rattle.paper.proofs.Numbers.{number-apart, number_of-pos}
 use Rattle.paper.specs.Instance.{instance_ok}
 use Rattle.paper.specs.declared.Refusal.TheVariants.{Instance}
-use Rattle.rules.specs.Order.{found, first_open}
-use Rattle.rules.specs.declared.First.{First}
-use Rattle.rules.specs.declared.First.TheVariants.{At, Nowhere}
+use Rattle.rules.specs.Order.{instance, found, first_open}
+use Rattle.rules.specs.declared.Instance.{Instance}
 use Rattle.table.specs.Table.{record_in}
 use Rattle.table.specs.Calls.{judged, judging_number}
 use Rattle.table.specs.declared.Judging.{Judging}
@@ -67,11 +67,11 @@ pub settled_plain : (n s c : ℕ) (t : List ℕ) (o j : ℕ) → settling_number
 unfolding settled settled_open
 settled_plain n s c t o j = through (judged n s c t) (judged-plain n s c t) (settled_open n s t o j) (unjudged (instance_ok n s o j) (first_open n s (records_in s t) o j))
   where
-    unjudged : (b : Bool) (x : First)
+    unjudged : (b : Bool) (x : Option Instance)
         → settling_number (cond (not b) (settling.Refused Instance) (found x (settling.Settled (record_in s t o j).vote.command) settling.Waits)) ≡ 35 → ⊥
     unjudged false x e = omega arith
-    unjudged true Nowhere e = omega arith
-    unjudged true (At p k) e = omega arith
+    unjudged true None e = omega arith
+    unjudged true (Some i) e = omega arith
 
 pub handed-plain : (n s c : ℕ) (t list : List ℕ) → handing_number (handed n s c t list).answer ≡ 35 → ⊥
 unfolding handed handed_open
