@@ -42,7 +42,7 @@ loop-q-preserved c =
     let l = d in
     let f = l in
     let a = f in
-    let w = freed-at a.args.h.now a.args.st.now a.args.past.now _ _ _ f.slot_of-x.ensures.0 d.mark_at.ensures d.wide8.ensures d.free_row.ensures in
+    let w = freed-at a.args.h.now a.args.st.now a.args.past.now _ _ _ f.slot_of-x.ensures.0 d.mark_at.ensures d.from.ensures d.free_row.ensures in
     known-freed _ _ _ _ _ _ l.loop-q.invariant _ _ a.requires.asking.inst a.requires.ready _ _ d.loop-q-test.true w
 
 pub shape_of-know : goal.shape_of-know

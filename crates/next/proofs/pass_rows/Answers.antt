@@ -10,7 +10,7 @@ pub bounds-past-q : goal.bounds-past-q
 bounds-past-q c = let g = c.loop-q.invariant in omega (arith, g.copies, g.long, c.loop-q-test.true)
 
 pub row_past-z-requires : goal.row_past-z-requires
-row_past-z-requires c = let g = c.loop-q.invariant in (g.numbers, omega (arith, g.copies, c.loop-q-test.true), g.states, rw c.wide8.ensures (g.rows _ c.loop-q-test.true))
+row_past-z-requires c = let g = c.loop-q.invariant in (g.numbers, omega (arith, g.copies, c.loop-q-test.true), g.states, rw c.from.ensures (g.rows _ c.loop-q-test.true))
 
 pub overflow_cast-past : goal.overflow_cast-past
 overflow_cast-past c = omega (arith, c.row_past-z.ensures.few, c.loop-q.invariant.numbers)
