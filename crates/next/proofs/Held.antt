@@ -68,12 +68,6 @@ not-passes h st p k y e = go (dec_lt (mark_at h y p) k)
     go (yes l) = l
     go (no l) = tf (passes_at h st p k y) (passes-back h st p k y (omega arith)) e
 
-pub passes-is : (h st : List ℕ) (p k y : ℕ) {u w : ℕ} {a b r : Bool} → u ≡ get_or st y 0 → a ≡ eqb u 2 → w ≡ mark_at h y p
-    → b ≡ leb k w → r ≡ (a || b)
-    → r ≡ passes_at h st p k y
-unfolding passes_at
-passes-is h st p k y eu ea ew eb er = er ∙ rw (ea, eb, eu, ew)
-
 clash : {A : Type 0} {y : ℕ} → Some y ≡ None → A
 clash e = cc
 
@@ -321,13 +315,6 @@ module _ (n s : ℕ) (h st know past : List ℕ) (g : Going n s h st know past) 
                 below = λ o j i l. absurd (omega arith);
               }))
               (f.each (slot_of o j))
-
-pub is-held-no : (st : List ℕ) (x : ℕ) → x < 2 → false ≡ (leb 2 x && not (eqb (get_or st (x - 2) 0) 2))
-is-held-no st x l = rw (leb-not 2 x l)
-
-pub is-held-is : (st : List ℕ) (x : ℕ) → 2 ≤ x → {u : ℕ} {a : Bool} → u ≡ get_or st (x - 2) 0 → a ≡ eqb u 2
-    → not a ≡ (leb 2 x && not (eqb (get_or st (x - 2) 0) 2))
-is-held-is st x l eu ea = rw (leb-in 2 x l, ea, eu)
 
 pub ready-not : (n s : ℕ) (h st : List ℕ) (p k x : ℕ) → x ≡ slot_of p k → (get_or st x 0 ≡ 1 → ⊥) → false ≡ ready_in n s h st p k
 unfolding ready_in

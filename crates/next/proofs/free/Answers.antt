@@ -30,12 +30,6 @@ free_row-requires c =
     let w = row-span _ _ _ _ _ _ g.lists a.requires.asking.inst _ c.loop-q-test.true f.slot_of-x.ensures.0 c.mark_at.ensures in
     (w.states, g.long, w.other, w.last)
 
-pub overflow_step-q : goal.overflow_step-q
-overflow_step-q c = omega arith
-
-pub loop-q-smaller : goal.loop-q-smaller
-loop-q-smaller c = omega arith
-
 pub loop-q-preserved : goal.loop-q-preserved
 loop-q-preserved c =
     let d = c in

@@ -36,12 +36,6 @@ returns-in-Some c =
     held-some _ _ _ _ _ _ _ _ g _ _ _ _ _ _ d.loop-q-test.true l.slot_of-x.ensures.0
     d.mark_at.ensures d.from.ensures d.start_of-start.ensures d.row_holder-held.ensures l.loop-q.invariant _ c.in-Some.is
 
-pub overflow_step-q : goal.overflow_step-q
-overflow_step-q c = omega arith
-
-pub loop-q-smaller : goal.loop-q-smaller
-loop-q-smaller c = omega arith
-
 pub loop-q-preserved : goal.loop-q-preserved
 loop-q-preserved c =
     let d = c in

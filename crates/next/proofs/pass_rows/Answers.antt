@@ -18,12 +18,6 @@ overflow_cast-past c = omega (arith, c.row_past-z.ensures.few, c.loop-q.invarian
 pub bounds-past-q-in-loop-q : goal.bounds-past-q-in-loop-q
 bounds-past-q-in-loop-q c = let g = c.loop-q.invariant in omega (arith, g.copies, g.long, c.loop-q-test.true)
 
-pub overflow_step-q : goal.overflow_step-q
-overflow_step-q c = omega arith
-
-pub loop-q-smaller : goal.loop-q-smaller
-loop-q-smaller c = omega arith
-
 pub loop-q-preserved : goal.loop-q-preserved
 loop-q-preserved c = past_row _ _ _ _ c.loop-q.invariant _ _ c.loop-q-test.true c.row_past-z.ensures
 
