@@ -125,12 +125,12 @@ module _ (n s : ℕ) (t₀ list₀ h t st know past list : List ℕ) (count : �
   unfolding next_out
   found-inst o j e = (first_passes n s (candidate n s (records_in s t)) o j (sym (e ∙ found-is))).0
 
-  pub listed-on : (o j x code : ℕ) (t₁ know₁ past₁ : List ℕ) → Some (instance o j) ≡ next_in n s h st → count < length list → x ≡ slot_of o j → Going n s h st know₁ past₁ → t₁ ≡ marked_in s t o j
+  pub listed-on : (o j x code : ℕ) (t₁ know₁ past₁ : List ℕ) → Some (instance o j) ≡ next_in n s h st → count < length list₀ → x ≡ slot_of o j → Going n s h st know₁ past₁ → t₁ ≡ marked_in s t o j
       → code ≡ code_of o j → Listed n s t₀ list₀ h t₁ (set st x 2) know₁ past₁ (set list count code) (count + 1)
-  listed-on o j x code t₁ know₁ past₁ e r ex f et ec =
+  listed-on o j x code t₁ know₁ past₁ e r₀ ex f et ec =
       let i = found-inst o j e in
       let z : next_out n s (records_in s t) ≡ Some (instance o j) = sym (e ∙ found-is) in
-      let r₀ : count < length list₀ = omega (arith, l.long) in
+      let r : count < length list = omega (arith, l.long) in
       let tk : take (count + 1) (set list count code) ≡ take count list ++ (code ∷ []) = rw add-one (take-suc-set list count code r) in
       let dr : drop (count + 1) (set list count code) ≡ drop (count + 1) list = drop-set-lt (count + 1) list count code (omega arith) in
       let dd : drop (count + 1) list ≡ drop (count + 1) list₀ = rw (← drop-drop 1 count list, l.rest, drop-drop 1 count list₀) in
@@ -164,7 +164,8 @@ module _ (n s : ℕ) (t₀ list₀ h t st know past list : List ℕ) (count : �
       let z : next_out n s (records_in s t) ≡ None = sym (e ∙ found-is) in
       ended (codes-none (length list₀ - count) n s t z) (table_none (length list₀ - count) n s t z)
 
-  pub listed-full : length list ≤ count → Left n s t₀ list₀ count t list
+  pub listed-full : length list₀ ≤ count → Left n s t₀ list₀ (length list) t list
   listed-full e =
-      let z : length list₀ - count ≡ 0 = omega (arith, l.long) in
-      ended (codes-full (length list₀ - count) n s t z) (table-full (length list₀ - count) n s t z)
+      let z : length list₀ - count ≡ 0 = omega arith in
+      let w : length list ≡ count = omega (arith, l.long, l.within) in
+      rw w (ended (codes-full (length list₀ - count) n s t z) (table-full (length list₀ - count) n s t z))
