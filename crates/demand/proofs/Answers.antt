@@ -1,6 +1,6 @@
 -- What each call answers on a table that holds these records: the rule's step on the records, and what the table then holds.
 -- Assumes nothing.
-use Rattle.std.specs.Prelude.{Some, None}
+use Rattle.std.specs.Prelude.{Some, None, Ok}
 use Prim.Native.Nat.{ℕ, suc, ◌≤◌, ◌<◌, ◌^◌}
 use mathlib.Core.Path.{◌≡◌, refl, sym, ap, ap₂, ◌∙◌, subst}
 use mathlib.Core.Bool.{Bool, true, false, ◌&&◌, not, cond}
@@ -199,7 +199,7 @@ module _ (n s c : ℕ) (t : List ℕ) (u : Records) (h : Holds n s c t u) where
   sound-here : judging.Sound ≡ judged n s c t
   sound-here = sym (sound-judged n s c t h.kept)
 
-  pub settled-does : (o j p k : ℕ) → instance_ok n s o j ≡ true → first_open n s u o j ≡ Some (instance p k) → settled n s c t o j ≡ settling.Waits p k
+  pub settled-does : (o j p k : ℕ) → instance_ok n s o j ≡ true → first_open n s u o j ≡ Some (instance p k) → settled n s c t o j ≡ Ok (settling.Waits (instance p k))
   settled-does o j p k i e =
       sym (settled-past n s c t o j sound-here (settled-waits n s c t o j p k i
       (sym (open-alike n s (records_in s t) (records n s t) (λ p q z. ap (λ (r : Record). r.vote) (alike n s t p q z)) o j i ∙ ap (λ (v : Records). first_open n s v o j) h.is ∙ e))))

@@ -1,6 +1,6 @@
 -- And back: every run of the rules whose requests fit their fields is a run over bytes, so nothing that the rules can do is
 -- lost there. Assumes nothing.
-use Rattle.std.specs.Prelude.{Option, Some}
+use Rattle.std.specs.Prelude.{Option, Some, Ok}
 use Prim.Native.Nat.{ℕ, ◌≤◌, ◌<◌}
 use mathlib.Core.Path.{◌≡◌, refl, sym, ap, ◌∙◌, subst}
 use mathlib.Core.Bool.{Bool, true, false, cond}
@@ -35,7 +35,6 @@ use Rattle.gate.specs.Events.{Outcome, asked, receive_open, recover_open, nudge_
 use Rattle.gate.specs.Events as log
 use Rattle.gate.proofs.Calls.{setup-of, receive-open}
 use Rattle.gate.proofs.Held.{out-short}
-use Rattle.order.specs.declared.Handing.TheVariants.{Codes}
 use Rattle.order.specs.Calls.{settled, handed_codes, handed}
 use Rattle.safety.specs.Run.{Happening, requested, answered, Setup, replaced}
 use Rattle.safety.specs.Run as rules
@@ -188,7 +187,7 @@ module _ (n s : ℕ) (setup : Setup n s) where
         let i : ℕ = length (handed_codes 1 n s d) in
         let e : next_out n s (records_in s d) ≡ Some (instance o j) = next-alike n s (records_in s d) (records n s d) (alike n s d) ∙ ap (next_out n s) (sym (t.copies c).table) ∙ next in
         let ok : Found n s (candidate n s (records_in s d)) (Some (instance o j)) = rw e at (next_out-found n s (records_in s d)) in
-        let answer-is : (handed n s c k.lent one).answer ≡ Codes i = rw memory (hand-answers n s c d one kept) in
+        let answer-is : (handed n s c k.lent one).answer ≡ Ok i = rw memory (hand-answers n s c d one kept) in
         let h : Copy = handing k (handed n s c k.lent one) i in
         let x₁ : State = changed x c h in
         let tie₁ : Tie n s setup x₁ y = hand-tie n s setup x y t c copy one i (f.saved c) answer-is in

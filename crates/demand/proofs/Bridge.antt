@@ -1,6 +1,6 @@
 -- A run over bytes beside a run of the rules: each saved table is sound and its records are the rules' table, and all that is
 -- sent is the bytes of a valid message of the rules. Assumes nothing.
-use Rattle.std.specs.Prelude.{Some}
+use Rattle.std.specs.Prelude.{Some, Ok}
 use Prim.Native.Nat.{ℕ, ◌<◌}
 use mathlib.Core.Path.{◌≡◌, refl, sym, ap, ap₂, ◌∙◌, subst}
 use mathlib.Core.Bool.{Bool, true, false, cond}
@@ -29,7 +29,6 @@ use Rattle.gate.specs.Events.{Outcome, answer_number, answer_owner, answer_insta
 use Rattle.gate.specs.Events as log
 use Rattle.gate.proofs.Calls.{setup-of}
 use Rattle.gate.proofs.Held.{out-short}
-use Rattle.order.specs.declared.Handing.TheVariants.{Codes}
 use Rattle.order.specs.Calls.{settled, marked_in, handed}
 use Rattle.safety.specs.Run.{Instance, Happening, answered, Setup, replaced}
 use Rattle.safety.specs.Run as rules
@@ -252,7 +251,7 @@ module _ (n s : ℕ) (setup : Setup n s) where
     pub in_memory : k.listed ≡ [] → k.lent ≡ saved_table k
     in_memory none = all_saved n s (saved_table k) k.lent k.listed side.pending none
 
-    pub hand-tie : (list : List ℕ) (i : ℕ) → k.listed ≡ [] → (handed n s c k.lent list).answer ≡ Codes i
+    pub hand-tie : (list : List ℕ) (i : ℕ) → k.listed ≡ [] → (handed n s c k.lent list).answer ≡ Ok i
         → Tie (changed x c (handing k (handed n s c k.lent list) i)) y
     hand-tie list i none answer-is =
         let memory = in_memory none in

@@ -1,5 +1,5 @@
 -- What a hand-out listed and is not saved yet: its marks, one after the other, are those of the saved table. Assumes nothing.
-use Rattle.std.specs.Prelude.{Option, Some, None}
+use Rattle.std.specs.Prelude.{Option, Some, None, Result, Ok, Err}
 use Prim.Native.Nat.{ℕ, zero, suc, ◌≤◌, ◌<◌}
 use mathlib.Core.Path.{◌≡◌, refl, sym, ap, ◌∙◌}
 use mathlib.Core.Bool.{Bool, true, false, ◌&&◌, not, cond}
@@ -9,6 +9,7 @@ use lib.ListN.{length, take, drop, get_or}
 use lib.Dec.{eqb}
 use borrow.Author.Tests.{eqb-true, not-true}
 use Rattle.numbers.proofs.Laws.{splice-same}
+use Rattle.paper.specs.declared.Refusal.{Refusal}
 use Rattle.paper.specs.Instance.{instance_ok}
 use Rattle.paper.specs.declared.Record.{Record}
 use Rattle.rules.specs.declared.Instance.{Instance}
@@ -25,9 +26,6 @@ use Rattle.closed.specs.Held.{Held}
 use Rattle.closed.proofs.Laws.{two, three, tf}
 use Rattle.closed.proofs.Mark.{marked-held, Found, candidate-committed, next_out-found}
 use Rattle.order.specs.Calls.{marked_in, handed_table, handed_codes, handed_open, handed}
-use Rattle.order.specs.declared.Handing.{Handing}
-use Rattle.order.specs.declared.Handing.TheVariants.{Codes}
-use Rattle.order.specs.declared.Handing.TheVariants as handing
 use Rattle.demand.specs.Run.{save_of, stored}
 use Rattle.demand.proofs.Range.{Alike, out-alike}
 use Rattle.demand.proofs.Records.{records, at-range, held, saved-record, put-held, put-here, put_other, put-records}
@@ -176,23 +174,23 @@ short (suc room) n s t = go (next_out n s t) (λ u. short room n s u)
     go None h = omega arith
     go (Some i) h = omega (arith, h (mark t i.owner i.number))
 
-codes_in : Handing → ℕ
-codes_in (handing.Codes i) = i
-codes_in (handing.Refused r) = 0
+codes_in : Result ℕ Refusal → ℕ
+codes_in (Ok i) = i
+codes_in (Err r) = 0
 
 module _ (n s c : ℕ) (t list : List ℕ) (k : Kept n s c t) where
-  pub hand-answers : (handed n s c t list).answer ≡ Codes (length (handed_codes (length list) n s t))
+  pub hand-answers : (handed n s c t list).answer ≡ Ok (length (handed_codes (length list) n s t))
   unfolding handed handed_open
   hand-answers = rw (sound-judged n s c t k)
 
-  pub listed-is : (i : ℕ) → (handed n s c t list).answer ≡ Codes i → take i (handed n s c t list).list ≡ handed_codes (length list) n s t
+  pub listed-is : (i : ℕ) → (handed n s c t list).answer ≡ Ok i → take i (handed n s c t list).list ≡ handed_codes (length list) n s t
   unfolding handed handed_open handed_codes codes_in
   listed-is i e =
       let l : List ℕ = hand_out (length list) n s (records_in s t) in
       let z : length l ≡ i = ap codes_in (sym hand-answers ∙ e) in
       rw (sound-judged n s c t k) (splice-same list 0 l i z (omega (arith, short (length list) n s (records_in s t))))
 
-  pub listed-pending : (i : ℕ) → (handed n s c t list).answer ≡ Codes i → Pending n s t (handed n s c t list).table (take i (handed n s c t list).list)
+  pub listed-pending : (i : ℕ) → (handed n s c t list).answer ≡ Ok i → Pending n s t (handed n s c t list).table (take i (handed n s c t list).list)
   unfolding handed handed_open
   listed-pending i e = record { room = length list; table = rw (sound-judged n s c t k); codes = listed-is i e }
 
