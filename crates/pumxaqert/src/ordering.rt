@@ -1,25 +1,32 @@
 // The settled question and the hand-out.
-ghost use Rattle.std.specs.Prelude.{◌≡◌};
+ghost use Rattle.std.specs.Prelude.{◌≡◌, Ok};
 ghost use Rattle.order.specs.Calls.{settled, handed, settling_number, handing_number};
 ghost use Rattle.order.specs.Calls.{settling_values, handing_count};
 
 use crate::fields::{from_size, from32};
 use nouns::command::op_number;
 use nouns::refusal::number_of;
-use order::{Handing, Settling};
-use paper::Command;
+use order::Settling;
 
-fn command_values(k: Command) -> [u64; 5]
-    ensures { result ≡ settling_values (Settling.Settled k) }
+fn settling_values(answer: Settling) -> [u64; 5]
+    ensures { result ≡ settling_values (Ok answer) }
 {
-    let op = k.op;
-    [
-        1,
-        from_size(op_number(op)),
-        from32(k.key),
-        from32(k.second),
-        k.edit,
-    ]
+    match answer {
+        Settling::Settled(k) => [
+            1,
+            from_size(op_number(k.op)),
+            from32(k.key),
+            from32(k.second),
+            k.edit,
+        ],
+        Settling::Waits(first) => [
+            0,
+            from_size(first.owner),
+            from_size(first.number),
+            0,
+            0,
+        ],
+    }
 }
 
 #[unsafe(no_mangle)]
@@ -37,18 +44,11 @@ pub extern "C" fn pumxaqert_settled(
 {
     let x = order::settled::settled(table, n, s, c, owner, number);
     match x {
-        Settling::Settled(k) => {
-            *values = command_values(k);
+        Ok(answer) => {
+            *values = settling_values(answer);
             0
         }
-        Settling::Waits {
-            owner: o,
-            number: j,
-        } => {
-            *values = [0, from_size(o), from_size(j), 0, 0];
-            0
-        }
-        Settling::Refused(why) => {
+        Err(why) => {
             *values = [0, 0, 0, 0, 0];
             number_of(why)
         }
@@ -71,11 +71,11 @@ pub extern "C" fn pumxaqert_hand_out(
 {
     let x = order::hand_out::hand_out(table, n, s, c, list);
     match x {
-        Handing::Codes(k) => {
+        Ok(k) => {
             *codes = k;
             0
         }
-        Handing::Refused(why) => {
+        Err(why) => {
             *codes = 0;
             number_of(why)
         }
