@@ -237,7 +237,14 @@ fn ready_in(
 }
 
 // The lowest that is.
-pub fn next_in(n: usize, s: usize, h: &[u8], st: &[u8], know: &mut [u16], past: &mut [u8]) -> Option<Instance>
+pub fn next_in(
+    n: usize,
+    s: usize,
+    h: &[u8],
+    st: &[u8],
+    know: &mut [u16],
+    past: &mut [u8],
+) -> Option<Instance>
     requires { Going n s h.now st.now know.old past.old }
     ensures says { result ≡ next_in n s h.now st.now }
     ensures kept { Going n s h.now st.now know.new past.new }

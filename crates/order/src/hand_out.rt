@@ -52,7 +52,13 @@ fn list_all(
 }
 
 // Past 1 and 11.
-fn hand_out_open(t: &mut [u8], n: usize, s: usize, c: usize, list: &mut [u16]) -> Result<usize, Refusal>
+fn hand_out_open(
+    t: &mut [u8],
+    n: usize,
+    s: usize,
+    c: usize,
+    list: &mut [u16],
+) -> Result<usize, Refusal>
     requires { Judged n s c t.old }
     ensures answers { result ≡ (handed_open n s t.old list.old).answer }
     ensures table { t.new ≡ (handed_open n s t.old list.old).table }
@@ -69,7 +75,13 @@ fn hand_out_open(t: &mut [u8], n: usize, s: usize, c: usize, list: &mut [u16]) -
     Ok(count)
 }
 
-pub fn hand_out(t: &mut [u8], n: usize, s: usize, c: usize, list: &mut [u16]) -> Result<usize, Refusal>
+pub fn hand_out(
+    t: &mut [u8],
+    n: usize,
+    s: usize,
+    c: usize,
+    list: &mut [u16],
+) -> Result<usize, Refusal>
     ensures answers { result ≡ (handed n s c t.old list.old).answer }
     ensures table { t.new ≡ (handed n s c t.old list.old).table }
     ensures list { list.new ≡ (handed n s c t.old list.old).list }

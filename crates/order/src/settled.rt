@@ -11,7 +11,14 @@ use table::records::load;
 use table::{Judging, judge_table};
 
 // Past 1 and 11.
-fn settled_open(t: &[u8], n: usize, s: usize, c: usize, o: usize, j: usize) -> Result<Settling, Refusal>
+fn settled_open(
+    t: &[u8],
+    n: usize,
+    s: usize,
+    c: usize,
+    o: usize,
+    j: usize,
+) -> Result<Settling, Refusal>
     requires { Judged n s c t.now }
     ensures { result ≡ settled_open n s t.now o j }
 {
@@ -28,7 +35,14 @@ fn settled_open(t: &[u8], n: usize, s: usize, c: usize, o: usize, j: usize) -> R
     Ok(Settling::Settled(r.vote.command))
 }
 
-pub fn settled(t: &[u8], n: usize, s: usize, c: usize, o: usize, j: usize) -> Result<Settling, Refusal>
+pub fn settled(
+    t: &[u8],
+    n: usize,
+    s: usize,
+    c: usize,
+    o: usize,
+    j: usize,
+) -> Result<Settling, Refusal>
     ensures { result ≡ settled n s c t.now o j }
 {
     let judging = judge_table(t, n, s, c);

@@ -19,13 +19,7 @@ fn settling_values(answer: Settling) -> [u64; 5]
             from32(k.second),
             k.edit,
         ],
-        Settling::Waits(first) => [
-            0,
-            from_size(first.owner),
-            from_size(first.number),
-            0,
-            0,
-        ],
+        Settling::Waits(first) => [0, from_size(first.owner), from_size(first.number), 0, 0],
     }
 }
 
