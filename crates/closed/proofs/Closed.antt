@@ -1,4 +1,5 @@
 -- Every event keeps every record of a table sound and writable, and what it sends is valid where it goes. Assumes nothing.
+use Rattle.std.specs.Prelude.{Option, Some, None}
 use Prim.Native.Nat.{ℕ, zero, suc, ◌+◌, ◌*◌, ◌-◌, ◌≤◌}
 use mathlib.Core.Path.{◌≡◌, refl, sym, ◌∙◌}
 use mathlib.Core.Bool.{Bool, true, false, ◌&&◌, cond}
@@ -25,9 +26,8 @@ use Rattle.rules.specs.Request.{is_blank, lowest_blank}
 use Rattle.rules.specs.Recover.{out_of_ballots}
 use Rattle.rules.specs.Nudge.{nothing_to_nudge}
 use Rattle.rules.specs.Events.{put, request_number, on_request, on_message, on_recover, on_nudge, addressed, messages}
-use Rattle.rules.specs.declared.First.{First}
-use Rattle.rules.specs.declared.First.TheVariants.{At, Nowhere}
-use Rattle.rules.specs.Order.{candidate, marked, mark, next_out, found, handed_out}
+use Rattle.rules.specs.declared.Instance.{Instance}
+use Rattle.rules.specs.Order.{instance, candidate, marked, mark, next_out, found, handed_out}
 use Rattle.paper.specs.Fits.{CommandFits, MessageFits}
 use Rattle.closed.specs.Held.{Held, Sent, Closed, SoundRecords}
 use Rattle.closed.proofs.Laws.{both, by_cond, two}
@@ -119,10 +119,10 @@ module _ (n s c : ℕ) (setup : setup_ok n s c ≡ true) where
   handed_out-sound zero t all = all
   handed_out-sound (suc room) t all = go (next_out n s t) (next_out-found n s t) (λ u h. handed_out-sound room u h)
     where
-      go : (x : First) → Found n s (candidate n s t) x → ((u : Records) → SoundRecords n s c u → SoundRecords n s c (handed_out room n s u))
+      go : (x : Option Instance) → Found n s (candidate n s t) x → ((u : Records) → SoundRecords n s c u → SoundRecords n s c (handed_out room n s u))
           → SoundRecords n s c (found x t (λ o j. handed_out room n s (mark t o j)))
-      go Nowhere g more = all
-      go (At o j) g more = more (mark t o j) (mark-sound t all o j g.0 (candidate-committed n s t o j g.0 g.1))
+      go None g more = all
+      go (Some i) g more = more (mark t i.owner i.number) (mark-sound t all i.owner i.number g.0 (candidate-committed n s t i.owner i.number g.0 g.1))
 
   -- what goes out fits, with its destination filled in
   pub addressed-fits : (x : Step) → Sent n s c x → (q : ℕ) → member q x.to ≡ true → MessageFits (addressed x.message q)

@@ -1,4 +1,5 @@
 -- A mark on a committed record, and what hand-out marks. Assumes nothing.
+use Rattle.std.specs.Prelude.{Option, Some, None}
 use Prim.Native.Nat.{ℕ, zero, suc, ◌+◌, ◌-◌, ◌≤◌}
 use mathlib.Core.Path.{◌≡◌}
 use mathlib.Core.Bool.{Bool, true, false, ◌&&◌, not}
@@ -11,10 +12,9 @@ use Rattle.paper.specs.Sound.{reply_ok, replies_ok}
 use Rattle.paper.specs.declared.Record.{Record}
 use Rattle.paper.proofs.Laws.{all_below-at}
 use Rattle.rules.specs.Step.{is_committed}
-use Rattle.rules.specs.declared.First.{First}
-use Rattle.rules.specs.declared.First.TheVariants.{At, Nowhere}
+use Rattle.rules.specs.declared.Instance.{Instance}
 use Rattle.rules.specs.Seen.{Records}
-use Rattle.rules.specs.Order.{first_owner, first_number, waits_for, is_settled, everywhere, is_marked, candidate, marked, next_out}
+use Rattle.rules.specs.Order.{instance, first_owner, first_number, waits_for, is_settled, everywhere, is_marked, candidate, marked, next_out}
 use Rattle.closed.specs.Held.{Held}
 use Rattle.closed.proofs.Laws.{eqb-self, two, three, both, by_cond}
 use Rattle.closed.proofs.Sound.{sound-is, sound-in}
@@ -55,11 +55,11 @@ marked-held n s c o r h e =
 
 -- the first instance that a test holds of is in range, and it holds there
 module _ (n s : ℕ) (f : ℕ → ℕ → Bool) where
-  abbrev pub Found : First → Type 0
-  Found Nowhere = Unit {0}
-  Found (At o j) = (instance_ok n s o j ≡ true) × (f o j ≡ true)
+  abbrev pub Found : Option Instance → Type 0
+  Found None = Unit {0}
+  Found (Some i) = (instance_ok n s i.owner i.number ≡ true) × (f i.owner i.number ≡ true)
 
-  first-owner : (k o j : ℕ) (later : First) → o + k ≤ n → 1 ≤ j → j ≤ s → Found later → Found (first_owner k o j f later)
+  first-owner : (k o j : ℕ) (later : Option Instance) → o + k ≤ n → 1 ≤ j → j ≤ s → Found later → Found (first_owner k o j f later)
   unfolding first_owner instance_ok
   first-owner zero o j later l a b g = g
   first-owner (suc k) o j later l a b g =

@@ -3,8 +3,8 @@ use crate::restart::with_room;
 use crate::turn::{Turn, went};
 use crate::work::say_part;
 use nouns::setup::INSTANCES;
+use order::Settling;
 use order::codes::{number_of, owner_of};
-use order::{Handing, Settling};
 use paper::{Command, Refusal};
 use say::value::{begin, put_command, put_refusal, say};
 use scene::Scene;
@@ -29,9 +29,9 @@ fn say_waits(c: usize, o: usize, j: usize) {
 pub fn ask(all: &[u8], w: Scene, c: usize, o: usize, j: usize) -> Turn {
     let answer = order::settled::settled(table_in(all, w, c), w.n, w.s, c, o, j);
     match answer {
-        Settling::Settled(k) => say_settled(c, o, j, k),
-        Settling::Waits { owner, number } => say_waits(c, owner, number),
-        Settling::Refused(why) => say_refused(c, why),
+        Ok(Settling::Settled(k)) => say_settled(c, o, j, k),
+        Ok(Settling::Waits(first)) => say_waits(c, first.owner, first.number),
+        Err(why) => say_refused(c, why),
     }
     went(w)
 }
@@ -41,7 +41,7 @@ fn say_handed(all: &[u8], w: Scene, c: usize, o: usize, j: usize) {
     let at = begin(b"  copy # hands out #.#: ", c, o, j);
     let answer = order::settled::settled(table_in(all, w, c), w.n, w.s, c, o, j);
     match answer {
-        Settling::Settled(k) => finish(put_command(at, k)),
+        Ok(Settling::Settled(k)) => finish(put_command(at, k)),
         _ => finish(at),
     }
 }
@@ -104,8 +104,8 @@ fn listed(all: &mut [u8], w: Scene, c: usize, list: &[u16], k: usize) -> Turn {
 fn hand_out_in(all: &mut [u8], w: Scene, c: usize, list: &mut [u16]) -> Turn {
     let answer = order::hand_out::hand_out(table_mut(&mut *all, w, c), w.n, w.s, c, &mut *list);
     match answer {
-        Handing::Codes(k) => listed(all, w, c, &*list, k),
-        Handing::Refused(why) => {
+        Ok(k) => listed(all, w, c, &*list, k),
+        Err(why) => {
             say_refused(c, why);
             went(w)
         }

@@ -1,5 +1,6 @@
 -- What each call answers on a table that holds these records: the rule's step on the records, and what the table then holds.
 -- Assumes nothing.
+use Rattle.std.specs.Prelude.{Some, None, Ok}
 use Prim.Native.Nat.{ℕ, suc, ◌≤◌, ◌<◌, ◌^◌}
 use mathlib.Core.Path.{◌≡◌, refl, sym, ap, ap₂, ◌∙◌, subst}
 use mathlib.Core.Bool.{Bool, true, false, ◌&&◌, not, cond}
@@ -23,8 +24,7 @@ use Rattle.paper.specs.declared.Record.{Record}
 use Rattle.paper.specs.declared.Message.{Message}
 use Rattle.paper.specs.declared.Refusal.TheVariants as why
 use Rattle.rules.specs.declared.Step.{Step}
-use Rattle.rules.specs.declared.First.TheVariants.{At, Nowhere}
-use Rattle.rules.specs.Order.{first_open, candidate, next_out, marked, mark, code_of, hand_out}
+use Rattle.rules.specs.Order.{instance, first_open, candidate, next_out, marked, mark, code_of, hand_out}
 use Rattle.rules.specs.Seen.{Records}
 use Rattle.rules.specs.Step.{is_committed}
 use Rattle.rules.specs.Received.{refused10}
@@ -199,7 +199,7 @@ module _ (n s c : ℕ) (t : List ℕ) (u : Records) (h : Holds n s c t u) where
   sound-here : Ok tt ≡ judged n s c t
   sound-here = sym (sound-judged n s c t h.kept)
 
-  pub settled-does : (o j p k : ℕ) → instance_ok n s o j ≡ true → first_open n s u o j ≡ At p k → settled n s c t o j ≡ settling.Waits p k
+  pub settled-does : (o j p k : ℕ) → instance_ok n s o j ≡ true → first_open n s u o j ≡ Some (instance p k) → settled n s c t o j ≡ Ok (settling.Waits (instance p k))
   settled-does o j p k i e =
       sym (settled-past n s c t o j sound-here (settled-waits n s c t o j p k i
       (sym (open-alike n s (records_in s t) (records n s t) (λ p q z. ap (λ (r : Record). r.vote) (alike n s t p q z)) o j i ∙ ap (λ (v : Records). first_open n s v o j) h.is ∙ e))))
@@ -217,11 +217,11 @@ module _ (n s c : ℕ) (t : List ℕ) (u : Records) (h : Holds n s c t u) where
     pub codes : handed_codes (suc room) n s t ≡ code_of o j ∷ handed_codes room n s (put_record s t o j (marked (u o j)))
     pub holds : Holds n s c (put_record s t o j (marked (u o j))) (put u o j (marked (u o j)))
 
-  pub hands : (room o j : ℕ) → next_out n s u ≡ At o j → Hands room o j
+  pub hands : (room o j : ℕ) → next_out n s u ≡ Some (instance o j) → Hands room o j
   unfolding marked_in
   hands room o j e =
-      let a : next_out n s (records_in s t) ≡ At o j = next_here ∙ e in
-      let f : Found n s (candidate n s (records_in s t)) (At o j) = subst (Found n s (candidate n s (records_in s t))) a (next_out-found n s (records_in s t)) in
+      let a : next_out n s (records_in s t) ≡ Some (instance o j) = next_here ∙ e in
+      let f : Found n s (candidate n s (records_in s t)) (Some (instance o j)) = subst (Found n s (candidate n s (records_in s t))) a (next_out-found n s (records_in s t)) in
       let m : marked_in s t o j ≡ put_record s t o j (marked (u o j)) = ap (λ (r : Record). put_record s t o j (marked r)) (held-here n s c t u h o j f.0) in
       record {
         table = next-table n s c t h.kept o j f room a ∙ ap (handed_table room n s) m;
@@ -233,6 +233,6 @@ module _ (n s c : ℕ) (t : List ℕ) (u : Records) (h : Holds n s c t u) where
       }
 
   -- and ends where nothing is left
-  pub hands_none : (room : ℕ) → next_out n s u ≡ Nowhere → (handed_table (suc room) n s t ≡ t) × (handed_codes (suc room) n s t ≡ [])
+  pub hands_none : (room : ℕ) → next_out n s u ≡ None → (handed_table (suc room) n s t ≡ t) × (handed_codes (suc room) n s t ≡ [])
   unfolding handed_table handed_codes hand_out
-  hands_none room e = let a : next_out n s (records_in s t) ≡ Nowhere = next_here ∙ e in (rw a, rw a)
+  hands_none room e = let a : next_out n s (records_in s t) ≡ None = next_here ∙ e in (rw a, rw a)

@@ -1,5 +1,6 @@
 -- And back: every run of the rules whose requests fit their fields is a run over bytes, so nothing that the rules can do is
 -- lost there. Assumes nothing.
+use Rattle.std.specs.Prelude.{Option, Some, Ok}
 use Prim.Native.Nat.{ℕ, ◌≤◌, ◌<◌}
 use mathlib.Core.Path.{◌≡◌, refl, sym, ap, ◌∙◌, subst}
 use mathlib.Core.Bool.{Bool, true, false, cond}
@@ -15,15 +16,14 @@ use Rattle.paper.specs.Valid.{valid}
 use Rattle.paper.specs.declared.Command.{Command}
 use Rattle.paper.specs.declared.Message.{Message}
 use Rattle.rules.specs.declared.Step.{Step}
-use Rattle.rules.specs.declared.First.{First}
-use Rattle.rules.specs.declared.First.TheVariants.{At}
+use Rattle.rules.specs.declared.Instance.{Instance}
 use Rattle.rules.specs.Seen.{Records}
 use Rattle.rules.specs.Step.{is_committed}
 use Rattle.rules.specs.Received.{refused10}
 use Rattle.rules.specs.Recover.{out_of_ballots}
 use Rattle.rules.specs.Nudge.{nothing_to_nudge}
 use Rattle.rules.specs.Events.{request_number, on_request, on_message, on_recover, on_nudge, messages}
-use Rattle.rules.specs.Order.{candidate, next_out, code_of, found, hand_out}
+use Rattle.rules.specs.Order.{instance, candidate, next_out, code_of, found, hand_out}
 use Rattle.wire.specs.Wire.{message_at, message_bytes}
 use Rattle.table.specs.Table.{blank_table, record_in, Kept}
 use Rattle.seen.specs.Records.{records_in}
@@ -35,7 +35,6 @@ use Rattle.gate.specs.Events.{Outcome, asked, receive_open, recover_open, nudge_
 use Rattle.gate.specs.Events as log
 use Rattle.gate.proofs.Calls.{setup-of, receive-open}
 use Rattle.gate.proofs.Held.{out-short}
-use Rattle.order.specs.declared.Handing.TheVariants.{Codes}
 use Rattle.order.specs.Calls.{settled, handed_codes, handed}
 use Rattle.safety.specs.Run.{Happening, requested, answered, Setup, replaced}
 use Rattle.safety.specs.Run as rules
@@ -179,16 +178,16 @@ module _ (n s : ℕ) (setup : Setup n s) where
             (record { table = table c; kept = kept c; pending = none-pending n s (saved_table (g c)) (saved_table (g c)) refl; leaving = λ b i. absurd (Memᴰ.not-nil i); marks = marks c })
 
     -- a mark: a hand-out into one place, and its save
-    mark-back : (o j : ℕ) → next_out n s (y.tables c) ≡ At o j → Back x (rules.marked y c o j)
+    mark-back : (o j : ℕ) → next_out n s (y.tables c) ≡ Some (instance o j) → Back x (rules.marked y c o j)
     unfolding handed_codes hand_out
     mark-back o j next =
         let t = f.tie in
         let d : List ℕ = saved_table k in
         let one : List ℕ = 0 ∷ [] in
         let i : ℕ = length (handed_codes 1 n s d) in
-        let e : next_out n s (records_in s d) ≡ At o j = next-alike n s (records_in s d) (records n s d) (alike n s d) ∙ ap (next_out n s) (sym (t.copies c).table) ∙ next in
-        let ok : Found n s (candidate n s (records_in s d)) (At o j) = rw e at (next_out-found n s (records_in s d)) in
-        let answer-is : (handed n s c k.lent one).answer ≡ Codes i = rw memory (hand-answers n s c d one kept) in
+        let e : next_out n s (records_in s d) ≡ Some (instance o j) = next-alike n s (records_in s d) (records n s d) (alike n s d) ∙ ap (next_out n s) (sym (t.copies c).table) ∙ next in
+        let ok : Found n s (candidate n s (records_in s d)) (Some (instance o j)) = rw e at (next_out-found n s (records_in s d)) in
+        let answer-is : (handed n s c k.lent one).answer ≡ Ok i = rw memory (hand-answers n s c d one kept) in
         let h : Copy = handing k (handed n s c k.lent one) i in
         let x₁ : State = changed x c h in
         let tie₁ : Tie n s setup x₁ y = hand-tie n s setup x y t c copy one i (f.saved c) answer-is in
@@ -197,9 +196,9 @@ module _ (n s : ℕ) (setup : Setup n s) where
         ap (λ (v : List ℕ). take i (handed n s c v one).list) memory ∙ listed-is n s c d one kept i (hand-answers n s c d one kept) ∙ next-codes n s c d kept o j ok 0 e in
         let listed : (x₁.copies c).listed ≡ code_of o j ∷ [] = ap (λ (z : Copy). z.listed) at ∙ codes in
         let m = marked-here n s setup x₁ y tie₁ c copy (code_of o j) [] listed in
-        let same : At m.owner m.number ≡ At o j = sym (mark-out n s setup x₁ y tie₁ c copy (code_of o j) [] m) ∙ next in
-        let own : m.owner ≡ o = ap (λ (z : First). found z 0 (λ p q. p)) same in
-        let num : m.number ≡ j = ap (λ (z : First). found z 0 (λ p q. q)) same in
+        let same : Some (instance m.owner m.number) ≡ Some (instance o j) = sym (mark-out n s setup x₁ y tie₁ c copy (code_of o j) [] m) ∙ next in
+        let own : m.owner ≡ o = ap (λ (z : Option Instance). found z 0 (λ p q. p)) same in
+        let num : m.number ≡ j = ap (λ (z : Option Instance). found z 0 (λ p q. q)) same in
         let tie₂ = mark-tie n s setup x₁ y tie₁ c copy (code_of o j) [] m in
         record {
           later = changed x₁ c (marking n s c (x₁.copies c) (code_of o j) []);

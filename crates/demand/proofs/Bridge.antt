@@ -1,5 +1,6 @@
 -- A run over bytes beside a run of the rules: each saved table is sound and its records are the rules' table, and all that is
 -- sent is the bytes of a valid message of the rules. Assumes nothing.
+use Rattle.std.specs.Prelude.{Some, Ok}
 use Prim.Native.Nat.{ℕ, ◌<◌}
 use mathlib.Core.Path.{◌≡◌, refl, sym, ap, ap₂, ◌∙◌, subst}
 use mathlib.Core.Bool.{Bool, true, false, cond}
@@ -15,10 +16,9 @@ use Rattle.paper.specs.Vote.{blank}
 use Rattle.paper.specs.declared.Record.{Record}
 use Rattle.paper.specs.declared.Message.{Message}
 use Rattle.rules.specs.declared.Step.{Step}
-use Rattle.rules.specs.declared.First.TheVariants.{At}
 use Rattle.rules.specs.Seen.{Records}
 use Rattle.rules.specs.Events.{put, messages}
-use Rattle.rules.specs.Order.{next_out, mark}
+use Rattle.rules.specs.Order.{instance, next_out, mark}
 use Rattle.wire.specs.Wire.{message_bytes}
 use Rattle.table.specs.Table.{blank_table, record_in, put_record, Kept}
 use Rattle.seen.specs.Records.{records_in}
@@ -28,7 +28,6 @@ use Rattle.gate.specs.Events.{event_of, Outcome, answer_number, answer_owner, an
 use Rattle.gate.specs.Events as log
 use Rattle.gate.proofs.Calls.{setup-of}
 use Rattle.gate.proofs.Held.{out-short}
-use Rattle.order.specs.declared.Handing.TheVariants.{Codes}
 use Rattle.order.specs.Calls.{settled, marked_in, handed}
 use Rattle.safety.specs.Run.{Instance, Happening, answered, Setup, replaced}
 use Rattle.safety.specs.Run as rules
@@ -216,7 +215,7 @@ module _ (n s : ℕ) (setup : Setup n s) where
     pub marked-here : (code : ℕ) (rest : List ℕ) → k.listed ≡ code ∷ rest → Marked n s c (saved_table k) k.lent code rest
     marked-here code rest e = marked_next n s c (saved_table k) k.lent code rest k.listed (side.kept copy) side.pending e
 
-    pub mark-out : (code : ℕ) (rest : List ℕ) (m : Marked n s c (saved_table k) k.lent code rest) → next_out n s (y.tables c) ≡ At m.owner m.number
+    pub mark-out : (code : ℕ) (rest : List ℕ) (m : Marked n s c (saved_table k) k.lent code rest) → next_out n s (y.tables c) ≡ Some (instance m.owner m.number)
     mark-out code rest m =
         let t : List ℕ = saved_table k in
         ap (next_out n s) side.table ∙ sym (next-alike n s (records_in s t) (records n s t) (alike n s t)) ∙ m.next
@@ -251,7 +250,7 @@ module _ (n s : ℕ) (setup : Setup n s) where
     pub in_memory : k.listed ≡ [] → k.lent ≡ saved_table k
     in_memory none = all_saved n s (saved_table k) k.lent k.listed side.pending none
 
-    pub hand-tie : (list : List ℕ) (i : ℕ) → k.listed ≡ [] → (handed n s c k.lent list).answer ≡ Codes i
+    pub hand-tie : (list : List ℕ) (i : ℕ) → k.listed ≡ [] → (handed n s c k.lent list).answer ≡ Ok i
         → Tie (changed x c (handing k (handed n s c k.lent list) i)) y
     hand-tie list i none answer-is =
         let memory = in_memory none in

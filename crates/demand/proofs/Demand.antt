@@ -1,4 +1,5 @@
 -- Demand 3 holds of every run over bytes, for every setup. Assumes nothing.
+use Rattle.std.specs.Prelude.{Option, Some, None, Result, Ok}
 use Prim.Native.Nat.{ℕ, ◌<◌}
 use mathlib.Core.Logic.{inl, inr, ⊎_elim}
 use mathlib.Core.Path.{◌≡◌, refl, sym, ap, ◌∙◌}
@@ -19,15 +20,14 @@ use Rattle.paper.specs.declared.Message.{Message}
 use Rattle.paper.specs.declared.Refusal.{Refusal}
 use Rattle.paper.specs.declared.Refusal.TheVariants as why
 use Rattle.rules.specs.declared.Step.{Step}
-use Rattle.rules.specs.declared.First.{First}
-use Rattle.rules.specs.declared.First.TheVariants.{At, Nowhere}
+use Rattle.rules.specs.declared.Instance as named
 use Rattle.rules.specs.Seen.{Records}
 use Rattle.rules.specs.Step.{is_committed}
 use Rattle.rules.specs.Received.{refused10}
 use Rattle.rules.specs.Recover.{out_of_ballots}
 use Rattle.rules.specs.Nudge.{nothing_to_nudge}
 use Rattle.rules.specs.Events.{request_number}
-use Rattle.rules.specs.Order.{found, first_open}
+use Rattle.rules.specs.Order.{instance, found, first_open}
 use Rattle.paper.specs.Message.{parts_of}
 use Rattle.wire.specs.Wire.{kind_at, message_at, valid_bytes, verdict_at, framed, op_fits}
 use Rattle.wire.proofs.Laws.{why_read, why-other}
@@ -131,11 +131,11 @@ module _ (n s : ℕ) (setup : Setup n s) where
   unfolding settled settled_open
   question-fine c t k o j =
       rw (sound-judged n s c t k)
-      (by_cond (λ (x : Settling). Other (settling_number x)) (not (instance_ok n s o j)) (λ e. other 6 refl) (λ e. go (first_open n s (records_in s t) o j)))
+      (by_cond (λ (x : Result Settling Refusal). Other (settling_number x)) (not (instance_ok n s o j)) (λ e. other 6 refl) (λ e. go (first_open n s (records_in s t) o j)))
     where
-      go : (f : First) → Other (settling_number (found f (settling.Settled (record_in s t o j).vote.command) settling.Waits))
-      go Nowhere = other 0 refl
-      go (At p i) = other 0 refl
+      go : (f : Option named.Instance) → Other (settling_number (found f (Ok (settling.Settled (record_in s t o j).vote.command)) (λ p k. Ok (settling.Waits (instance p k)))))
+      go None = other 0 refl
+      go (Some i) = other 0 refl
 
   hand-fine : (c : ℕ) (t : List ℕ) → Kept n s c t → (list : List ℕ) → Other (handing_number (handed n s c t list).answer)
   unfolding handed handed_open

@@ -1,4 +1,5 @@
 -- The rules look at a table's instances in range alone: two tables that are alike there do alike. Assumes nothing.
+use Rattle.std.specs.Prelude.{Option, Some, None}
 use Prim.Native.Nat.{ℕ, zero, suc, ◌+◌, ◌*◌, ◌≤◌, ◌<◌}
 use mathlib.Core.Path.{◌≡◌, refl, ap, fun_ext}
 use mathlib.Core.Bool.{Bool, true, false, ◌&&◌, not, cond}
@@ -12,13 +13,12 @@ use Rattle.paper.specs.Command.{Interference}
 use Rattle.paper.specs.declared.Command.{Command}
 use Rattle.paper.specs.declared.Record.{Record}
 use Rattle.paper.specs.declared.Message.{Message}
-use Rattle.rules.specs.declared.First.{First}
-use Rattle.rules.specs.declared.First.TheVariants.{At, Nowhere}
+use Rattle.rules.specs.declared.Instance.{Instance}
 use Rattle.rules.specs.Sets.{highest}
 use Rattle.rules.specs.Seen.{Records, met, seen_entry, seen_from, seen}
 use Rattle.rules.specs.Request.{lowest_blank}
 use Rattle.rules.specs.Events.{put, request_number, on_request, on_message, on_recover, on_nudge}
-use Rattle.rules.specs.Order.{everywhere, somewhere, first_owner, first_number, covers_in, reaches_in, reaches, waits_for, first_open, is_settled, is_marked, candidate, marked, mark, next_out, code_of, found, hand_out}
+use Rattle.rules.specs.Order.{instance, everywhere, somewhere, first_owner, first_number, covers_in, reaches_in, reaches, waits_for, first_open, is_settled, is_marked, candidate, marked, mark, next_out, code_of, found, hand_out}
 use Rattle.closed.proofs.Laws.{both}
 use Rattle.closed.proofs.Mark.{Found, next_out-found}
 
@@ -58,7 +58,7 @@ module _ (n s : ℕ) where
   unfolding somewhere
   some_alike f g h = ap not (every-alike (λ o j. not (f o j)) (λ o j. not (g o j)) (λ o j i. ap not (h o j i)))
 
-  owner-alike : (f g : ℕ → ℕ → Bool) → Same f g → (k o j : ℕ) (a b : First) → o + k ≤ n → 1 ≤ j → j ≤ s → a ≡ b → first_owner k o j f a ≡ first_owner k o j g b
+  owner-alike : (f g : ℕ → ℕ → Bool) → Same f g → (k o j : ℕ) (a b : Option Instance) → o + k ≤ n → 1 ≤ j → j ≤ s → a ≡ b → first_owner k o j f a ≡ first_owner k o j g b
   unfolding first_owner
   owner-alike f g h zero o j a b l x y e = e
   owner-alike f g h (suc k) o j a b l x y e =
@@ -176,7 +176,7 @@ module _ (n s : ℕ) where
   out-alike zero t u h = refl
   out-alike (suc room) t u h = rw (next-alike t u h) (go (next_out n s u) (next_out-found n s u) (λ v w k. out-alike room v w k))
     where
-      go : (f : First) → Found n s (candidate n s u) f → ((v w : Records) → Alike v w → hand_out room n s v ≡ hand_out room n s w)
+      go : (f : Option Instance) → Found n s (candidate n s u) f → ((v w : Records) → Alike v w → hand_out room n s v ≡ hand_out room n s w)
           → found f [] (λ o j. code_of o j ∷ hand_out room n s (mark t o j)) ≡ found f [] (λ o j. code_of o j ∷ hand_out room n s (mark u o j))
-      go Nowhere g more = refl
-      go (At o j) g more = ap (λ (l : List ℕ). code_of o j ∷ l) (more (mark t o j) (mark u o j) (mark-alike t u h o j g.0))
+      go None g more = refl
+      go (Some i) g more = ap (λ (l : List ℕ). code_of i.owner i.number ∷ l) (more (mark t i.owner i.number) (mark u i.owner i.number) (mark-alike t u h i.owner i.number g.0))

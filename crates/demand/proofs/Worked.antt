@@ -1,4 +1,5 @@
 -- W1 to W10 hold of the public calls: each table is what the call before it left, and the rules compute the rest. Assumes nothing.
+use Rattle.std.specs.Prelude.{Some, None, Ok}
 use Prim.Native.Nat.{ℕ, ◌≤◌}
 use mathlib.Core.Path.{◌≡◌, refl, ap, ◌∙◌}
 use mathlib.Core.List.{List, [], ◌∷◌}
@@ -30,19 +31,17 @@ use Rattle.rules.specs.Committing.{committing}
 use Rattle.rules.specs.Accepting.{accepting_join, accepting, join_all}
 use Rattle.rules.specs.Prepare.{prepare}
 use Rattle.rules.specs.PrepareOk.{on_prepare_ok, prepared_by, quorum, decide, accepted_from, afresh_command, top_voted, maybe_fast}
-use Rattle.rules.specs.Order.{next_out, first_number, first_owner, first_open, candidate, is_settled, waits_for, reaches, reaches_in, covers_in, everywhere, somewhere}
+use Rattle.rules.specs.Order.{instance, next_out, first_number, first_owner, first_open, candidate, is_settled, waits_for, reaches, reaches_in, covers_in, everywhere, somewhere}
 use Rattle.rules.specs.Recover.{recover}
 use Rattle.paper.specs.Deps.{no_deps}
 use Rattle.paper.specs.declared.Message.{Message}
 use Rattle.paper.specs.declared.Body.TheVariants.{PreAccept, PreAcceptOk, Commit, Prepare, PrepareOk}
 use Rattle.rules.specs.Examples.{write, deps3}
-use Rattle.rules.specs.declared.First.TheVariants.{At, Nowhere}
 use Rattle.rules.specs.Seen.{Records}
-use Rattle.rules.specs.Order.{code_of, marked, mark, hand_out}
+use Rattle.rules.specs.Order.{instance, code_of, marked, mark, hand_out}
 use Rattle.table.specs.Table.{blank_table, put_record}
 use Rattle.gate.specs.Out.{all_bytes}
 use Rattle.gate.specs.Events.{acted}
-use Rattle.order.specs.declared.Handing.TheVariants.{Codes}
 use Rattle.order.specs.Calls.{handed_codes, handed_table, handed_open, handed}
 use Rattle.safety.specs.Run.{Setup}
 use Rattle.demand.specs.Examples as paper
@@ -53,10 +52,10 @@ abbrev commit_of : ℕ → List ℕ → Message
 commit_of o d = record { from = 1; to = 0; owner = o; number = 1; ballot = 0; body = Commit (write 1); deps = d }
 
 -- a hand-out of three places that finds two
-two_out : (t : List ℕ) (u : Records) → Holds 3 4 0 t u → (o j p i : ℕ) → next_out 3 4 u ≡ At o j → next_out 3 4 (mark u o j) ≡ At p i → next_out 3 4 (mark (mark u o j) p i) ≡ Nowhere
+two_out : (t : List ℕ) (u : Records) → Holds 3 4 0 t u → (o j p i : ℕ) → next_out 3 4 u ≡ Some (instance o j) → next_out 3 4 (mark u o j) ≡ Some (instance p i) → next_out 3 4 (mark (mark u o j) p i) ≡ None
     → handed 3 4 0 t (9 ∷ 9 ∷ 9 ∷ [])
     ≡ record {
-      answer = Codes 2;
+      answer = Ok 2;
       table = put_record 4 (put_record 4 t o j (marked (u o j))) p i (marked (mark u o j p i));
       list = code_of o j ∷ code_of p i ∷ 9 ∷ [];
     }
@@ -68,7 +67,7 @@ two_out t u h o j p i e f g =
     let codes : handed_codes 3 3 4 t ≡ code_of o j ∷ code_of p i ∷ [] =
     a.codes ∙ ap (λ (l : List ℕ). code_of o j ∷ l) b.codes ∙ ap (λ (l : List ℕ). code_of o j ∷ code_of p i ∷ l) c.1 in
     let table = a.table ∙ b.table ∙ c.0 in
-    handed-does 3 4 0 t u h (9 ∷ 9 ∷ 9 ∷ []) ∙ (λ k. record { answer = Codes (length (codes k)); table = table k; list = splice (9 ∷ 9 ∷ 9 ∷ []) 0 (codes k) })
+    handed-does 3 4 0 t u h (9 ∷ 9 ∷ 9 ∷ []) ∙ (λ k. record { answer = Ok (length (codes k)); table = table k; list = splice (9 ∷ 9 ∷ 9 ∷ []) 0 (codes k) })
 
 pub examples : (out : List ℕ) → 256 ≤ length out → paper.Examples out
 unfolding put request_number lowest_blank is_blank same_vote same_command same_deps all_below on_request request afresh others bits_below messages_from member valid first_failing first_of holds_of entry_clauses row_of ballot_ok lead command_ok deps_ok vote_ok told_ok none_is_blank instance_ok conflict differs on_message by_kind pre_accept seen_from seen_entry highest met touches same_object interfere join_from on_pre_accept_ok awaited collect pre_accepted_by fast_enough slow_enough some_enough matching different committing accepting_join accepting join_all prepare on_prepare_ok prepared_by quorum decide accepted_from afresh_command top_voted maybe_fast lowest_from largest_below on_recover recover ones next_out first_number first_owner first_open candidate is_settled waits_for reaches reaches_in covers_in covers everywhere somewhere commit sent_bytes deps_bytes head_bytes rest_bytes message_bytes all_bytes acted splice handed_open

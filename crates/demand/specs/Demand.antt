@@ -1,7 +1,8 @@
 -- Demand 3: what holds of every run over bytes, wherever it may start, at any two moments x and then y, however its hosts save.
 -- Assumes nothing.
-use Rattle.std.specs.Prelude.{ℕ, ◌<◌, ◌≡◌, ◌⊎◌, true}
+use Rattle.std.specs.Prelude.{ℕ, ◌<◌, ◌≡◌, ◌⊎◌, true, Result}
 use mathlib.Core.List.{List, [], ◌++◌, Memᴰ}
+use Rattle.paper.specs.declared.Refusal.{Refusal}
 use Rattle.paper.specs.Instance.{instance_ok}
 use Rattle.paper.specs.Command.{is_noop, Interference, interfere}
 use Rattle.paper.specs.Deps.{covers}
@@ -30,7 +31,7 @@ pub record View : Type 1 where
   pub Ready : State → ℕ → Type 0
   -- all that was sent, and all that happened
   pub sent : State → List (List ℕ)
-  pub history : State → List (Happening Settling)
+  pub history : State → List (Happening (Result Settling Refusal))
 
 -- hosts that put each saved part in its place on disk: specs/Run
 abbrev pub in_place : ℕ → ℕ → View

@@ -1,6 +1,6 @@
 -- "Examples": W1 to W10 in one table, as what the public calls answer and leave: the answer, the record, the room. Each table is
 -- what the calls before it left, from a blank one on. Assumes nothing.
-use Rattle.std.specs.Prelude.{ℕ, ◌≤◌, ◌≡◌, List, [], ◌∷◌, ◌++◌, length, replicate}
+use Rattle.std.specs.Prelude.{ℕ, ◌≤◌, ◌≡◌, List, [], ◌∷◌, ◌++◌, length, replicate, Ok}
 use Rattle.numbers.specs.Num.{splice}
 use Rattle.paper.specs.Deps.{no_deps}
 use Rattle.paper.specs.Vote.{no_vote}
@@ -10,7 +10,7 @@ use Rattle.paper.specs.declared.Message.{Message}
 use Rattle.paper.specs.declared.Body.{Body}
 use Rattle.paper.specs.declared.Body.TheVariants.{PreAccept, PreAcceptOk, Accept, Commit, Prepare, PrepareOk}
 use Rattle.paper.specs.declared.Refusal.TheVariants.{BallotsUsedUp, NoBlank, Room}
-use Rattle.rules.specs.Order.{marked}
+use Rattle.rules.specs.Order.{instance, marked}
 use Rattle.rules.specs.Examples.{write, deps3, votes, added}
 use Rattle.rules.specs.Pins.{vote, held, busy}
 use Rattle.wire.specs.Wire.{message_bytes}
@@ -18,7 +18,6 @@ use Rattle.table.specs.Table.{blank_table, put_record}
 use Rattle.gate.specs.Out.{all_bytes}
 use Rattle.gate.specs.Events.{event_of, Outcome, refuse, requested, received, recovered}
 use Rattle.order.specs.declared.Settling.TheVariants.{Waits}
-use Rattle.order.specs.declared.Handing.TheVariants.{Codes}
 use Rattle.order.specs.Calls.{settled, handed}
 
 -- the 37 bytes of a PreAccept to copy q
@@ -122,10 +121,10 @@ pub record Examples (out : List ℕ) : Type 0 where
   pub W6-owner : received 5 4 2 owner_told out (tells 3 10 (vote 1 0 2 no_deps)) ≡ leaves owner_told out (afresh_record 1 10) 148 (all_bytes (to_each 2 10 (PreAccept (write 1)) no_deps other_four))
   pub W7 : received 5 4 2 lower_told out (tells 3 26 (vote 2 17 3 no_deps)) ≡ leaves lower_told out (accepts_record 2 26) 148 (all_bytes (to_each 2 26 (Accept (write 2)) no_deps other_four))
   pub W8 : handed 3 4 0 cycle_table (9 ∷ 9 ∷ 9 ∷ [])
-      ≡ record { answer = Codes 2; table = put_record 4 (put_record 4 cycle_table 0 1 (marked (done_record (deps3 0 1 0)))) 1 1 (marked (done_record (deps3 1 0 0))); list = 1 ∷ 257 ∷ 9 ∷ [] }
+      ≡ record { answer = Ok 2; table = put_record 4 (put_record 4 cycle_table 0 1 (marked (done_record (deps3 0 1 0)))) 1 1 (marked (done_record (deps3 1 0 0))); list = 1 ∷ 257 ∷ 9 ∷ [] }
   pub W9 : handed 3 4 0 chain_table (9 ∷ 9 ∷ 9 ∷ [])
-      ≡ record { answer = Codes 2; table = put_record 4 (put_record 4 chain_table 2 1 (marked (done_record no_deps))) 0 1 (marked (done_record (deps3 0 0 1))); list = 513 ∷ 1 ∷ 9 ∷ [] }
-  pub W10 : settled 3 4 0 (put_record 4 cycle_table 2 1 (done_record (deps3 2 1 0))) 2 1 ≡ Waits 0 2
+      ≡ record { answer = Ok 2; table = put_record 4 (put_record 4 chain_table 2 1 (marked (done_record no_deps))) 0 1 (marked (done_record (deps3 0 0 1))); list = 513 ∷ 1 ∷ 9 ∷ [] }
+  pub W10 : settled 3 4 0 (put_record 4 cycle_table 2 1 (done_record (deps3 2 1 0))) 2 1 ≡ Ok (Waits (instance 0 2))
 
 -- one number each: copy 0 after its request
 abbrev pub used_table : List ℕ
@@ -134,5 +133,5 @@ used_table = put_record 1 (blank_table 3 1 0) 0 1 (asking_record 0 (replicate 7 
 -- no number is left, no place, or one byte too few
 pub record Limits (out : List ℕ) : Type 0 where
   pub full : 256 ≤ length out → requested 3 1 0 used_table out 2 7 0 100 ≡ refuse NoBlank used_table out
-  pub no_place : handed 3 4 0 cycle_table [] ≡ record { answer = Codes 0; table = cycle_table; list = [] }
+  pub no_place : handed 3 4 0 cycle_table [] ≡ record { answer = Ok 0; table = cycle_table; list = [] }
   pub short : length out ≡ 255 → requested 3 4 0 (blank_table 3 4 0) out 2 7 0 100 ≡ refuse Room (blank_table 3 4 0) out

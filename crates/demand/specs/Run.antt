@@ -1,7 +1,8 @@
 -- A run of N copies over bytes: what the public calls answer, what their hosts save and send, and every cut. Assumes nothing.
 -- In all of this n, s is the setup, c a copy and o.j an instance.
-use Rattle.std.specs.Prelude.{ℕ, zero, suc, ◌<◌, ◌≡◌, true, false, take, drop}
+use Rattle.std.specs.Prelude.{ℕ, zero, suc, ◌<◌, ◌≡◌, true, false, take, drop, Result, Ok}
 use mathlib.Core.List.{List, [], ◌∷◌, ◌++◌, Memᴰ}
+use Rattle.paper.specs.declared.Refusal.{Refusal}
 use Rattle.paper.specs.Command.{is_noop, command_ok, Interference, interfere, Wide}
 use Rattle.paper.specs.Fits.{CommandFits}
 use Rattle.paper.specs.declared.Command.{Command}
@@ -12,7 +13,6 @@ use Rattle.table.specs.Calls.{part_of, put_part}
 use Rattle.gate.specs.Events.{event_of, Outcome, gated, command_of, asked, receive_open, recovered, nudged}
 use Rattle.gate.specs.Events as log
 use Rattle.order.specs.declared.Settling.{Settling}
-use Rattle.order.specs.declared.Handing.TheVariants.{Codes}
 use Rattle.order.specs.Calls.{settled, Handed, handed}
 use Rattle.safety.specs.Run.{Instance, Happening, requested, answered, replaced}
 
@@ -38,10 +38,10 @@ pub record State : Type 0 where
   -- all that ever left a copy: a lost message is never received, a repeated or late one is received at any time
   pub sent : List (List ℕ)
   -- every request with the instance that it got, and every answer to a question, in their order
-  pub history : List (Happening Settling)
+  pub history : List (Happening (Result Settling Refusal))
 
 -- each copy has its table of these, saved and in memory; this counts as past, and nothing is sent
-abbrev pub begun : (ℕ → List ℕ) → List (Happening Settling) → State
+abbrev pub begun : (ℕ → List ℕ) → List (Happening (Result Settling Refusal)) → State
 begun tables past =
     record {
       copies = λ c. record { disk = tables c; lent = tables c; leaving = []; listed = []; marks = [] };
@@ -152,7 +152,7 @@ abbrev pub changed : State → ℕ → Copy → State
 changed x c k = record { copies = replaced x.copies c k; sent = x.sent; history = x.history }
 
 -- what happened by now
-abbrev pub remembered : State → List (Happening Settling) → State
+abbrev pub remembered : State → List (Happening (Result Settling Refusal)) → State
 remembered x l = record { copies = x.copies; sent = x.sent; history = l }
 
 -- A refused call changes nothing. A call whose record is not saved when the cut comes is a cut alone.
@@ -166,7 +166,7 @@ pub data Move (n s : ℕ) (x : State) : State → Type 0 where
       → Move n s x (record { copies = x.copies; sent = x.sent ++ b ∷ []; history = x.history })
   -- a hand-out into any list; marks that were listed before are all saved before it
   hand_out : (c : ℕ) (list : List ℕ) (i : ℕ) → c < n → (x.copies c).listed ≡ []
-      → (handed n s c (x.copies c).lent list).answer ≡ Codes i
+      → (handed n s c (x.copies c).lent list).answer ≡ Ok i
       → Move n s x (changed x c (handing (x.copies c) (handed n s c (x.copies c).lent list) i))
   -- the first mark of those listed is saved
   mark : (c code : ℕ) (rest : List ℕ) → c < n → (x.copies c).listed ≡ code ∷ rest

@@ -1,5 +1,6 @@
 -- A run of hosts that keep journals, beside a run of hosts that save in place: at each copy the one has saved what is safe in the other's
 -- journal, and what was done since is a chain that it can still do. Assumes nothing.
+use Rattle.std.specs.Prelude.{Result, Ok}
 use Prim.Native.Nat.{ℕ, ◌+◌, ◌-◌, ◌≤◌, ◌<◌}
 use mathlib.Core.Path.{◌≡◌, refl, sym, ap, ap₂, ◌∙◌, subst}
 use mathlib.Core.Logic.{⊎_elim}
@@ -11,6 +12,7 @@ use lib.Dec.{eqb}
 use lib.ListN.{length, take, drop, length-append, length-drop, take-append-drop}
 use lib.Seq.{take-length, drop-length, take-append-le, drop-append-le, take-append_seam, drop-append_seam, take-add, length-take-le}
 use borrow.Author.Tests.{eqb-true, eqb-false}
+use Rattle.paper.specs.declared.Refusal.{Refusal}
 use Rattle.paper.specs.declared.Command.{Command}
 use Rattle.paper.specs.Instance.{instance_ok}
 use Rattle.table.specs.Table.{blank_table, record_in, Judged, Kept}
@@ -19,7 +21,6 @@ use Rattle.table.proofs.Laws.{sizes}
 use Rattle.rules.specs.Order.{is_marked, instance_of}
 use Rattle.gate.specs.Events.{event_of, Outcome}
 use Rattle.order.specs.declared.Settling.{Settling}
-use Rattle.order.specs.declared.Handing.TheVariants.{Codes}
 use Rattle.order.specs.Calls.{settled, handed}
 use Rattle.entries.specs.Entry.{record_entry}
 use Rattle.entries.specs.Replay.{Replayed, committed_in, replayed, replaying_offset}
@@ -41,7 +42,7 @@ use Rattle.disk.proofs.Marks.{marks-join, again}
 
 module _ (n s : ℕ) (setup : Setup n s) where
   -- copy c as one host has it, beside the same copy at the other
-  pub record Side (c : ℕ) (sent : List (List ℕ)) (past : List (Happening Settling)) (k : Copy) (q : place.Copy) : Type 0 where
+  pub record Side (c : ℕ) (sent : List (List ℕ)) (past : List (Happening (Result Settling Refusal))) (k : Copy) (q : place.Copy) : Type 0 where
     pub within : k.safe ≤ length k.disk
     pub base : Kept n s c k.base
     pub journal : Journal n s c k.base (safe_part k) q.disk
@@ -112,8 +113,8 @@ module _ (n s : ℕ) (setup : Setup n s) where
       }
 
   -- more may have been sent, and more have happened
-  side-more : (sent more : List (List ℕ)) (past then : List (Happening Settling)) → ((b : List ℕ) → Memᴰ b sent → Memᴰ b more)
-      → ((h : Happening Settling) → Memᴰ h past → Memᴰ h then) → (c : ℕ) (k : Copy) (q : place.Copy) → Side c sent past k q → Side c more then k q
+  side-more : (sent more : List (List ℕ)) (past then : List (Happening (Result Settling Refusal))) → ((b : List ℕ) → Memᴰ b sent → Memᴰ b more)
+      → ((h : Happening (Result Settling Refusal)) → Memᴰ h past → Memᴰ h then) → (c : ℕ) (k : Copy) (q : place.Copy) → Side c sent past k q → Side c more then k q
   side-more sent more past then grown later c k q d =
       record {
         within = d.within;
@@ -134,7 +135,7 @@ module _ (n s : ℕ) (setup : Setup n s) where
   run_on r (place.further q m) = place.further (run_on r q) m
 
   -- one copy changes, the others are as they were
-  module _ (x : State) (w : Beside x) (c : ℕ) (copy : c < n) (past : List (Happening Settling)) (grown : (h : Happening Settling) → Memᴰ h x.history → Memᴰ h past) where
+  module _ (x : State) (w : Beside x) (c : ℕ) (copy : c < n) (past : List (Happening (Result Settling Refusal))) (grown : (h : Happening (Result Settling Refusal)) → Memᴰ h x.history → Memᴰ h past) where
     update : (k : Copy) (state : place.State) → place.Run n s w.state state → state.sent ≡ w.state.sent
         → ((o j : ℕ) (v : Command) → Memᴰ (requested o j v) state.history → Memᴰ (requested o j v) past)
         → ((p : ℕ) → (p ≡ c → ⊥) → state.copies p ≡ w.state.copies p) → Side c x.sent past k (state.copies c)
@@ -168,13 +169,13 @@ module _ (n s : ℕ) (setup : Setup n s) where
     quietly k here = update k w.state place.stay refl (λ o j v m. grown (requested o j v) (w.past o j v m)) (λ p ne. refl) here
 
   -- what happened before is remembered, and so is a request
-  kept-past : (l : List (Happening Settling)) (o j : ℕ) (call : Call) (h : Happening Settling) → Memᴰ h l → Memᴰ h (recorded l o j call)
+  kept-past : (l : List (Happening (Result Settling Refusal))) (o j : ℕ) (call : Call) (h : Happening (Result Settling Refusal)) → Memᴰ h l → Memᴰ h (recorded l o j call)
   kept-past l o j (request w v) h m = Memᴰ.append_left (requested o j v ∷ []) m
   kept-past l o j (receive w b) h m = m
   kept-past l o j (recover p i) h m = m
   kept-past l o j (nudge p i) h m = m
 
-  now-asked : (l : List (Happening Settling)) (o j : ℕ) (call : Call) → Asked (recorded l o j call) o j call
+  now-asked : (l : List (Happening (Result Settling Refusal))) (o j : ℕ) (call : Call) → Asked (recorded l o j call) o j call
   now-asked l o j (request w v) = Memᴰ.append_right l (Memᴰ.head refl)
   now-asked l o j (receive w b) = tt
   now-asked l o j (recover p i) = tt
@@ -202,7 +203,7 @@ module _ (n s : ℕ) (setup : Setup n s) where
     on-disk e = subst (λ (l : List ℕ). Chain n s c x.sent x.history q l d.end) (ap (λ (l : List ℕ). drop k.safe k.disk ++ l) e ∙ append-nil (drop k.safe k.disk)) d.chain
 
     module _ (call : Call) (out : List ℕ) (o j z : ℕ) (p : Possible x.sent call) (e : k.coming ≡ []) (a : (outcome n s c k.lent out call).answer ≡ event_of o j z) where
-      abbrev past : List (Happening Settling)
+      abbrev past : List (Happening (Result Settling Refusal))
       past = recorded x.history o j call
 
       abbrev y : Outcome
@@ -256,7 +257,7 @@ module _ (n s : ℕ) (setup : Setup n s) where
     known-here : (j : Copy) → Side c x.sent x.history j q → After w (changed x c j)
     known-here j z = quietly x w c copy x.history (λ h m. m) j z
 
-    hand-after : (list : List ℕ) (i : ℕ) → k.coming ≡ [] → (handed n s c k.lent list).answer ≡ Codes i → After w (changed x c (handing k (handed n s c k.lent list) i))
+    hand-after : (list : List ℕ) (i : ℕ) → k.coming ≡ [] → (handed n s c k.lent list).answer ≡ Ok i → After w (changed x c (handing k (handed n s c k.lent list) i))
     hand-after list i e a =
         let g : place.Copy = place.handing d.end (handed n s c d.end.lent list) i in
         let h = chain.hand_out (on-disk e) list i d.none (ap (λ (t : List ℕ). (handed n s c t list).answer) d.lent ∙ a) in
@@ -465,7 +466,7 @@ module _ (n s : ℕ) (setup : Setup n s) where
           })
 
   -- only what happened grows
-  pub heard-after : (x : State) (w : Beside x) (h : Happening Settling) → After w (remembered x (x.history ++ h ∷ []))
+  pub heard-after : (x : State) (w : Beside x) (h : Happening (Result Settling Refusal)) → After w (remembered x (x.history ++ h ∷ []))
   heard-after x w h =
       record {
         beside = record {

@@ -1,5 +1,6 @@
 -- What a host has done since it last waited for the disk, as a host that saves in place would do it (demand/specs/Run), and the bytes of
 -- its entries. Such a host can do it all at once when the other one has waited. Assumes nothing.
+use Rattle.std.specs.Prelude.{Result, Ok}
 use Prim.Native.Nat.{ℕ, ◌+◌, ◌-◌, ◌≤◌, ◌<◌}
 use mathlib.Core.Path.{◌≡◌, refl, sym, ap, ap₂, ◌∙◌, subst}
 use mathlib.Core.Logic.{◌⊎◌, inl, inr, ⊎_elim}
@@ -11,6 +12,7 @@ use lib.Dec.{ltb}
 use lib.ListN.{length, take, length-append}
 use lib.Seq.{take_all, take-append-le, take-append-add}
 use borrow.Author.Tests.{ltb-true, ltb-false}
+use Rattle.paper.specs.declared.Refusal.{Refusal}
 use Rattle.paper.specs.Instance.{instance_ok}
 use Rattle.paper.specs.declared.Command.{Command}
 use Rattle.rules.specs.Step.{is_committed}
@@ -24,7 +26,6 @@ use Rattle.seen.specs.Records.{records_in}
 use Rattle.closed.proofs.Mark.{candidate-committed}
 use Rattle.gate.specs.Events.{event_of}
 use Rattle.order.specs.declared.Settling.{Settling}
-use Rattle.order.specs.declared.Handing.TheVariants.{Codes}
 use Rattle.order.specs.Calls.{marked_in, handed}
 use Rattle.entries.specs.Entry.{entry_length, kind_in, record_entry, mark_entry}
 use Rattle.entries.specs.Replay.{front_of}
@@ -44,14 +45,14 @@ use Rattle.demand.proofs.Handing.{Marked}
 use Rattle.demand.proofs.Bridge.{Tie, here-is, other-stays, bridge, in_memory, lent-kept, marked-here, event-range}
 
 -- a request that was answered is in the history
-abbrev pub Asked : List (Happening Settling) → ℕ → ℕ → Call → Type 0
+abbrev pub Asked : List (Happening (Result Settling Refusal)) → ℕ → ℕ → Call → Type 0
 Asked past o j (request w k) = Memᴰ (requested o j k) past
 Asked past o j (receive w b) = Unit {0}
 Asked past o j (recover p i) = Unit {0}
 Asked past o j (nudge p i) = Unit {0}
 
 -- from the copy k to the copy q, with these bytes
-pub data Chain (n s c : ℕ) (sent : List (List ℕ)) (past : List (Happening Settling)) (k : place.Copy) : List ℕ → place.Copy → Type 0 where
+pub data Chain (n s c : ℕ) (sent : List (List ℕ)) (past : List (Happening (Result Settling Refusal))) (k : place.Copy) : List ℕ → place.Copy → Type 0 where
   still : Chain n s c sent past k [] k
   event : {b : List ℕ} {q : place.Copy} → Chain n s c sent past k b q → (call : Call) (out : List ℕ) (o j w : ℕ) → Possible sent call → Asked past o j call → q.listed ≡ []
       → (outcome n s c q.lent out call).answer ≡ event_of o j w
@@ -60,14 +61,14 @@ pub data Chain (n s c : ℕ) (sent : List (List ℕ)) (past : List (Happening Se
       → (outcome n s c q.lent out call).answer ≡ event_of o j w → (outcome n s c q.lent out call).table ≡ q.lent
       → Chain n s c sent past k b (place.acted n s c q (outcome n s c q.lent out call) o j w)
   hand_out : {b : List ℕ} {q : place.Copy} → Chain n s c sent past k b q → (list : List ℕ) (i : ℕ) → q.listed ≡ []
-      → (handed n s c q.lent list).answer ≡ Codes i → Chain n s c sent past k b (place.handing q (handed n s c q.lent list) i)
+      → (handed n s c q.lent list).answer ≡ Ok i → Chain n s c sent past k b (place.handing q (handed n s c q.lent list) i)
   mark : {b : List ℕ} {q : place.Copy} → Chain n s c sent past k b q → (code : ℕ) (rest : List ℕ) → q.listed ≡ code ∷ rest
       → Chain n s c sent past k (b ++ mark_entry (instance_of code).0 (instance_of code).1) (place.marking n s c q code rest)
   cut : {b : List ℕ} {q : place.Copy} → Chain n s c sent past k b q → Chain n s c sent past k b (place.restarted q)
 
 -- more may have been sent, and more have happened
-module _ (n s c : ℕ) (sent more : List (List ℕ)) (past then : List (Happening Settling)) (k : place.Copy)
-    (grown : (b : List ℕ) → Memᴰ b sent → Memᴰ b more) (later : (h : Happening Settling) → Memᴰ h past → Memᴰ h then) where
+module _ (n s c : ℕ) (sent more : List (List ℕ)) (past then : List (Happening (Result Settling Refusal))) (k : place.Copy)
+    (grown : (b : List ℕ) → Memᴰ b sent → Memᴰ b more) (later : (h : Happening (Result Settling Refusal)) → Memᴰ h past → Memᴰ h then) where
   possible : (call : Call) → Possible sent call → Possible more call
   possible (request w v) p = p
   possible (receive w b) p = (p.0, grown b p.1)
@@ -89,7 +90,7 @@ module _ (n s c : ℕ) (sent more : List (List ℕ)) (past then : List (Happenin
   chain_more (cut h) = cut (chain_more h)
 
 -- a run of the host that saves in place, to where its copy c is q, and nothing else has changed but what happened
-pub record Ran (n s c : ℕ) (past : List (Happening Settling)) (x : place.State) (q : place.Copy) : Type 0 where
+pub record Ran (n s c : ℕ) (past : List (Happening (Result Settling Refusal))) (x : place.State) (q : place.Copy) : Type 0 where
   pub later : place.State
   pub run : place.Run n s x later
   pub here : later.copies c ≡ q
@@ -97,12 +98,12 @@ pub record Ran (n s c : ℕ) (past : List (Happening Settling)) (x : place.State
   pub sent : later.sent ≡ x.sent
   pub history : (o j : ℕ) (k : Command) → Memᴰ (requested o j k) later.history → Memᴰ (requested o j k) x.history ⊎ Memᴰ (requested o j k) past
 
-module _ (n s : ℕ) (setup : Setup n s) (c : ℕ) (copy : c < n) (past : List (Happening Settling)) (x : place.State) where
+module _ (n s : ℕ) (setup : Setup n s) (c : ℕ) (copy : c < n) (past : List (Happening (Result Settling Refusal))) (x : place.State) where
   -- a call is remembered, if it is a request
-  recalled : (l : List (Happening Settling)) (o j : ℕ) (call : Call) → Asked past o j call → (p i : ℕ) (v : Command) → Memᴰ (requested p i v) (recorded l o j call)
+  recalled : (l : List (Happening (Result Settling Refusal))) (o j : ℕ) (call : Call) → Asked past o j call → (p i : ℕ) (v : Command) → Memᴰ (requested p i v) (recorded l o j call)
       → Memᴰ (requested p i v) l ⊎ Memᴰ (requested p i v) past
   recalled l o j (request w k) a p i v m =
-      ⊎_elim (λ (h : Memᴰ (requested p i v) l). inl h) (λ (h : Memᴰ (requested p i v) (requested o j k ∷ [])). inr (subst (λ (z : Happening Settling). Memᴰ z past) (sym (Memᴰ.eq_of_singleton h)) a)) (Memᴰ.append_cases l m)
+      ⊎_elim (λ (h : Memᴰ (requested p i v) l). inl h) (λ (h : Memᴰ (requested p i v) (requested o j k ∷ [])). inr (subst (λ (z : Happening (Result Settling Refusal)). Memᴰ z past) (sym (Memᴰ.eq_of_singleton h)) a)) (Memᴰ.append_cases l m)
   recalled l o j (receive w b) a p i v m = inl m
   recalled l o j (recover q k) a p i v m = inl m
   recalled l o j (nudge q k) a p i v m = inl m
@@ -224,7 +225,7 @@ module _ (n s : ℕ) (setup : Setup n s) (c : ℕ) (copy : c < n) (past : List (
     chain-journal (cut h) = chain-journal h
 
 -- what a cut leaves: whole entries, restarted from, and less than one more
-pub record Left (n s c : ℕ) (sent : List (List ℕ)) (past : List (Happening Settling)) (k : place.Copy) (b : List ℕ) (p : ℕ) : Type 0 where
+pub record Left (n s c : ℕ) (sent : List (List ℕ)) (past : List (Happening (Result Settling Refusal))) (k : place.Copy) (b : List ℕ) (p : ℕ) : Type 0 where
   pub kept : List ℕ
   pub rest : List ℕ
   pub end : place.Copy
@@ -234,7 +235,7 @@ pub record Left (n s c : ℕ) (sent : List (List ℕ)) (past : List (Happening S
   pub memory : end.lent ≡ end.disk
   pub none : end.listed ≡ []
 
-module _ (n s c : ℕ) (sent : List (List ℕ)) (past : List (Happening Settling)) (k : place.Copy) where
+module _ (n s c : ℕ) (sent : List (List ℕ)) (past : List (Happening (Result Settling Refusal))) (k : place.Copy) where
   -- all of it
   all_left : (b : List ℕ) (q : place.Copy) (p : ℕ) → Chain n s c sent past k b q → length b ≤ p → Left n s c sent past k b p
   all_left b q p h l =
@@ -282,7 +283,7 @@ module _ (n s c : ℕ) (sent : List (List ℕ)) (past : List (Happening Settling
             none = refl;
           }
 
-module _ (n s : ℕ) (setup : Setup n s) (c : ℕ) (copy : c < n) (past : List (Happening Settling)) (x : place.State) (y : rules.State) (tie : Tie n s setup x y)
+module _ (n s : ℕ) (setup : Setup n s) (c : ℕ) (copy : c < n) (past : List (Happening (Result Settling Refusal))) (x : place.State) (y : rules.State) (tie : Tie n s setup x y)
     {sent : List (List ℕ)} {k : place.Copy} (at : x.copies c ≡ k) (se : x.sent ≡ sent) (few : n ≤ 7) (low : s ≤ 64) where
   cut_in : {b : List ℕ} {q : place.Copy} → Chain n s c sent past k b q → (p : ℕ) → p < length b → Left n s c sent past k b p
   cut_in still p l = absurd (omega arith)
@@ -308,7 +309,7 @@ module _ (n s : ℕ) (setup : Setup n s) (c : ℕ) (copy : c < n) (past : List (
       go false f = all_left n s c sent past k b q p h (ltb-false p (length b) f)
 
 -- the marks of a hand-out, one after another
-module _ (n s c : ℕ) (sent : List (List ℕ)) (past : List (Happening Settling)) (k : place.Copy) where
+module _ (n s c : ℕ) (sent : List (List ℕ)) (past : List (Happening (Result Settling Refusal))) (k : place.Copy) where
   pub record Handed (b codes : List ℕ) (q : place.Copy) : Type 0 where
     pub end : place.Copy
     pub chain : Chain n s c sent past k (b ++ mark_entries (map instance_of codes)) end
@@ -330,7 +331,7 @@ module _ (n s c : ℕ) (sent : List (List ℕ)) (past : List (Happening Settling
       }
 
 -- the marks that it saved are those of its entries
-module _ (n s : ℕ) (setup : Setup n s) (c : ℕ) (copy : c < n) (past : List (Happening Settling)) (x : place.State) (y : rules.State) (tie : Tie n s setup x y)
+module _ (n s : ℕ) (setup : Setup n s) (c : ℕ) (copy : c < n) (past : List (Happening (Result Settling Refusal))) (x : place.State) (y : rules.State) (tie : Tie n s setup x y)
     {sent : List (List ℕ)} {k : place.Copy} (at : x.copies c ≡ k) (se : x.sent ≡ sent) (few : n ≤ 7) (low : s ≤ 64) where
   pub chain-marks : {b : List ℕ} {q : place.Copy} → Chain n s c sent past k b q → q.marks ≡ k.marks ++ marks_in (length b) b
   unfolding marks_in

@@ -1,5 +1,6 @@
 -- Every run of hosts that save in place (demand/specs/Run) is a run of hosts that keep journals, in which every event's entry and the first
 -- mark of every hand-out was first cut inside: the replay dropped what stood of it, and the copy went on. Assumes nothing.
+use Rattle.std.specs.Prelude.{Result, Ok}
 use Prim.Native.Nat.{ℕ, zero, suc, ◌+◌, ◌-◌, ◌≤◌, ◌<◌}
 use mathlib.Core.Path.{◌≡◌, refl, sym, ap, ap₂, ◌∙◌, subst}
 use mathlib.Core.Logic.{◌⊎◌, inl, inr, ⊎_elim}
@@ -11,6 +12,7 @@ use lib.Dec.{ltb, eqb}
 use lib.ListN.{length, take, drop, length-append}
 use lib.Seq.{take-length, drop-length, take-append-le, take-append_seam, drop-append_seam, length-take-le}
 use borrow.Author.Tests.{eqb-true, eqb-false, ltb-true, ltb-false, lt-ltb, le-ltb}
+use Rattle.paper.specs.declared.Refusal.{Refusal}
 use Rattle.paper.specs.Instance.{instance_ok}
 use Rattle.table.specs.Table.{blank_table, record_in, Judged, Kept}
 use Rattle.table.specs.Calls.{part_of, put_part}
@@ -22,7 +24,6 @@ use Rattle.seen.specs.Records.{records_in}
 use Rattle.closed.proofs.Mark.{candidate-committed}
 use Rattle.gate.specs.Events.{event_of}
 use Rattle.order.specs.declared.Settling.{Settling}
-use Rattle.order.specs.declared.Handing.TheVariants.{Codes}
 use Rattle.order.specs.Calls.{marked_in, handed}
 use Rattle.entries.specs.Entry.{record_kind, mark_kind, entry_length, kind_in, record_entry, mark_entry}
 use Rattle.entries.specs.Replay.{Replayed, committed_in, replayed}
@@ -128,7 +129,7 @@ module _ (n s : ℕ) (setup : Setup n s) where
       at = r.later.copies c
 
       -- one move more of copy c
-      step : (j m : Copy) (past : List (Happening Settling)) (e : j ≡ m) (v : Move n s r.later (remembered (changed r.later c j) past)) → Got m (l ++ t) (lost v)
+      step : (j m : Copy) (past : List (Happening (Result Settling Refusal))) (e : j ≡ m) (v : Move n s r.later (remembered (changed r.later c j) past)) → Got m (l ++ t) (lost v)
       step j m past e v =
           record {
             later = remembered (changed r.later c j) past;
@@ -150,7 +151,7 @@ module _ (n s : ℕ) (setup : Setup n s) where
           (move.event c call out o j w copy (subst (λ (m : List (List ℕ)). Possible m call) (sym r.sent) p) (ap (λ (z : Copy). z.coming) r.here ∙ e)
           (ap (λ (v : List ℕ). (outcome n s c v out call).answer) lent ∙ a))
 
-      did-hand : (list : List ℕ) (i : ℕ) (u : List ℕ) → k.coming ≡ [] → k.lent ≡ u → (handed n s c u list).answer ≡ Codes i → Got (handing k (handed n s c u list) i) (l ++ t) []
+      did-hand : (list : List ℕ) (i : ℕ) (u : List ℕ) → k.coming ≡ [] → k.lent ≡ u → (handed n s c u list).answer ≡ Ok i → Got (handing k (handed n s c u list) i) (l ++ t) []
       did-hand list i u e f a =
           let lent : at.lent ≡ u = ap (λ (z : Copy). z.lent) r.here ∙ f in
           step (handing at (handed n s c at.lent list) i) (handing k (handed n s c u list) i) r.later.history
@@ -281,7 +282,7 @@ module _ (n s : ℕ) (setup : Setup n s) where
   -- copy c has come so far, and its messages leave
   landed : (x₀ x : State) (y : place.State) → Same x y → (c : ℕ) (copy : c < n) (k : Copy) (t : List ℕ) (q : place.Copy) → Got x₀ x c copy k t [] → Level c k q
       → (strings : List (List ℕ)) → ((b : List ℕ) → Memᴰ b strings → Memᴰ b k.leaving) → ((b : List ℕ) → Memᴰ b q.leaving → Memᴰ b x.sent ⊎ Memᴰ b strings)
-      → (past : List (Happening Settling)) → Forth x₀ (place.remembered (place.changed y c q) past) t
+      → (past : List (Happening (Result Settling Refusal))) → Forth x₀ (place.remembered (place.changed y c q) past) t
   landed x₀ x y same c copy k t q g v strings ready said past =
       record {
         later = z.later;
@@ -424,7 +425,7 @@ module _ (n s : ℕ) (setup : Setup n s) where
     settles r d p g h less = landed x₀ x y f.same c copy r d p g h [] (λ b a. absurd (Memᴰ.not-nil a)) (λ b a. said b (less b a)) y.history
 
     -- a hand-out: if it lists a code, a cut inside its first mark, and the hand-out again
-    module _ (list : List ℕ) (m : ℕ) (e : q.listed ≡ []) (a : (handed n s c q.lent list).answer ≡ Codes m) where
+    module _ (list : List ℕ) (m : ℕ) (e : q.listed ≡ []) (a : (handed n s c q.lent list).answer ≡ Ok m) where
       abbrev codes : List ℕ
       codes = take m (handed n s c q.lent list).list
 

@@ -1,4 +1,5 @@
 -- The bytes that a run is to write are those that the calls write: none of them refuses. Assumes nothing.
+use Rattle.std.specs.Prelude.{Option, Some, None}
 use Prim.Native.Nat.{ℕ, zero, suc, ◌≤◌, ◌<◌}
 use mathlib.Core.Path.{◌≡◌, refl, sym, ap, ap₂, ◌∙◌, subst}
 use mathlib.Core.Logic.{⊎_elim}
@@ -13,10 +14,9 @@ use Rattle.table.specs.Table.{record_in, Kept}
 use Rattle.table.specs.Calls.{part_of}
 use Rattle.table.proofs.Laws.{names}
 use Rattle.table.proofs.Saved.{part-of-sound}
-use Rattle.rules.specs.declared.First.{First}
-use Rattle.rules.specs.declared.First.TheVariants.{At, Nowhere}
+use Rattle.rules.specs.declared.Instance.{Instance}
 use Rattle.rules.specs.Step.{is_committed}
-use Rattle.rules.specs.Order.{is_marked, candidate, marked, code_of, instance_of, next_out, hand_out}
+use Rattle.rules.specs.Order.{instance, is_marked, candidate, marked, code_of, instance_of, next_out, hand_out}
 use Rattle.rules.proofs.Codes.{code-owner, code-number}
 use Rattle.seen.specs.Records.{records_in}
 use Rattle.closed.proofs.Mark.{Found, candidate-committed, next_out-found}
@@ -55,7 +55,7 @@ pub record Out (n s : ℕ) (u : List ℕ) (code : ℕ) : Type 0 where
   pub done : is_committed (record_in s u (instance_of code).0 (instance_of code).1) ≡ true
   pub marked : is_marked (record_in s u (instance_of code).0 (instance_of code).1) ≡ true
 
-none-listed : (room n s : ℕ) (t : List ℕ) → next_out n s (records_in s t) ≡ Nowhere → handed_codes (suc room) n s t ≡ []
+none-listed : (room n s : ℕ) (t : List ℕ) → next_out n s (records_in s t) ≡ None → handed_codes (suc room) n s t ≡ []
 unfolding handed_codes hand_out
 none-listed room n s t e = rw e
 
@@ -64,7 +64,7 @@ unfolding handed_codes hand_out
 none_at_all n s t = refl
 
 -- the first code of a hand-out
-module _ (n s c : ℕ) (t : List ℕ) (k : Kept n s c t) (o j : ℕ) (f : Found n s (candidate n s (records_in s t)) (At o j)) where
+module _ (n s c : ℕ) (t : List ℕ) (k : Kept n s c t) (o j : ℕ) (f : Found n s (candidate n s (records_in s t)) (Some (instance o j))) where
   first_out : (room code : ℕ) → code ≡ code_of o j → Out n s (handed_table room n s (marked_in s t o j)) code
   first_out room code e =
       let u : List ℕ = marked_in s t o j in
@@ -86,14 +86,14 @@ listed-out zero n s c t k code m = absurd (Memᴰ.not-nil (subst (Memᴰ code) (
 listed-out (suc room) n s c t k code m =
     go (next_out n s (records_in s t)) refl (next_out-found n s (records_in s t)) (λ u h x. listed-out room n s c u h code x)
   where
-    go : (f : First) → next_out n s (records_in s t) ≡ f → Found n s (candidate n s (records_in s t)) f
+    go : (f : Option Instance) → next_out n s (records_in s t) ≡ f → Found n s (candidate n s (records_in s t)) f
         → ((u : List ℕ) → Kept n s c u → Memᴰ code (handed_codes room n s u) → Out n s (handed_table room n s u) code) → Out n s (handed_table (suc room) n s t) code
-    go Nowhere e f more = absurd (Memᴰ.not-nil (subst (Memᴰ code) (none-listed room n s t e) m))
-    go (At o j) e f more =
-        subst (λ (u : List ℕ). Out n s u code) (sym (next-table n s c t k o j f room e))
-        (⊎_elim (λ (z : code ≡ code_of o j). first_out n s c t k o j f room code z)
-        (λ (z : Memᴰ code (handed_codes room n s (marked_in s t o j))). more (marked_in s t o j) (mark-kept n s c t k o j f) z)
-        (Memᴰ.cases_cons (subst (Memᴰ code) (next-codes n s c t k o j f room e) m)))
+    go None e f more = absurd (Memᴰ.not-nil (subst (Memᴰ code) (none-listed room n s t e) m))
+    go (Some i) e f more =
+        subst (λ (u : List ℕ). Out n s u code) (sym (next-table n s c t k i.owner i.number f room e))
+        (⊎_elim (λ (z : code ≡ code_of i.owner i.number). first_out n s c t k i.owner i.number f room code z)
+        (λ (z : Memᴰ code (handed_codes room n s (marked_in s t i.owner i.number))). more (marked_in s t i.owner i.number) (mark-kept n s c t k i.owner i.number f) z)
+        (Memᴰ.cases_cons (subst (Memᴰ code) (next-codes n s c t k i.owner i.number f room e) m)))
 
 module _ (n s : ℕ) (setup : Setup n s) where
   -- the table in memory is sound

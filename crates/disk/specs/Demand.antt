@@ -1,10 +1,9 @@
 -- Demand 3, with "saved" as "whole in the journal". Assumes nothing.
-use Rattle.std.specs.Prelude.{ℕ, ◌≤◌, ◌<◌, ◌≡◌, length, take}
+use Rattle.std.specs.Prelude.{ℕ, ◌≤◌, ◌<◌, ◌≡◌, length, take, Ok}
 use mathlib.Core.List.{List, [], Memᴰ}
 use Rattle.numbers.specs.Num.{splice}
 use Rattle.rules.specs.Order.{instance_of}
 use Rattle.gate.specs.Events.{event_of}
-use Rattle.order.specs.declared.Handing.TheVariants.{Codes}
 use Rattle.order.specs.Calls.{handed}
 use Rattle.entries.specs.Entry.{record_kind, mark_kind, entry_length, mark_entry}
 use Rattle.entries.specs.Writing.{Entered, record_entered, mark_entered}
@@ -57,6 +56,6 @@ module _ (n s : ℕ) where
 
   -- and so is the mark of each code of a hand-out
   abbrev pub MarksWrite : Type 0
-  MarksWrite = (x₀ x : State) → Start n s x₀ → Run n s x₀ x → (c : ℕ) (list : List ℕ) (i : ℕ) → c < n → (x.copies c).coming ≡ [] → (handed n s c (x.copies c).lent list).answer ≡ Codes i
+  MarksWrite = (x₀ x : State) → Start n s x₀ → Run n s x₀ x → (c : ℕ) (list : List ℕ) (i : ℕ) → c < n → (x.copies c).coming ≡ [] → (handed n s c (x.copies c).lent list).answer ≡ Ok i
       → (code : ℕ) → Memᴰ code (take i (handed n s c (x.copies c).lent list).list) → (room : List ℕ) → entry_length mark_kind ≤ length room
       → mark_entered n s c (handed n s c (x.copies c).lent list).table room (instance_of code).0 (instance_of code).1 ≡ wrote room (mark_entry (instance_of code).0 (instance_of code).1)

@@ -1,14 +1,14 @@
 -- 3/12: a run of N copies whose hosts keep journals in bytes: entries that go to disk piece by piece, what the host waits for, what
 -- leaves, and every cut. Assumes nothing.
 -- In all of this n, s is the setup, c a copy and o.j an instance.
-use Rattle.std.specs.Prelude.{ℕ, zero, suc, ◌≤◌, ◌<◌, ◌≡◌, cond, eqb, length, take, drop}
+use Rattle.std.specs.Prelude.{ℕ, zero, suc, ◌≤◌, ◌<◌, ◌≡◌, cond, eqb, length, take, drop, Result, Ok}
 use mathlib.Core.List.{List, [], ◌∷◌, ◌++◌, map, Memᴰ}
 use Rattle.table.specs.Table.{blank_table}
 use Rattle.table.specs.Calls.{part_of}
 use Rattle.rules.specs.Order.{instance_of}
 use Rattle.gate.specs.Events.{event_of, Outcome}
+use Rattle.paper.specs.declared.Refusal.{Refusal}
 use Rattle.order.specs.declared.Settling.{Settling}
-use Rattle.order.specs.declared.Handing.TheVariants.{Codes}
 use Rattle.order.specs.Calls.{settled, Handed, handed}
 use Rattle.entries.specs.Entry.{mark_kind, kind_in, owner_in, number_in, record_entry, mark_entry}
 use Rattle.entries.specs.Replay.{behind, replayed}
@@ -56,7 +56,7 @@ pub record State : Type 0 where
   -- all that ever left a copy: a lost message is never received, a repeated or late one is received at any time
   pub sent : List (List ℕ)
   -- every request with the instance that it got, and every answer to a question, in their order
-  pub history : List (Happening Settling)
+  pub history : List (Happening (Result Settling Refusal))
 
 -- an empty journal on a table
 abbrev pub fresh : List ℕ → Copy
@@ -169,7 +169,7 @@ Saved k = (k.coming ≡ []) × (k.safe ≡ length k.disk)
 abbrev pub changed : State → ℕ → Copy → State
 changed x c k = record { copies = replaced x.copies c k; sent = x.sent; history = x.history }
 
-abbrev pub remembered : State → List (Happening Settling) → State
+abbrev pub remembered : State → List (Happening (Result Settling Refusal)) → State
 remembered x l = record { copies = x.copies; sent = x.sent; history = l }
 
 -- A refused call changes nothing.
@@ -185,7 +185,7 @@ pub data Move (n s : ℕ) (x : State) : State → Type 0 where
       → Move n s x (remembered (changed x c (quiet (x.copies c) (outcome n s c (x.copies c).lent out call) w)) (recorded x.history o j call))
   -- a hand-out into any list
   hand_out : (c : ℕ) (list : List ℕ) (i : ℕ) → c < n → (x.copies c).coming ≡ []
-      → (handed n s c (x.copies c).lent list).answer ≡ Codes i
+      → (handed n s c (x.copies c).lent list).answer ≡ Ok i
       → Move n s x (changed x c (handing (x.copies c) (handed n s c (x.copies c).lent list) i))
   -- bytes of an entry reach the disk, as many as may be
   write : (c i : ℕ) → c < n → Move n s x (changed x c (wrote (x.copies c) i))

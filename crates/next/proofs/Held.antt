@@ -1,4 +1,5 @@
 -- Who holds an instance back, and what is known of it. Assumes nothing.
+use Rattle.std.specs.Prelude.{Option, Some, None}
 use Prim.Native.Nat.{ℕ, ◌+◌, ◌*◌, ◌-◌, ◌/◌, ◌≤◌, ◌<◌, max}
 use mathlib.Core.Path.{◌≡◌, refl, sym, ap, ◌∙◌}
 use mathlib.Core.Logic.{◌⊎◌, inl, inr, ⊎_elim}
@@ -67,11 +68,8 @@ not-passes h st p k y e = go (dec_lt (mark_at h y p) k)
     go (yes l) = l
     go (no l) = tf (passes_at h st p k y) (passes-back h st p k y (omega arith)) e
 
-pub passes-is : (h st : List ℕ) (p k y : ℕ) {u w : ℕ} {a b r : Bool} → u ≡ get_or st y 0 → a ≡ eqb u 2 → w ≡ mark_at h y p
-    → b ≡ leb k w → r ≡ (a || b)
-    → r ≡ passes_at h st p k y
-unfolding passes_at
-passes-is h st p k y eu ea ew eb er = er ∙ rw (ea, eb, eu, ew)
+clash : {A : Type 0} {y : ℕ} → Some y ≡ None → A
+clash e = cc
 
 -- part of a row
 abbrev Pass : List ℕ → List ℕ → ℕ → ℕ → ℕ → ℕ → ℕ → Type 0
@@ -84,22 +82,24 @@ module _ (h st : List ℕ) (p k q from : ℕ) where
       (λ (z : j < i + 1). c j a (omega arith))
       (eq-or-lt_of_le b)
 
-  pub sought-some : (top i y : ℕ) → Span h st p q top → from ≤ i → i < top → Pass h st p k q from i → y ≡ 64 * q + i
-      → passes_at h st p k y ≡ false → Sought h st p k q from top y
-  sought-some top i y v a b c e t = record {
-    none = λ l. absurd (omega (arith, v.other, v.last));
-    some = λ l. record {
-      number = i + 1;
-      after = omega arith;
-      last = omega arith;
-      place = omega arith;
-      here = t;
-      earlier = λ j x z. c j x (omega arith);
-    };
+  pub sought-some : (top i y : ℕ) → from ≤ i → i < top → Pass h st p k q from i → y ≡ 64 * q + i
+      → passes_at h st p k y ≡ false → Sought h st p k q from top (Some y)
+  sought-some top i y a b c e t = record {
+    none = λ l. clash l;
+    some = λ z l.
+        let same : y ≡ z = cc in
+        rw (← same) (record {
+          number = i + 1;
+          after = omega arith;
+          last = omega arith;
+          place = omega arith;
+          here = t;
+          earlier = λ j x z. c j x (omega arith);
+        });
   }
 
-  pub sought-none : (top i : ℕ) → Pass h st p k q from i → top ≤ i → Sought h st p k q from top 448
-  sought-none top i c l = record { none = λ u j a b. c j a (omega arith); some = λ u. absurd (omega arith) }
+  pub sought-none : (top i : ℕ) → Pass h st p k q from i → top ≤ i → Sought h st p k q from top None
+  sought-none top i c l = record { none = λ u j a b. c j a (omega arith); some = λ y u. clash (sym u) }
 
 -- the mark that is asked, as it is read
 module _ (h st past : List ℕ) (p k q : ℕ) {x top : ℕ} (ex : x ≡ slot_of p k) (et : top ≡ mark_at h x q) where
@@ -129,8 +129,8 @@ module _ (n s : ℕ) (h st past : List ℕ) (p k from : ℕ) (g : Seeking n s h 
   pub lets-start : Lets n s h st p k (from / 64)
   lets-start o j i l = g.below o j i (omega (arith, i.first, i.last, g.lists.numbers))
 
-  module _ (q y x start top z : ℕ) (lq : q < n) (ex : x ≡ slot_of p k) (et : top ≡ mark_at h x q) (ez : z ≡ get_or past q 0)
-      (es : start ≡ max z (from - 64 * q)) (w : Sought h st p k q start top y) where
+  module _ (q x start top z : ℕ) (found : Option ℕ) (lq : q < n) (ex : x ≡ slot_of p k) (et : top ≡ mark_at h x q) (ez : z ≡ get_or past q 0)
+      (es : start ≡ max z (from - 64 * q)) (w : Sought h st p k q start top found) where
     -- what is before the start lets out
     early : (j : ℕ) → Inst n s q j → j ≤ start → lets h st p k q j ≡ true
     early j i l = go (dec_lt z j) (dec_lt (mark_at h (slot_of p k) q) j)
@@ -145,7 +145,7 @@ module _ (n s : ℕ) (h st past : List ℕ) (p k from : ℕ) (g : Seeking n s h 
     reached : (j : ℕ) → j ≤ top → passes_at h st p k (slot_of q j) ≡ true → lets h st p k q j ≡ true
     reached j l t = lets-in h st p k q j (omega (arith, top-is h st past p k q ex et)) ∙ t
 
-    pub lets-more : 448 ≤ y → Lets n s h st p k q → Lets n s h st p k (q + 1)
+    pub lets-more : found ≡ None → Lets n s h st p k q → Lets n s h st p k (q + 1)
     lets-more l c o j i m = ⊎_elim
         (λ (e : o ≡ q). rw e (row (rw e at i) (dec_lt start j) (dec_lt top j)))
         (λ (e : o < q). c o j i e)
@@ -156,7 +156,7 @@ module _ (n s : ℕ) (h st past : List ℕ) (p k from : ℕ) (g : Seeking n s h 
         row i (yes a) (yes b) = lets-out h st p k q j (omega (arith, top-is h st past p k q ex et))
         row i (yes a) (no b) = reached j (omega arith) (w.none l j a (omega arith))
 
-    module _ (c : Lets n s h st p k q) (v : Stops h st p k q start top y) where
+    module _ (c : Lets n s h st p k q) (y : ℕ) (v : Stops h st p k q start top y) where
       there : Inst n s q v.number
       there = record {
         owner = lq;
@@ -185,13 +185,18 @@ module _ (n s : ℕ) (h st past : List ℕ) (p k from : ℕ) (g : Seeking n s h 
           (λ a. tf (lets h st p k q v.number) (every-at n s (lets h st p k) a q v.number there.owner there.first there.last)
           (lets-in h st p k q v.number mark ∙ rw (← v.place) v.here))
 
-    pub held-some : Lets n s h st p k q → y < 448 → Held n s h st p k y
-    held-some c l = let v = w.some l in record { none = λ m. absurd (omega arith); some = λ m. (ahead c v, below c v, not-all c v) }
+    pub held-some : Lets n s h st p k q → (y : ℕ) → found ≡ Some y → Held n s h st p k (Some y)
+    held-some c y e =
+        let v = w.some y e in
+        record {
+          none = λ m. clash m;
+          some = λ z m. let same : y ≡ z = cc in rw (← same) (ahead c y v, below c y v, not-all c y v);
+        }
 
-  pub held_none : (q : ℕ) → Lets n s h st p k q → n ≤ q → Held n s h st p k 448
+  pub held_none : (q : ℕ) → Lets n s h st p k q → n ≤ q → Held n s h st p k None
   held_none q c l = record {
     none = λ m. every_in n s (lets h st p k) (λ o j a b d. c o j (record { owner = a; first = b; last = d }) (omega arith));
-    some = λ m. absurd (omega arith);
+    some = λ y m. clash (sym m);
   }
 
 -- what is known, step by step
@@ -310,13 +315,6 @@ module _ (n s : ℕ) (h st know past : List ℕ) (g : Going n s h st know past) 
                 below = λ o j i l. absurd (omega arith);
               }))
               (f.each (slot_of o j))
-
-pub is-held-no : (st : List ℕ) (x : ℕ) → x < 2 → false ≡ (leb 2 x && not (eqb (get_or st (x - 2) 0) 2))
-is-held-no st x l = rw (leb-not 2 x l)
-
-pub is-held-is : (st : List ℕ) (x : ℕ) → 2 ≤ x → {u : ℕ} {a : Bool} → u ≡ get_or st (x - 2) 0 → a ≡ eqb u 2
-    → not a ≡ (leb 2 x && not (eqb (get_or st (x - 2) 0) 2))
-is-held-is st x l eu ea = rw (leb-in 2 x l, ea, eu)
 
 pub ready-not : (n s : ℕ) (h st : List ℕ) (p k x : ℕ) → x ≡ slot_of p k → (get_or st x 0 ≡ 1 → ⊥) → false ≡ ready_in n s h st p k
 unfolding ready_in

@@ -1,8 +1,8 @@
 -- Which instance is handed out next, and what is kept of it from one call to the next. Assumes nothing.
 -- h: a row of seven marks for each instance; st: 0 waits, 1 settled, 2 handed out.
-use Rattle.std.specs.Prelude.{ℕ, ◌-◌, ◌≤◌, ◌<◌, ◌≡◌, ◌⊎◌, Bool, true, false, ◌&&◌, ◌||◌, not, List, leb, eqb, length, get_or}
+use Rattle.std.specs.Prelude.{ℕ, ◌-◌, ◌≤◌, ◌<◌, ◌≡◌, ◌⊎◌, Bool, true, false, ◌&&◌, ◌||◌, not, List, leb, eqb, length, get_or, Option, Some, None}
 use Rattle.paper.specs.Logic.{implies, all_below}
-use Rattle.rules.specs.declared.First.{First}
+use Rattle.rules.specs.declared.Instance.{Instance}
 use Rattle.rules.specs.Order.{everywhere, first}
 use Rattle.reach.specs.High.{Inst}
 use Rattle.rows.specs.Rows.{slot_of, mark_at}
@@ -16,7 +16,7 @@ unfoldable pub ready_in : ℕ → ℕ → List ℕ → List ℕ → ℕ → ℕ 
 ready_in n s h st p k = eqb (get_or st (slot_of p k) 0) 1 && everywhere n s (lets h st p k)
 
 -- the lowest that is ready
-unfoldable pub next_in : ℕ → ℕ → List ℕ → List ℕ → First
+unfoldable pub next_in : ℕ → ℕ → List ℕ → List ℕ → Option Instance
 next_in n s h st = first n s (ready_in n s h st)
 
 pub record Lists (n s : ℕ) (h st : List ℕ) : Type 0 where
@@ -109,15 +109,15 @@ pub record Stops (h st : List ℕ) (p k q from top y : ℕ) : Type 0 where
   pub here : passes_at h st p k y ≡ false
   pub earlier : (j : ℕ) → from < j → j < number → passes_at h st p k (slot_of q j) ≡ true
 
--- that, or 448 where all pass
-pub record Sought (h st : List ℕ) (p k q from top y : ℕ) : Type 0 where
-  pub none : 448 ≤ y → (j : ℕ) → from < j → j ≤ top → passes_at h st p k (slot_of q j) ≡ true
-  pub some : y < 448 → Stops h st p k q from top y
+-- that, if there is one
+pub record Sought (h st : List ℕ) (p k q from top : ℕ) (found : Option ℕ) : Type 0 where
+  pub none : found ≡ None → (j : ℕ) → from < j → j ≤ top → passes_at h st p k (slot_of q j) ≡ true
+  pub some : (y : ℕ) → found ≡ Some y → Stops h st p k q from top y
 
--- y: the place of the first that holds p.k back; 448 where none does
-pub record Held (n s : ℕ) (h st : List ℕ) (p k y : ℕ) : Type 0 where
-  pub none : 448 ≤ y → everywhere n s (lets h st p k) ≡ true
-  pub some : y < 448 → Ahead n s h p k y × Below n s h st p k y × (everywhere n s (lets h st p k) ≡ false)
+-- the place of the first that holds p.k back, if there is one
+pub record Held (n s : ℕ) (h st : List ℕ) (p k : ℕ) (found : Option ℕ) : Type 0 where
+  pub none : found ≡ None → everywhere n s (lets h st p k) ≡ true
+  pub some : (y : ℕ) → found ≡ Some y → Ahead n s h p k y × Below n s h st p k y × (everywhere n s (lets h st p k) ≡ false)
 
 -- x is in owner q's row past `from`, up to `top`, and was not handed out
 pub record Waiting (st : List ℕ) (q from top x : ℕ) : Type 0 where

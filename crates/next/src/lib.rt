@@ -8,9 +8,8 @@ ghost use Rattle.rules.specs.Order.{everywhere};
 ghost use Rattle.next.specs.Slots.{lets, ready_in, next_in, none_at, passes_at, Out, Low, Past, Going, Asking};
 ghost use Rattle.next.specs.Slots.{Seeking, Span, Sought, Held, Freed, Resuming, Freeing};
 
-use nouns::logic::{at_most, either, equal, wide8, wide16};
 use rows::{mark_at, slot_of};
-use rules::First;
+use rules::Instance;
 
 // How much of owner q's row was handed out, where so much was before.
 fn row_past(s: usize, st: &[u8], q: usize, from: usize) -> usize
@@ -18,15 +17,12 @@ fn row_past(s: usize, st: &[u8], q: usize, from: usize) -> usize
     ensures { Out s st.now q result }
 {
     let base = 64 * q;
-    let mut i = from;
-    while i < s {
-        let y = base + i;
-        if st[y] != 2 {
+    for i in from..s {
+        if st[base + i] != 2 {
             return i;
         }
-        i += 1;
     }
-    i
+    s
 }
 
 // None of number j is settled and was not handed out.
@@ -48,14 +44,12 @@ fn low_past(n: usize, s: usize, st: &[u8], from: usize) -> usize
     requires { (n ≤ 7) × (s ≤ 64) × (length st.now ≡ 448) × Low n s st.now from }
     ensures { Low n s st.now result }
 {
-    let mut j = from;
-    while j < s {
+    for j in from..s {
         if !none_at(n, st, j + 1) {
             return j;
         }
-        j += 1;
     }
-    j
+    s
 }
 
 fn pass_rows(n: usize, s: usize, st: &[u8], past: &mut [u8])
@@ -63,7 +57,7 @@ fn pass_rows(n: usize, s: usize, st: &[u8], past: &mut [u8])
     ensures { Past n s st.now past.new }
 {
     for q in 0..n {
-        let z = row_past(s, st, q, wide8(past[q]));
+        let z = row_past(s, st, q, usize::from(past[q]));
         past[q] = z as u8;
     }
 }
@@ -75,34 +69,41 @@ fn pass_all(n: usize, s: usize, st: &[u8], past: &mut [u8]) -> usize
     ensures low { Low n s st.now result }
 {
     pass_rows(n, s, st, &mut *past);
-    let z = low_past(n, s, st, wide8(past[7]));
+    let z = low_past(n, s, st, usize::from(past[7]));
     past[7] = z as u8;
     z
 }
 
 // The one at a place was handed out, or reaches p.k.
+#[tactic(auto, unfolding(crate::specs::Slots::passes_at))]
 fn passes_at(h: &[u8], st: &[u8], p: usize, k: usize, y: usize) -> bool
     requires { (length h.now ≡ 6272) × (length st.now ≡ 448) × (p < 7) × (y < 448) }
     ensures { result ≡ passes_at h.now st.now p k y }
 {
-    either(equal(wide8(st[y]), 2), at_most(k, mark_at(h, y, p)))
+    st[y] == 2 || k <= mark_at(h, y, p)
 }
 
-// The place of the first in owner q's row, past `from` and up to `top`, that does not; 448 where all do.
-fn row_holder(h: &[u8], st: &[u8], p: usize, k: usize, q: usize, from: usize, top: usize) -> usize
+// The place of the first in owner q's row, past `from` and up to `top`, that does not.
+fn row_holder(
+    h: &[u8],
+    st: &[u8],
+    p: usize,
+    k: usize,
+    q: usize,
+    from: usize,
+    top: usize,
+) -> Option<usize>
     requires { Span h.now st.now p q top }
     ensures { Sought h.now st.now p k q from top result }
 {
     let base = 64 * q;
-    let mut i = from;
-    while i < top {
+    for i in from..top {
         let y = base + i;
         if !passes_at(h, st, p, k, y) {
-            return y;
+            return Some(y);
         }
-        i += 1;
     }
-    448
+    None
 }
 
 // Where to begin in owner q's row: beyond what is past, and beyond what lies below a place.
@@ -110,15 +111,10 @@ fn start_of(past: usize, q: usize, from: usize) -> usize
     requires { (past ≤ 64) × (q < 7) }
     ensures { result ≡ max past (from - 64 * q) }
 {
-    let base = 64 * q;
-    if base + past < from {
-        return from - base;
-    }
-    past
+    past.max(from.saturating_sub(64 * q))
 }
 
-// The place of the first that holds p.k back, from a place on; 448 where none does. What p.k does not reach lets it out, and
-// so does what is past.
+// The place of the first that holds p.k back, from a place on. What p.k does not reach lets it out, and so does what is past.
 fn holder(
     n: usize,
     s: usize,
@@ -128,20 +124,20 @@ fn holder(
     p: usize,
     k: usize,
     from: usize,
-) -> usize
+) -> Option<usize>
     requires { Seeking n s h.now st.now past.now p k from }
     ensures { Held n s h.now st.now p k result }
 {
     let x = slot_of(p, k);
     let first = from / 64;
     for q in first..n {
-        let start = start_of(wide8(past[q]), q, from);
-        let y = row_holder(h, st, p, k, q, start, mark_at(h, x, q));
-        if y < 448 {
-            return y;
+        let start = start_of(usize::from(past[q]), q, from);
+        let held = row_holder(h, st, p, k, q, start, mark_at(h, x, q));
+        if let Some(y) = held {
+            return Some(y);
         }
     }
-    448
+    None
 }
 
 fn free_row(st: &[u8], know: &mut [u16], q: usize, from: usize, top: usize)
@@ -165,7 +161,7 @@ fn free(n: usize, s: usize, h: &[u8], st: &[u8], know: &mut [u16], past: &[u8], 
     let x = slot_of(p, k);
     know[x] = 1;
     for q in 0..n {
-        free_row(st, &mut *know, q, wide8(past[q]), mark_at(h, x, q));
+        free_row(st, &mut *know, q, usize::from(past[q]), mark_at(h, x, q));
     }
 }
 
@@ -185,8 +181,8 @@ fn ask(
     ensures says { result ≡ everywhere n s (lets h.now st.now p k) }
     ensures kept { Going n s h.now st.now know.new past.now }
 {
-    let ahead = holder(n, s, h, st, past, p, k, from);
-    if ahead < 448 {
+    let held = holder(n, s, h, st, past, p, k, from);
+    if let Some(ahead) = held {
         let x = slot_of(p, k);
         know[x] = (ahead + 2) as u16;
         return false;
@@ -199,7 +195,7 @@ fn ask(
 fn place_in(seen: usize) -> usize
     ensures { result ≡ seen - 2 }
 {
-    if seen < 2 { 0 } else { seen - 2 }
+    seen.saturating_sub(2)
 }
 
 // What is known names a place, and the one there was not handed out.
@@ -207,11 +203,7 @@ fn is_held(st: &[u8], seen: usize) -> bool
     requires { (length st.now ≡ 448) × (seen < 450) }
     ensures { result ≡ (leb 2 seen && not (eqb (get_or st.now (seen - 2) 0) 2)) }
 {
-    if seen < 2 {
-        return false;
-    }
-    let y = seen - 2;
-    !equal(wide8(st[y]), 2)
+    2 <= seen && st[seen - 2] != 2
 }
 
 // p.k is settled, was not handed out, and all let it out. One that was held back is asked again where it was, once that one was
@@ -234,7 +226,7 @@ fn ready_in(
     if st[x] != 1 {
         return false;
     }
-    let seen = wide16(know[x]);
+    let seen = usize::from(know[x]);
     if seen == 1 {
         return true;
     }
@@ -245,20 +237,27 @@ fn ready_in(
 }
 
 // The lowest that is.
-pub fn next_in(n: usize, s: usize, h: &[u8], st: &[u8], know: &mut [u16], past: &mut [u8]) -> First
+pub fn next_in(
+    n: usize,
+    s: usize,
+    h: &[u8],
+    st: &[u8],
+    know: &mut [u16],
+    past: &mut [u8],
+) -> Option<Instance>
     requires { Going n s h.now st.now know.old past.old }
     ensures says { result ≡ next_in n s h.now st.now }
     ensures kept { Going n s h.now st.now know.new past.new }
 {
-    let mut found = First::Nowhere;
+    let mut found = None;
     let first = pass_all(n, s, st, &mut *past) + 1;
     'walk: for j in first..=s {
         for o in 0..n {
             if ready_in(n, s, h, st, &mut *know, &*past, o, j) {
-                found = First::At {
+                found = Some(Instance {
                     owner: o,
                     number: j,
-                };
+                });
                 break 'walk;
             }
         }

@@ -1,4 +1,5 @@
 -- The outcomes of the settled question, one law each. Assumes nothing.
+use Rattle.std.specs.Prelude.{Some, None, Result, Ok, Err}
 use Prim.Native.Nat.{ℕ, zero, suc}
 use mathlib.Core.Path.{◌≡◌, refl}
 use mathlib.Core.Bool.{true, false}
@@ -10,8 +11,7 @@ use Rattle.paper.specs.Instance.{instance_ok}
 use Rattle.paper.specs.declared.Record.{Record}
 use Rattle.paper.specs.declared.Refusal.{Refusal}
 use Rattle.paper.specs.declared.Refusal.TheVariants as why
-use Rattle.rules.specs.declared.First.TheVariants.{At, Nowhere}
-use Rattle.rules.specs.Order.{first_open}
+use Rattle.rules.specs.Order.{instance, first_open}
 use Rattle.table.specs.Table.{record_in}
 use Rattle.table.specs.Calls.{judged}
 use Rattle.table.proofs.Laws.{sizes, names}
@@ -22,7 +22,7 @@ use Rattle.search.specs.Searching.{Searching, Searched}
 use Rattle.table.specs.Table.{Judged}
 use Rattle.order.specs.Calls.{settled_open, settled}
 use Rattle.order.specs.declared.Settling.{Settling}
-use Rattle.order.specs.declared.Settling.TheVariants.{Settled, Waits, Refused}
+use Rattle.order.specs.declared.Settling.TheVariants.{Settled, Waits}
 use Rattle.order.proofs.Judged.{passed-fit, passed-long}
 
 pub no-mark : (k i : ℕ) → get_or {A = ℕ} (replicate k 0) i 0 ≡ 0
@@ -52,22 +52,22 @@ module _ (n s c : ℕ) (t : List ℕ) (o j : ℕ) where
         highs = explored-highs n s (records_in s t) o j (replicate 7 0) m (no-mark 7) e;
       }
 
-  pub settled-6 : instance_ok n s o j ≡ false → Refused why.Instance ≡ settled_open n s t o j
+  pub settled-6 : instance_ok n s o j ≡ false → Err why.Instance ≡ settled_open n s t o j
   unfolding settled_open
   settled-6 i = rw i
 
-  pub settled-waits : (p k : ℕ) → instance_ok n s o j ≡ true → At p k ≡ first_open n s (records_in s t) o j → Waits p k ≡ settled_open n s t o j
+  pub settled-waits : (p k : ℕ) → instance_ok n s o j ≡ true → Some (instance p k) ≡ first_open n s (records_in s t) o j → Ok (Waits (instance p k)) ≡ settled_open n s t o j
   unfolding settled_open
   settled-waits p k i e = rw (i, ← e)
 
-  pub settled-gives : instance_ok n s o j ≡ true → Nowhere ≡ first_open n s (records_in s t) o j → {r : Record} → r ≡ record_in s t o j → Settled r.vote.command ≡ settled_open n s t o j
+  pub settled-gives : instance_ok n s o j ≡ true → None ≡ first_open n s (records_in s t) o j → {r : Record} → r ≡ record_in s t o j → Ok (Settled r.vote.command) ≡ settled_open n s t o j
   unfolding settled_open
   settled-gives i e er = rw (i, ← e, er)
 
-  pub settled-refused : (r : Refusal) → Err r ≡ judged n s c t → Refused r ≡ settled n s c t o j
+  pub settled-refused : (r : Refusal) → Err r ≡ judged n s c t → Err r ≡ settled n s c t o j
   unfolding settled
   settled-refused r e = rw (← e)
 
-  pub settled-past : Ok tt ≡ judged n s c t → {x : Settling} → x ≡ settled_open n s t o j → x ≡ settled n s c t o j
+  pub settled-past : Ok tt ≡ judged n s c t → {x : Result Settling Refusal} → x ≡ settled_open n s t o j → x ≡ settled n s c t o j
   unfolding settled
   settled-past e p = rw (← e) p

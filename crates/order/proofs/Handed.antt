@@ -1,4 +1,5 @@
 -- What a hand-out starts from, and its outcomes, one law each. Assumes nothing.
+use Rattle.std.specs.Prelude.{Result, Ok, Err}
 use Prim.Native.Nat.{ℕ, ◌≤◌}
 use mathlib.Core.Path.{◌≡◌, refl, ap, ◌∙◌}
 use mathlib.Core.List.{List}
@@ -21,8 +22,6 @@ use Rattle.next.specs.Slots.{Past, Known}
 use Rattle.table.specs.Table.{Judged}
 use Rattle.order.specs.States.{Stating, Stated, Listing}
 use Rattle.order.specs.Calls.{handed_table, handed_codes, handed_open, handed}
-use Rattle.order.specs.declared.Handing.{Handing}
-use Rattle.order.specs.declared.Handing.TheVariants.{Codes, Refused}
 use Rattle.order.proofs.Judged.{passed-names, passed-fit}
 use Rattle.order.proofs.Asked.{no-mark}
 
@@ -88,17 +87,17 @@ module _ (n s c : ℕ) (t : List ℕ) (g : Judged n s c t) where
 -- the answer, the table and the list
 pub handed-gives : (n s : ℕ) (t list : List ℕ) {x : ℕ} {t₁ l₁ : List ℕ}
     → (x ≡ length (handed_codes (length list) n s t)) × ((t₁ ≡ handed_table (length list) n s t) × (l₁ ≡ splice list 0 (handed_codes (length list) n s t)))
-    → (Codes x ≡ (handed_open n s t list).answer) × ((t₁ ≡ (handed_open n s t list).table) × (l₁ ≡ (handed_open n s t list).list))
+    → (Ok x ≡ (handed_open n s t list).answer) × ((t₁ ≡ (handed_open n s t list).table) × (l₁ ≡ (handed_open n s t list).list))
 unfolding handed_open
-handed-gives n s t list (e, f) = (ap Codes e, f)
+handed-gives n s t list (e, f) = (ap Ok e, f)
 
 module _ (n s c : ℕ) (t list : List ℕ) where
   pub handed-refused : (r : Refusal) → Err r ≡ judged n s c t
-      → (Refused r ≡ (handed n s c t list).answer) × ((t ≡ (handed n s c t list).table) × (list ≡ (handed n s c t list).list))
+      → (Err r ≡ (handed n s c t list).answer) × ((t ≡ (handed n s c t list).table) × (list ≡ (handed n s c t list).list))
   unfolding handed
   handed-refused r e = rw (← e) (refl, (refl, refl))
 
-  pub handed-past : Ok tt ≡ judged n s c t → {x : Handing} {t₁ l₁ : List ℕ}
+  pub handed-past : Ok tt ≡ judged n s c t → {x : Result ℕ Refusal} {t₁ l₁ : List ℕ}
       → (x ≡ (handed_open n s t list).answer) × ((t₁ ≡ (handed_open n s t list).table) × (l₁ ≡ (handed_open n s t list).list))
       → (x ≡ (handed n s c t list).answer) × ((t₁ ≡ (handed n s c t list).table) × (l₁ ≡ (handed n s c t list).list))
   unfolding handed

@@ -1,4 +1,5 @@
 -- The list and the table of a hand-out, place by place. Assumes nothing.
+use Rattle.std.specs.Prelude.{Some, None}
 use Prim.Native.Nat.{ℕ, zero, suc, ◌+◌, ◌-◌, ◌≤◌, ◌<◌}
 use mathlib.Core.Path.{◌≡◌, refl, sym, ap, ◌∙◌}
 use mathlib.Core.Logic.{⊎_elim}
@@ -11,9 +12,8 @@ use lib.ListN.{length, set, take, drop, length-set, take-append-drop}
 use lib.Seq.{take-suc-set, drop-set-lt, length-take-le, drop-drop, append_snoc}
 use Rattle.numbers.specs.Num.{splice}
 use Rattle.paper.specs.Logic.{implies}
-use Rattle.rules.specs.declared.First.TheVariants.{At, Nowhere}
 use Rattle.rules.specs.Seen.{Records}
-use Rattle.rules.specs.Order.{reaches, is_marked, candidate, mark, next_out, code_of, hand_out}
+use Rattle.rules.specs.Order.{instance, reaches, is_marked, candidate, mark, next_out, code_of, hand_out}
 use Rattle.seen.specs.Records.{records_in}
 use Rattle.reach.specs.High.{Inst, itself}
 use Rattle.reach.proofs.Tests.{tf, bool, and_l, and_r, and_in, eqb-eq, eqb_same, not-true}
@@ -71,7 +71,7 @@ pub codes-full : (room n s : ℕ) (t : List ℕ) → room ≡ 0 → handed_codes
 unfolding handed_codes hand_out
 codes-full room n s t e = rw e
 
-pub codes-none : (room n s : ℕ) (t : List ℕ) → next_out n s (records_in s t) ≡ Nowhere → handed_codes room n s t ≡ []
+pub codes-none : (room n s : ℕ) (t : List ℕ) → next_out n s (records_in s t) ≡ None → handed_codes room n s t ≡ []
 unfolding handed_codes hand_out
 codes-none zero n s t e = refl
 codes-none (suc room) n s t e = rw e
@@ -80,17 +80,17 @@ pub table-full : (room n s : ℕ) (t : List ℕ) → room ≡ 0 → handed_table
 unfolding handed_table
 table-full room n s t e = rw e
 
-pub table_none : (room n s : ℕ) (t : List ℕ) → next_out n s (records_in s t) ≡ Nowhere → handed_table room n s t ≡ t
+pub table_none : (room n s : ℕ) (t : List ℕ) → next_out n s (records_in s t) ≡ None → handed_table room n s t ≡ t
 unfolding handed_table
 table_none zero n s t e = refl
 table_none (suc room) n s t e = rw e
 
-table-one : (room room' n s : ℕ) (t : List ℕ) (o j : ℕ) → room ≡ suc room' → next_out n s (records_in s t) ≡ At o j
+table-one : (room room' n s : ℕ) (t : List ℕ) (o j : ℕ) → room ≡ suc room' → next_out n s (records_in s t) ≡ Some (instance o j)
     → handed_table room n s t ≡ handed_table room' n s (marked_in s t o j)
 unfolding handed_table
 table-one room room' n s t o j e f = rw (e, f)
 
-codes-one : (room room' n s : ℕ) (t h st know past : List ℕ) (o j : ℕ) → Listing n s t h st know past → Inst n s o j → room ≡ suc room' → next_out n s (records_in s t) ≡ At o j
+codes-one : (room room' n s : ℕ) (t h st know past : List ℕ) (o j : ℕ) → Listing n s t h st know past → Inst n s o j → room ≡ suc room' → next_out n s (records_in s t) ≡ Some (instance o j)
     → handed_codes room n s t ≡ code_of o j ∷ handed_codes room' n s (marked_in s t o j)
 unfolding handed_codes hand_out
 codes-one room room' n s t h st know past o j g i e f =
@@ -121,16 +121,16 @@ module _ (n s : ℕ) (t₀ list₀ h t st know past list : List ℕ) (count : �
   found-is = next-is n s (records_in s t) h st l.listing.charted l.listing.stated
 
   -- the one that is found is an instance
-  pub found-inst : (o j : ℕ) → At o j ≡ next_in n s h st → Inst n s o j
+  pub found-inst : (o j : ℕ) → Some (instance o j) ≡ next_in n s h st → Inst n s o j
   unfolding next_out
   found-inst o j e = (first_passes n s (candidate n s (records_in s t)) o j (sym (e ∙ found-is))).0
 
-  pub listed-on : (o j x code : ℕ) (t₁ know₁ past₁ : List ℕ) → At o j ≡ next_in n s h st → count < length list → x ≡ slot_of o j → Going n s h st know₁ past₁ → t₁ ≡ marked_in s t o j
+  pub listed-on : (o j x code : ℕ) (t₁ know₁ past₁ : List ℕ) → Some (instance o j) ≡ next_in n s h st → count < length list₀ → x ≡ slot_of o j → Going n s h st know₁ past₁ → t₁ ≡ marked_in s t o j
       → code ≡ code_of o j → Listed n s t₀ list₀ h t₁ (set st x 2) know₁ past₁ (set list count code) (count + 1)
-  listed-on o j x code t₁ know₁ past₁ e r ex f et ec =
+  listed-on o j x code t₁ know₁ past₁ e r₀ ex f et ec =
       let i = found-inst o j e in
-      let z : next_out n s (records_in s t) ≡ At o j = sym (e ∙ found-is) in
-      let r₀ : count < length list₀ = omega (arith, l.long) in
+      let z : next_out n s (records_in s t) ≡ Some (instance o j) = sym (e ∙ found-is) in
+      let r : count < length list = omega (arith, l.long) in
       let tk : take (count + 1) (set list count code) ≡ take count list ++ (code ∷ []) = rw add-one (take-suc-set list count code r) in
       let dr : drop (count + 1) (set list count code) ≡ drop (count + 1) list = drop-set-lt (count + 1) list count code (omega arith) in
       let dd : drop (count + 1) list ≡ drop (count + 1) list₀ = rw (← drop-drop 1 count list, l.rest, drop-drop 1 count list₀) in
@@ -159,12 +159,13 @@ module _ (n s : ℕ) (t₀ list₀ h t st know past list : List ℕ) (count : �
       let d : 0 + length (take count list) ≡ count = omega arith in
       (sym (ap length a ∙ b), (sym (l.table ∙ f), rw (a, d, ← l.rest) (sym (take-append-drop count list))))
 
-  pub listed-none : Nowhere ≡ next_in n s h st → Left n s t₀ list₀ count t list
+  pub listed-none : None ≡ next_in n s h st → Left n s t₀ list₀ count t list
   listed-none e =
-      let z : next_out n s (records_in s t) ≡ Nowhere = sym (e ∙ found-is) in
+      let z : next_out n s (records_in s t) ≡ None = sym (e ∙ found-is) in
       ended (codes-none (length list₀ - count) n s t z) (table_none (length list₀ - count) n s t z)
 
-  pub listed-full : length list ≤ count → Left n s t₀ list₀ count t list
+  pub listed-full : length list₀ ≤ count → Left n s t₀ list₀ (length list) t list
   listed-full e =
-      let z : length list₀ - count ≡ 0 = omega (arith, l.long) in
-      ended (codes-full (length list₀ - count) n s t z) (table-full (length list₀ - count) n s t z)
+      let z : length list₀ - count ≡ 0 = omega arith in
+      let w : length list ≡ count = omega (arith, l.long, l.within) in
+      rw w (ended (codes-full (length list₀ - count) n s t z) (table-full (length list₀ - count) n s t z))

@@ -7,27 +7,25 @@ use Rattle.paper.specs.Instance.{instance_ok}
 use Rattle.paper.specs.Refusal.{number_of}
 use Rattle.paper.specs.declared.Refusal.{Refusal}
 use Rattle.paper.specs.declared.Refusal.TheVariants.{Instance}
-use Rattle.rules.specs.Order.{found, first_open, next_out, marked, hand_out}
+use Rattle.rules.specs.Order.{instance, found, first_open, next_out, marked, hand_out}
 use Rattle.table.specs.Table.{record_in, put_record}
 use Rattle.table.specs.Calls.{judged}
 use Rattle.seen.specs.Records.{records_in}
 use Rattle.order.specs.declared.Settling.{Settling}
-use Rattle.order.specs.declared.Settling.TheVariants as settling
-use Rattle.order.specs.declared.Handing.{Handing}
-use Rattle.order.specs.declared.Handing.TheVariants as handing
+use Rattle.order.specs.declared.Settling.TheVariants.{Settled, Waits}
 
 -- 1, 11, then the rest
-abbrev pub settled_through : Result Unit Refusal → Settling → Settling
+abbrev pub settled_through : Result Unit Refusal → Result Settling Refusal → Result Settling Refusal
 settled_through (Ok x) rest = rest
-settled_through (Err r) rest = settling.Refused r
+settled_through (Err r) rest = Err r
 
 -- Settled: 6, then the command, or the uncommitted instance that comes first
-unfoldable pub settled_open : ℕ → ℕ → List ℕ → ℕ → ℕ → Settling
+unfoldable pub settled_open : ℕ → ℕ → List ℕ → ℕ → ℕ → Result Settling Refusal
 settled_open n s t o j =
-    cond (not (instance_ok n s o j)) (settling.Refused Instance)
-    (found (first_open n s (records_in s t) o j) (settling.Settled (record_in s t o j).vote.command) settling.Waits)
+    cond (not (instance_ok n s o j)) (Err Instance)
+    (found (first_open n s (records_in s t) o j) (Ok (Settled (record_in s t o j).vote.command)) (λ p k. Ok (Waits (instance p k))))
 
-unfoldable pub settled : ℕ → ℕ → ℕ → List ℕ → ℕ → ℕ → Settling
+unfoldable pub settled : ℕ → ℕ → ℕ → List ℕ → ℕ → ℕ → Result Settling Refusal
 settled n s c t o j = settled_through (judged n s c t) (settled_open n s t o j)
 
 -- the table with a mark at o.j
@@ -45,19 +43,19 @@ handed_codes room n s t = hand_out room n s (records_in s t)
 
 -- the answer, the table and the list after a hand-out
 pub record Handed : Type 0 where
-  pub answer : Handing
+  pub answer : Result ℕ Refusal
   pub table : List ℕ
   pub list : List ℕ
 
 abbrev pub handed_through : Result Unit Refusal → List ℕ → List ℕ → Handed → Handed
 handed_through (Ok x) t list rest = rest
-handed_through (Err r) t list rest = record { answer = handing.Refused r; table = t; list = list }
+handed_through (Err r) t list rest = record { answer = Err r; table = t; list = list }
 
 -- Hand-out: the list's first places are the codes, the later ones keep their contents
 unfoldable pub handed_open : ℕ → ℕ → List ℕ → List ℕ → Handed
 handed_open n s t list =
     record {
-      answer = handing.Codes (length (handed_codes (length list) n s t));
+      answer = Ok (length (handed_codes (length list) n s t));
       table = handed_table (length list) n s t;
       list = splice list 0 (handed_codes (length list) n s t);
     }
@@ -66,21 +64,20 @@ unfoldable pub handed : ℕ → ℕ → ℕ → List ℕ → List ℕ → Handed
 handed n s c t list = handed_through (judged n s c t) t list (handed_open n s t list)
 
 -- the paper's number of an answer, 0 for none, and its values: 1 and the command, or 0 and the instance that it waits for
-abbrev pub settling_number : Settling → ℕ
-settling_number (settling.Settled k) = 0
-settling_number (settling.Waits o j) = 0
-settling_number (settling.Refused r) = number_of r
+abbrev pub settling_number : Result Settling Refusal → ℕ
+settling_number (Ok x) = 0
+settling_number (Err r) = number_of r
 
-abbrev pub settling_values : Settling → List ℕ
-settling_values (settling.Settled k) = 1 ∷ op_number k.op ∷ k.key ∷ k.second ∷ k.edit ∷ []
-settling_values (settling.Waits o j) = 0 ∷ o ∷ j ∷ 0 ∷ 0 ∷ []
-settling_values (settling.Refused r) = 0 ∷ 0 ∷ 0 ∷ 0 ∷ 0 ∷ []
+abbrev pub settling_values : Result Settling Refusal → List ℕ
+settling_values (Ok (Settled k)) = 1 ∷ op_number k.op ∷ k.key ∷ k.second ∷ k.edit ∷ []
+settling_values (Ok (Waits i)) = 0 ∷ i.owner ∷ i.number ∷ 0 ∷ 0 ∷ []
+settling_values (Err r) = 0 ∷ 0 ∷ 0 ∷ 0 ∷ 0 ∷ []
 
 -- and how many codes
-abbrev pub handing_number : Handing → ℕ
-handing_number (handing.Codes k) = 0
-handing_number (handing.Refused r) = number_of r
+abbrev pub handing_number : Result ℕ Refusal → ℕ
+handing_number (Ok k) = 0
+handing_number (Err r) = number_of r
 
-abbrev pub handing_count : Handing → ℕ
-handing_count (handing.Codes k) = k
-handing_count (handing.Refused r) = 0
+abbrev pub handing_count : Result ℕ Refusal → ℕ
+handing_count (Ok k) = k
+handing_count (Err r) = 0

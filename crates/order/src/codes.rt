@@ -9,20 +9,14 @@ pub fn code_of(o: usize, j: usize) -> u16
     (256 * o + j) as u16
 }
 
-fn wide(code: u16) -> usize
-    ensures { result ≡ code }
-{
-    code as usize
-}
-
 pub fn owner_of(code: u16) -> usize
     ensures { result ≡ (instance_of code).0 }
 {
-    wide(code) / 256
+    usize::from(code) / 256
 }
 
 pub fn number_of(code: u16) -> usize
     ensures { result ≡ (instance_of code).1 }
 {
-    wide(code) % 256
+    usize::from(code) % 256
 }

@@ -5,12 +5,11 @@ ghost use Rattle.table.specs.Table.{Judged};
 ghost use Rattle.order.specs.States.{Marking, Listing};
 ghost use Rattle.order.specs.Calls.{marked_in, handed_table, handed_codes, handed_open, handed};
 
-use crate::Handing;
 use crate::codes::code_of;
 use crate::states::settle_all;
 use next::next_in;
+use paper::Refusal;
 use rows::slot_of;
-use rules::First;
 use sweep::reach_all;
 use table::records::put_mark;
 use table::judge_table;
@@ -39,23 +38,27 @@ fn list_all(
     ensures table { t.new ≡ handed_table (length list.old) n s t.old }
     ensures list { list.new ≡ splice list.old 0 (handed_codes (length list.old) n s t.old) }
 {
-    let mut count = 0;
-    while count < list.len() {
+    for count in 0..list.len() {
         let found = next_in(n, s, h, &*st, &mut *know, &mut *past);
-        let First::At { owner, number } = found else {
+        let Some(next) = found else {
             return count;
         };
-        let x = slot_of(owner, number);
+        let x = slot_of(next.owner, next.number);
         st[x] = 2;
-        marked_in(&mut *t, n, s, owner, number);
-        list[count] = code_of(owner, number);
-        count += 1;
+        marked_in(&mut *t, n, s, next.owner, next.number);
+        list[count] = code_of(next.owner, next.number);
     }
-    count
+    list.len()
 }
 
 // Past 1 and 11.
-fn hand_out_open(t: &mut [u8], n: usize, s: usize, c: usize, list: &mut [u16]) -> Handing
+fn hand_out_open(
+    t: &mut [u8],
+    n: usize,
+    s: usize,
+    c: usize,
+    list: &mut [u16],
+) -> Result<usize, Refusal>
     requires { Judged n s c t.old }
     ensures answers { result ≡ (handed_open n s t.old list.old).answer }
     ensures table { t.new ≡ (handed_open n s t.old list.old).table }
@@ -69,16 +72,20 @@ fn hand_out_open(t: &mut [u8], n: usize, s: usize, c: usize, list: &mut [u16]) -
     let mut know = [0u16; 448];
     let mut past = [0u8; 8];
     let count = list_all(t, n, s, &h, &mut st, &mut know, &mut past, list);
-    Handing::Codes(count)
+    Ok(count)
 }
 
-pub fn hand_out(t: &mut [u8], n: usize, s: usize, c: usize, list: &mut [u16]) -> Handing
+pub fn hand_out(
+    t: &mut [u8],
+    n: usize,
+    s: usize,
+    c: usize,
+    list: &mut [u16],
+) -> Result<usize, Refusal>
     ensures answers { result ≡ (handed n s c t.old list.old).answer }
     ensures table { t.new ≡ (handed n s c t.old list.old).table }
     ensures list { list.new ≡ (handed n s c t.old list.old).list }
 {
-    if let Err(why) = judge_table(&*t, n, s, c) {
-        return Handing::Refused(why);
-    }
+    judge_table(&*t, n, s, c)?;
     hand_out_open(t, n, s, c, list)
 }

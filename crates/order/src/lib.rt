@@ -1,7 +1,8 @@
 // The settled question and the hand-out, as public calls.
 #![tactic(auto)]
 
-use paper::{Command, Refusal};
+use paper::Command;
+use rules::Instance;
 
 pub mod codes;
 pub mod hand_out;
@@ -12,13 +13,5 @@ pub mod states;
 #[derive(Clone, Copy)]
 pub enum Settling {
     Settled(Command),
-    Waits { owner: usize, number: usize },
-    Refused(Refusal),
-}
-
-// How many codes a hand-out listed.
-#[derive(Clone, Copy)]
-pub enum Handing {
-    Codes(usize),
-    Refused(Refusal),
+    Waits(Instance),
 }

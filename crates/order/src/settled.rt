@@ -6,36 +6,45 @@ ghost use Rattle.order.specs.Calls.{settled_open, settled};
 use crate::Settling;
 use nouns::setup::instance_ok;
 use paper::Refusal;
-use rules::First;
 use search::{explore, first_open};
 use table::records::load;
 use table::judge_table;
 
 // Past 1 and 11.
-fn settled_open(t: &[u8], n: usize, s: usize, c: usize, o: usize, j: usize) -> Settling
+fn settled_open(
+    t: &[u8],
+    n: usize,
+    s: usize,
+    c: usize,
+    o: usize,
+    j: usize,
+) -> Result<Settling, Refusal>
     requires { Judged n s c t.now }
     ensures { result ≡ settled_open n s t.now o j }
 {
     if !instance_ok(n, s, o, j) {
-        return Settling::Refused(Refusal::Instance);
+        return Err(Refusal::Instance);
     }
     let mut m = [0u8; 7];
     explore(t, n, s, o, j, &mut m);
     let found = first_open(t, n, s, o, j, &m);
-    if let First::At { owner, number } = found {
-        return Settling::Waits { owner, number };
+    if let Some(first) = found {
+        return Ok(Settling::Waits(first));
     }
     let r = load(t, n, s, o, j);
-    let vote = r.vote;
-    let command = vote.command;
-    Settling::Settled(command)
+    Ok(Settling::Settled(r.vote.command))
 }
 
-pub fn settled(t: &[u8], n: usize, s: usize, c: usize, o: usize, j: usize) -> Settling
+pub fn settled(
+    t: &[u8],
+    n: usize,
+    s: usize,
+    c: usize,
+    o: usize,
+    j: usize,
+) -> Result<Settling, Refusal>
     ensures { result ≡ settled n s c t.now o j }
 {
-    if let Err(why) = judge_table(t, n, s, c) {
-        return Settling::Refused(why);
-    }
+    judge_table(t, n, s, c)?;
     settled_open(t, n, s, c, o, j)
 }

@@ -7,23 +7,21 @@ ghost use Rattle.rows.specs.Rows.{Within};
 ghost use Rattle.sweep.specs.Sweeping.{Sized};
 ghost use Rattle.order.specs.States.{Prefix, Prefixes, behind_none, Asking, Stating, RowStating, State, States, Stated};
 
-use nouns::logic::{equal, wide8};
 use rows::{mark_at, slot_of};
 use search::committed_of;
+use table::records::mark_of;
 
 // How many of owner q's first instances are committed.
 fn prefix_of(t: &[u8], n: usize, s: usize, q: usize) -> usize
     requires { Sized n s t.now × (q < n) }
     ensures { Prefix s (records_in s t.now) q result }
 {
-    let mut j = 0;
-    while j < s {
+    for j in 0..s {
         if !committed_of(t, n, s, q, j + 1) {
             return j;
         }
-        j += 1;
     }
-    j
+    s
 }
 
 fn prefix_all(t: &[u8], n: usize, s: usize, lead: &mut [u8])
@@ -42,7 +40,7 @@ fn behind_none(n: usize, h: &[u8], x: usize, lead: &[u8]) -> bool
     ensures { result ≡ behind_none n h.now x lead.now }
 {
     for q in 0..n {
-        if wide8(lead[q]) < mark_at(h, x, q) {
+        if usize::from(lead[q]) < mark_at(h, x, q) {
             return false;
         }
     }
@@ -54,7 +52,7 @@ fn marked_of(t: &[u8], n: usize, s: usize, p: usize, k: usize) -> bool
     requires { Has n s p k t.now }
     ensures { result ≡ is_marked (records_in s t.now p k) }
 {
-    equal(wide8(table::records::mark_of(t, n, s, p, k)), 1)
+    mark_of(t, n, s, p, k) == 1
 }
 
 // 0 waits, 1 settled, 2 handed out.

@@ -20,10 +20,6 @@ use Rattle.paper.specs.declared.Blame.TheVariants as blame
 use Rattle.paper.specs.declared.Refusal.{Refusal}
 use Rattle.paper.specs.declared.Refusal.TheVariants.{Setup, Room, UnknownKind, WrongLength}
 use Rattle.wire.specs.Calls.{refusal_of, unwritten, reading_number, reading_offset, Wrote, wrote, writing_number, writing_count, writing_offset}
-use Rattle.order.specs.declared.Settling.TheVariants as settling
-use Rattle.paper.specs.Command.{op_number}
-use Rattle.paper.specs.declared.Command.{Command}
-use Rattle.order.specs.Calls.{settling_values}
 use Rattle.pumxaqert.specs.Fields.{other_ballot, fields_of, read_values, message_from, same_fields, field_of, most, can_hold, carried_only, first_unheld, misfit, wrote_misfit, wrote_fields}
 
 pub other-joined : (b : Body) → (parts_in b).joined ≡ true → joined_in b ≡ other_ballot b
@@ -125,7 +121,3 @@ module _ (p : Parts) (i x : ℕ) where
 
   pub short-op : i ≡ 8 → p.second ≡ false → leb x 2 ≡ can_hold p i x
   short-op e t = rw (e, t)
-
--- a settled instance's command, as numbers
-pub settled-values : (k : Command) {a b c : ℕ} → a ≡ op_number k.op → b ≡ k.key → c ≡ k.second → (1 ∷ a ∷ b ∷ c ∷ k.edit ∷ []) ≡ settling_values (settling.Settled k)
-settled-values k p q r = λ i. 1 ∷ p i ∷ q i ∷ r i ∷ k.edit ∷ []

@@ -1,24 +1,25 @@
 // The settled question and the hand-out.
-ghost use Rattle.std.specs.Prelude.{◌≡◌};
+ghost use Rattle.std.specs.Prelude.{◌≡◌, Ok};
 ghost use Rattle.order.specs.Calls.{settled, handed, settling_number, handing_number};
 ghost use Rattle.order.specs.Calls.{settling_values, handing_count};
 
 use nouns::command::op_number;
 use nouns::refusal::number_of;
-use order::{Handing, Settling};
-use paper::Command;
+use order::Settling;
 
-fn command_values(k: Command) -> [u64; 5]
-    ensures { result ≡ settling_values (Settling.Settled k) }
+fn settling_values(answer: Settling) -> [u64; 5]
+    ensures { result ≡ settling_values (Ok answer) }
 {
-    let op = k.op;
-    [
-        1,
-        op_number(k.op) as u64,
-        u64::from(k.key),
-        u64::from(k.second),
-        k.edit,
-    ]
+    match answer {
+        Settling::Settled(k) => [
+            1,
+            op_number(k.op) as u64,
+            u64::from(k.key),
+            u64::from(k.second),
+            k.edit,
+        ],
+        Settling::Waits(first) => [0, first.owner as u64, first.number as u64, 0, 0],
+    }
 }
 
 #[unsafe(no_mangle)]
@@ -36,18 +37,11 @@ pub extern "C" fn pumxaqert_settled(
 {
     let x = order::settled::settled(table, n, s, c, owner, number);
     match x {
-        Settling::Settled(k) => {
-            *values = command_values(k);
+        Ok(answer) => {
+            *values = settling_values(answer);
             0
         }
-        Settling::Waits {
-            owner: o,
-            number: j,
-        } => {
-            *values = [0, o as u64, j as u64, 0, 0];
-            0
-        }
-        Settling::Refused(why) => {
+        Err(why) => {
             *values = [0, 0, 0, 0, 0];
             number_of(why)
         }
@@ -70,11 +64,11 @@ pub extern "C" fn pumxaqert_hand_out(
 {
     let x = order::hand_out::hand_out(table, n, s, c, list);
     match x {
-        Handing::Codes(k) => {
+        Ok(k) => {
             *codes = k;
             0
         }
-        Handing::Refused(why) => {
+        Err(why) => {
             *codes = 0;
             number_of(why)
         }

@@ -1,5 +1,6 @@
 -- What is reached, settled and handed out goes by the records of the setup's instances alone; what is reached and settled, by
 -- their votes. Assumes nothing.
+use Rattle.std.specs.Prelude.{Option, Some, None}
 use Prim.Native.Nat.{ℕ, zero, suc, ◌*◌}
 use mathlib.Core.Path.{◌≡◌, refl, ap, ap₂}
 use mathlib.Core.Bool.{Bool, true, false, ◌&&◌, ◌||◌, not, cond}
@@ -8,11 +9,10 @@ use native.Mathlib.Omega.{arith}
 use lib.Dec.{eqb}
 use Rattle.paper.specs.Logic.{implies}
 use Rattle.paper.specs.declared.Record.{Record}
-use Rattle.rules.specs.declared.First.{First}
-use Rattle.rules.specs.declared.First.TheVariants.{At, Nowhere}
+use Rattle.rules.specs.declared.Instance.{Instance}
 use Rattle.rules.specs.Seen.{Records}
 use Rattle.rules.specs.Events.{put}
-use Rattle.rules.specs.Order.{somewhere, covers_in, reaches_in, reaches, waits_for, is_settled, is_marked, candidate, marked, mark, next_out, code_of, found, hand_out}
+use Rattle.rules.specs.Order.{instance, somewhere, covers_in, reaches_in, reaches, waits_for, is_settled, is_marked, candidate, marked, mark, next_out, code_of, found, hand_out}
 use Rattle.reach.specs.High.{Inst}
 use Rattle.reach.proofs.Tests.{and_l, and_r, eqb-eq}
 use Rattle.reach.proofs.First.{first-same, every-same}
@@ -84,7 +84,7 @@ hand_out-same zero n s t u same = refl
 hand_out-same (suc room) n s t u same =
     rw (next-same n s t u same) (go (next_out n s u) (λ o j. hand_out-same room n s (mark t o j) (mark u o j) (mark-same n s t u same o j)))
   where
-    go : (x : First) → ((o j : ℕ) → hand_out room n s (mark t o j) ≡ hand_out room n s (mark u o j))
+    go : (x : Option Instance) → ((o j : ℕ) → hand_out room n s (mark t o j) ≡ hand_out room n s (mark u o j))
         → found x [] (λ o j. code_of o j ∷ hand_out room n s (mark t o j)) ≡ found x [] (λ o j. code_of o j ∷ hand_out room n s (mark u o j))
-    go Nowhere more = refl
-    go (At o j) more = ap (λ (l : List ℕ). code_of o j ∷ l) (more o j)
+    go None more = refl
+    go (Some i) more = ap (λ (l : List ℕ). code_of i.owner i.number ∷ l) (more i.owner i.number)

@@ -1,5 +1,5 @@
 -- "Examples" W1 to W10, and the errors that look reasonable, as one statement about the rules. Assumes nothing.
-use Rattle.std.specs.Prelude.{ℕ, ◌≡◌, true, List, [], ◌∷◌, replicate}
+use Rattle.std.specs.Prelude.{ℕ, ◌≡◌, true, List, [], ◌∷◌, replicate, Some, None}
 use Rattle.paper.specs.Vote.{blank, no_vote}
 use Rattle.paper.specs.Deps.{no_deps}
 use Rattle.paper.specs.declared.Op.TheVariants.{Read, Write}
@@ -10,12 +10,11 @@ use Rattle.paper.specs.declared.Record.{Record}
 use Rattle.paper.specs.declared.Message.{Message}
 use Rattle.paper.specs.declared.Body.TheVariants.{PreAccept, PreAcceptOk, Accept, Prepare, PrepareOk}
 use Rattle.rules.specs.declared.Step.{Step}
-use Rattle.rules.specs.declared.First.TheVariants.{At, Nowhere}
 use Rattle.rules.specs.Seen.{Records}
 use Rattle.rules.specs.Events.{put, on_request, on_message, on_recover, addressed, messages}
 use Rattle.rules.specs.Recover.{out_of_ballots}
 use Rattle.rules.specs.PrepareOk.{decide}
-use Rattle.rules.specs.Order.{hand_out, first_open}
+use Rattle.rules.specs.Order.{instance, hand_out, first_open}
 
 -- a write of key 7
 abbrev pub write : ℕ → Command
@@ -126,7 +125,7 @@ pub record Worked : Type 0 where
   -- what is covered goes out before
   pub W9 : hand_out 4 3 4 (put (put blanks 0 1 (committed (deps3 0 0 1))) 2 1 (committed no_deps)) ≡ 513 ∷ 1 ∷ []
   -- a gap holds up what covers it
-  pub W10 : first_open 3 4 (put cycle 2 1 (committed (deps3 2 1 0))) 2 1 ≡ At 0 2
+  pub W10 : first_open 3 4 (put cycle 2 1 (committed (deps3 2 1 0))) 2 1 ≡ Some (instance 0 2)
   -- a copy that joined 10 and voted at 0 tells 0, and not 10
   pub told-voted : (on_message interfere 3 4 1 (put blanks 0 1 voted) prepare).message.body ≡ PrepareOk 0 2 (write 100)
   -- a repeated PreAccept is answered with the stored dependencies, though copy 1 has since seen its own write
@@ -161,7 +160,7 @@ pub record Reads : Type 0 where
   pub second : (answered_read 1 0 1 1).vote ≡ record { voted = 0; status = 4; command = read 1; deps = no_deps }
   -- neither waits for the other, which is open there
   pub open-there : ((answered_read 0 1 1 1).vote.status ≡ 2) × ((answered_read 1 0 0 1).vote.status ≡ 2)
-  pub settled : (first_open 3 4 (answered_read 0 1) 0 1 ≡ Nowhere) × (first_open 3 4 (answered_read 1 0) 1 1 ≡ Nowhere)
+  pub settled : (first_open 3 4 (answered_read 0 1) 0 1 ≡ None) × (first_open 3 4 (answered_read 1 0) 1 1 ≡ None)
   pub handed : (hand_out 4 3 4 (answered_read 0 1) ≡ 1 ∷ []) × (hand_out 4 3 4 (answered_read 1 0) ≡ 257 ∷ [])
   -- a write of that key waits for both
   pub write-waits : (on_request interfere 3 4 0 (answered_read 0 1) (write 5)).message.deps ≡ deps3 1 1 0
@@ -192,6 +191,6 @@ pub record Rewires : Type 0 where
   -- and an edit of either net after it, though not after the other net's edit
   pub after : ((on_request interfere 3 4 0 rewired (on_one Read 7 8)).message.deps ≡ deps3 1 0 1) × ((on_request interfere 3 4 1 rewired (on_one Write 9 8)).message.deps ≡ deps3 0 1 1)
   -- so it is not settled before both are committed
-  pub first-net : first_open 3 4 (settling nets) 2 1 ≡ At 0 1
-  pub second-net : first_open 3 4 (settling (put nets 0 1 (done (write 100) no_deps))) 2 1 ≡ At 1 1
+  pub first-net : first_open 3 4 (settling nets) 2 1 ≡ Some (instance 0 1)
+  pub second-net : first_open 3 4 (settling (put nets 0 1 (done (write 100) no_deps))) 2 1 ≡ Some (instance 1 1)
   pub both-nets : hand_out 4 3 4 (settling (put (put nets 0 1 (done (write 100) no_deps)) 1 1 (done (on_one Write 9 6) no_deps))) ≡ 1 ∷ 257 ∷ 513 ∷ []

@@ -1,11 +1,10 @@
 -- "Settled and handed out". Assumes nothing.
-use Rattle.std.specs.Prelude.{ℕ, zero, suc, ◌+◌, ◌*◌, ◌/◌, ◌%◌, Bool, false, ◌&&◌, ◌||◌, not, cond, List, [], ◌∷◌, eqb}
+use Rattle.std.specs.Prelude.{ℕ, zero, suc, ◌+◌, ◌*◌, ◌/◌, ◌%◌, Bool, false, ◌&&◌, ◌||◌, not, cond, List, [], ◌∷◌, eqb, Option, Some, None}
 use Rattle.paper.specs.Logic.{implies, all_below}
 use Rattle.paper.specs.Instance.{instance_ok}
 use Rattle.paper.specs.Deps.{covers}
 use Rattle.paper.specs.declared.Record.{Record}
-use Rattle.rules.specs.declared.First.{First}
-use Rattle.rules.specs.declared.First.TheVariants.{At, Nowhere}
+use Rattle.rules.specs.declared.Instance.{Instance}
 use Rattle.rules.specs.Seen.{Records}
 use Rattle.rules.specs.Step.{is_committed}
 use Rattle.rules.specs.Events.{put}
@@ -17,17 +16,20 @@ everywhere n s f = all_below n (λ o. all_below s (λ i. f o (i + 1)))
 unfoldable pub somewhere : ℕ → ℕ → (ℕ → ℕ → Bool) → Bool
 somewhere n s f = not (everywhere n s (λ o j. not (f o j)))
 
+abbrev pub instance : ℕ → ℕ → Instance
+instance o j = record { owner = o; number = j }
+
 -- the first owner from o on, among k, at number j; else what comes after
-unfoldable pub first_owner : ℕ → ℕ → ℕ → (ℕ → ℕ → Bool) → First → First
+unfoldable pub first_owner : ℕ → ℕ → ℕ → (ℕ → ℕ → Bool) → Option Instance → Option Instance
 first_owner zero o j f later = later
-first_owner (suc k) o j f later = cond (f o j) (At o j) (first_owner k (o + 1) j f later)
+first_owner (suc k) o j f later = cond (f o j) (Some (instance o j)) (first_owner k (o + 1) j f later)
 
 -- the first instance, by number, then owner, from number j on, among k
-unfoldable pub first_number : ℕ → ℕ → ℕ → (ℕ → ℕ → Bool) → First
-first_number zero n j f = Nowhere
+unfoldable pub first_number : ℕ → ℕ → ℕ → (ℕ → ℕ → Bool) → Option Instance
+first_number zero n j f = None
 first_number (suc k) n j f = first_owner n 0 j f (first_number k n (j + 1) f)
 
-abbrev pub first : ℕ → ℕ → (ℕ → ℕ → Bool) → First
+abbrev pub first : ℕ → ℕ → (ℕ → ℕ → Bool) → Option Instance
 first n s f = first_number s n 1 f
 
 -- p.k covers o.j by the dependencies it holds at the moment
@@ -48,8 +50,8 @@ reaches n s t p k o j = reaches_in (n * s) n s t p k o j
 unfoldable pub waits_for : ℕ → ℕ → Records → ℕ → ℕ → ℕ → ℕ → Bool
 waits_for n s t p k o j = ((eqb o p && eqb j k) || reaches n s t p k o j) && not (is_committed (t o j))
 
--- what it waits for: the first that is open of all that it reaches, itself too; nowhere once it is settled
-unfoldable pub first_open : ℕ → ℕ → Records → ℕ → ℕ → First
+-- what it waits for: the first that is open of all that it reaches, itself too; none once it is settled
+unfoldable pub first_open : ℕ → ℕ → Records → ℕ → ℕ → Option Instance
 first_open n s t p k = first n s (waits_for n s t p k)
 
 unfoldable pub is_settled : ℕ → ℕ → Records → ℕ → ℕ → Bool
@@ -71,7 +73,7 @@ abbrev pub mark : Records → ℕ → ℕ → Records
 mark t o j = put t o j (marked (t o j))
 
 -- the lowest candidate
-unfoldable pub next_out : ℕ → ℕ → Records → First
+unfoldable pub next_out : ℕ → ℕ → Records → Option Instance
 next_out n s t = first n s (candidate n s t)
 
 -- the code of an instance, 256 x owner + number, and the instance that a code names
@@ -81,9 +83,9 @@ code_of o j = 256 * o + j
 abbrev pub instance_of : ℕ → ℕ × ℕ
 instance_of code = (code / 256, code % 256)
 
-abbrev pub found : {A : Type 0} → First → A → (ℕ → ℕ → A) → A
-found Nowhere none f = none
-found (At o j) none f = f o j
+abbrev pub found : {A : Type 0} → Option Instance → A → (ℕ → ℕ → A) → A
+found None none f = none
+found (Some i) none f = f i.owner i.number
 
 -- one place at a time, until the list is full or none is left
 unfoldable pub hand_out : ℕ → ℕ → ℕ → Records → List ℕ

@@ -1,6 +1,6 @@
 -- "What each event does", rule by rule in numbers: the record, the destinations and the message of a case that tells the rule from
 -- its neighbours. Demand 3 holds of many wrong rules; each of them breaks a line here. Assumes nothing.
-use Rattle.std.specs.Prelude.{ℕ, ◌≡◌, true, false, List, [], ◌∷◌, replicate}
+use Rattle.std.specs.Prelude.{ℕ, ◌≡◌, true, false, List, [], ◌∷◌, replicate, Some, None}
 use Rattle.paper.specs.Command.{noop, on_one, same_object, interfere}
 use Rattle.paper.specs.Vote.{no_vote}
 use Rattle.paper.specs.Deps.{no_deps}
@@ -13,14 +13,13 @@ use Rattle.paper.specs.declared.Message.{Message}
 use Rattle.paper.specs.declared.Body.{Body}
 use Rattle.paper.specs.declared.Body.TheVariants.{PreAccept, PreAcceptOk, Accept, AcceptOk, Commit, Prepare, PrepareOk, Nack}
 use Rattle.rules.specs.declared.Step.{Step}
-use Rattle.rules.specs.declared.First.TheVariants.{At, Nowhere}
 use Rattle.rules.specs.Seen.{Records, seen}
 use Rattle.rules.specs.Request.{request}
 use Rattle.rules.specs.Recover.{recover}
 use Rattle.rules.specs.Nudge.{nothing_to_nudge, nudge}
 use Rattle.rules.specs.Received.{receive, refused10}
 use Rattle.rules.specs.Events.{put, on_request, on_message}
-use Rattle.rules.specs.Order.{first_open, is_settled, hand_out}
+use Rattle.rules.specs.Order.{instance, first_open, is_settled, hand_out}
 use Rattle.rules.specs.Examples.{write, deps3, blanks, added, votes, committed, cycle, read}
 
 -- a different entry for each owner, and one that is larger at the last place
@@ -244,17 +243,17 @@ gaps = put (put blanks 2 1 (committed (deps3 2 1 0))) 0 1 (committed no_deps)
 
 pub record Orders : Type 0 where
   -- the search goes on through what is open
-  pub through-open : first_open 3 4 open_between 0 3 ≡ At 2 1
+  pub through-open : first_open 3 4 open_between 0 3 ≡ Some (instance 2 1)
   -- by number, then owner
-  pub number-first : first_open 3 4 gaps 2 1 ≡ At 1 1
+  pub number-first : first_open 3 4 gaps 2 1 ≡ Some (instance 1 1)
   pub lists-number-first : hand_out 4 3 4 (put (put blanks 0 2 (committed no_deps)) 1 1 (committed no_deps)) ≡ 257 ∷ 2 ∷ []
   -- what is open waits for itself; what is committed does not wait for what it does not cover
-  pub waits-itself : first_open 3 4 (put blanks 0 1 (ongoing no_deps)) 0 1 ≡ At 0 1
-  pub waits-no-other : first_open 3 4 (put blanks 0 2 (committed no_deps)) 0 2 ≡ Nowhere
+  pub waits-itself : first_open 3 4 (put blanks 0 1 (ongoing no_deps)) 0 1 ≡ Some (instance 0 1)
+  pub waits-no-other : first_open 3 4 (put blanks 0 2 (committed no_deps)) 0 2 ≡ None
   -- its own number among its dependencies is not itself
-  pub own-number : first_open 3 4 (put (put blanks 0 1 (committed no_deps)) 0 2 (committed (deps3 2 0 0))) 0 2 ≡ Nowhere
+  pub own-number : first_open 3 4 (put (put blanks 0 1 (committed no_deps)) 0 2 (committed (deps3 2 0 0))) 0 2 ≡ None
   -- an entry names its owner's whole row up to it
-  pub whole_row : first_open 3 4 (put (put blanks 1 2 (committed no_deps)) 0 1 (committed (deps3 0 2 0))) 0 1 ≡ At 1 1
+  pub whole_row : first_open 3 4 (put (put blanks 1 2 (committed no_deps)) 0 1 (committed (deps3 0 2 0))) 0 1 ≡ Some (instance 1 1)
   pub settled-cycle : is_settled 3 4 cycle 0 1 ≡ true
   -- a list ends with its room, and names nothing twice or that waits
   pub room-ends : hand_out 1 3 4 cycle ≡ 1 ∷ []

@@ -12,9 +12,9 @@ pub struct Step {
     pub message: Message,
 }
 
-// The instance that comes first among those looked for, if there is one.
-#[derive(Clone, Copy)]
-pub enum First {
-    At { owner: usize, number: usize },
-    Nowhere,
+// Whose row an instance is in, and its number there.
+#[derive(Clone, Copy, Debug, PartialEq, Eq)]
+pub struct Instance {
+    pub owner: usize,
+    pub number: usize,
 }

@@ -5,8 +5,8 @@ use crate::told::{Outcome, Told, said};
 use nouns::command::op_number;
 use nouns::logic::{wide16, wide32};
 use nouns::setup::INSTANCES;
-use order::{Handing, Settling};
-use paper::Command;
+use order::Settling;
+use paper::{Command, Refusal};
 use text::bytes::size;
 use text::put::{Text, bad_line, empty, put_bytes, put_form, put_number};
 
@@ -16,15 +16,15 @@ fn put_settled(k: Command) -> Text {
     put_form(empty(), b"= settled # # # #", v)
 }
 
-fn put_settling(answer: Settling) -> Text {
+fn put_settling(answer: Result<Settling, Refusal>) -> Text {
     match answer {
-        Settling::Settled(k) => put_settled(k),
-        Settling::Waits { owner, number } => put_form(
+        Ok(Settling::Settled(k)) => put_settled(k),
+        Ok(Settling::Waits(first)) => put_form(
             empty(),
             b"= waits # #",
-            [owner, number, 0, 0],
+            [first.owner, first.number, 0, 0],
         ),
-        Settling::Refused(why) => put_no(why),
+        Err(why) => put_no(why),
     }
 }
 
@@ -55,10 +55,16 @@ fn put_listed(list: &[u16], k: usize) -> Text {
 }
 
 // The marks go into the journal.
-fn handed(w: Told, answer: Handing, t: &[u8], d: &mut [u8], list: &[u16]) -> Outcome {
+fn handed(
+    w: Told,
+    answer: Result<usize, Refusal>,
+    t: &[u8],
+    d: &mut [u8],
+    list: &[u16],
+) -> Outcome {
     match answer {
-        Handing::Codes(k) => said(put_listed(list, k), keep_marks(w, t, d, list, k)),
-        Handing::Refused(why) => said(put_no(why), w),
+        Ok(k) => said(put_listed(list, k), keep_marks(w, t, d, list, k)),
+        Err(why) => said(put_no(why), w),
     }
 }
 

@@ -1,14 +1,14 @@
 -- A hand-out is a run of mark moves: the list that it fills is the order of the marks, and the table has them. Assumes nothing.
 -- A cut between two saves leaves what a hand-out into a shorter list would.
+use Rattle.std.specs.Prelude.{Option, Some, None}
 use Prim.Native.Nat.{ℕ, zero, suc, ◌≤◌, ◌<◌}
 use mathlib.Core.Path.{◌≡◌, refl, sym, ap, ◌∙◌}
 use mathlib.Core.List.{List, [], ◌∷◌, ◌++◌, append_assoc, append-nil}
 use native.Mathlib.Omega.{arith}
 use lib.ListN.{take}
-use Rattle.rules.specs.declared.First.{First}
-use Rattle.rules.specs.declared.First.TheVariants.{At, Nowhere}
+use Rattle.rules.specs.declared.Instance as rules
 use Rattle.rules.specs.Seen.{Records}
-use Rattle.rules.specs.Order.{next_out, code_of, found, hand_out, handed_out, mark}
+use Rattle.rules.specs.Order.{instance, next_out, code_of, found, hand_out, handed_out, mark}
 use Rattle.safety.specs.Run.{Instance, State, replaced, marked, Run, stay, further}
 use Rattle.safety.specs.Run.{hand_out as mv-hand_out}
 use Rattle.reach.proofs.Tests.{eqb_same}
@@ -39,8 +39,8 @@ unfolding hand_out handed_out
 hands_out n s c lc zero x = record { later = x; run = stay; table = refl; added = []; marks = sym (append-nil (x.marks c)); codes = refl }
 hands_out n s c lc (suc room) x = go (next_out n s (x.tables c)) refl (hands_out n s c lc room)
   where
-    go : (f : First) → next_out n s (x.tables c) ≡ f → ((y : State) → Handed n s c room y) → Handed n s c (suc room) x
-    go Nowhere e ih = record {
+    go : (f : Option rules.Instance) → next_out n s (x.tables c) ≡ f → ((y : State) → Handed n s c room y) → Handed n s c (suc room) x
+    go None e ih = record {
       later = x;
       run = stay;
       table = rw e refl;
@@ -48,16 +48,16 @@ hands_out n s c lc (suc room) x = go (next_out n s (x.tables c)) refl (hands_out
       marks = sym (append-nil (x.marks c));
       codes = rw e refl;
     }
-    go (At o j) e ih =
-        let h = ih (marked x c o j) in
-        let t : (marked x c o j).tables c ≡ mark (x.tables c) o j = replaced-here x.tables c (mark (x.tables c) o j) in
+    go (Some i) e ih =
+        let h = ih (marked x c i.owner i.number) in
+        let t : (marked x c i.owner i.number).tables c ≡ mark (x.tables c) i.owner i.number = replaced-here x.tables c (mark (x.tables c) i.owner i.number) in
         record {
           later = h.later;
-          run = run_on (further stay (mv-hand_out c o j lc e)) h.run;
+          run = run_on (further stay (mv-hand_out c i.owner i.number lc e)) h.run;
           table = rw e (h.table ∙ ap (handed_out room n s) t);
-          added = (o, j) ∷ h.added;
-          marks = h.marks ∙ ap (λ (l : List Instance). l ++ h.added) (replaced-here x.marks c (x.marks c ++ (o, j) ∷ [])) ∙ append_assoc (x.marks c) ((o, j) ∷ []) h.added;
-          codes = rw e (ap (λ (l : List ℕ). code_of o j ∷ l) (h.codes ∙ ap (hand_out room n s) t));
+          added = (i.owner, i.number) ∷ h.added;
+          marks = h.marks ∙ ap (λ (l : List Instance). l ++ h.added) (replaced-here x.marks c (x.marks c ++ (i.owner, i.number) ∷ [])) ∙ append_assoc (x.marks c) ((i.owner, i.number) ∷ []) h.added;
+          codes = rw e (ap (λ (l : List ℕ). code_of i.owner i.number ∷ l) (h.codes ∙ ap (hand_out room n s) t));
         }
 
 -- the first k codes are those of a list with room for k
@@ -67,7 +67,7 @@ shorter zero room n s t l = refl
 shorter (suc k) zero n s t l = absurd (omega arith)
 shorter (suc k) (suc room) n s t l = go (next_out n s t) (λ u. shorter k room n s u (omega arith))
   where
-    go : (f : First) → ((u : Records) → take k (hand_out room n s u) ≡ hand_out k n s u)
+    go : (f : Option rules.Instance) → ((u : Records) → take k (hand_out room n s u) ≡ hand_out k n s u)
         → take (suc k) (found f [] (λ o j. code_of o j ∷ hand_out room n s (mark t o j))) ≡ found f [] (λ o j. code_of o j ∷ hand_out k n s (mark t o j))
-    go Nowhere ih = refl
-    go (At o j) ih = ap (λ (l : List ℕ). code_of o j ∷ l) (ih (mark t o j))
+    go None ih = refl
+    go (Some i) ih = ap (λ (l : List ℕ). code_of i.owner i.number ∷ l) (ih (mark t i.owner i.number))

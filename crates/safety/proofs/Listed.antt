@@ -1,4 +1,5 @@
 -- What a copy listed is what its table marks, and nothing is listed twice. Assumes nothing.
+use Rattle.std.specs.Prelude.{Some}
 use Prim.Native.Nat.{ℕ, ◌%◌, ◌/◌, ◌<◌}
 use mathlib.Core.Path.{◌≡◌, refl, sym, ap, subst, ◌∙◌}
 use mathlib.Core.Logic.{◌⊎◌, inl, inr, ⊎_elim}
@@ -9,8 +10,7 @@ use native.Mathlib.Omega.{arith}
 use native.Mathlib.Decide.{ℕ_discrete}
 use Rattle.paper.specs.Instance.{instance_ok}
 use Rattle.reach.proofs.Tests.{eqb_same, eqb-false}
-use Rattle.rules.specs.declared.First.TheVariants.{At}
-use Rattle.rules.specs.Order.{is_marked, candidate, next_out}
+use Rattle.rules.specs.Order.{instance, is_marked, candidate, next_out}
 use Rattle.safety.specs.Run.{Instance, State, replaced, Start, blanks, request, receive, recover, nudge, hand_out, question, Run, stay, further}
 use Rattle.safety.specs.Demand.{Before}
 use Rattle.safety.proofs.Case.{Case, code, code-owner, code-number, in-range}
@@ -47,7 +47,7 @@ module _ (n s : ℕ) (lim : n < 8) where
       (Memᴰ.append_cases (x.marks c) (rw (eqb_same a c z) at h))
   added c o j a x i (no z) h = inl (rw (eqb-false a c z) at h)
 
-  out-range : (x : State) (c o j : ℕ) → next_out n s (x.tables c) ≡ At o j → instance_ok n s o j ≡ true
+  out-range : (x : State) (c o j : ℕ) → next_out n s (x.tables c) ≡ Some (instance o j) → instance_ok n s o j ≡ true
   unfolding next_out
   out-range x c o j e = let (lo, l1, l2, cd, lw) = at_first n (omega (arith, lim)) (candidate n s (x.tables c)) s 1 o j e in in-range n s o j lo l1 (omega (arith, l2))
 

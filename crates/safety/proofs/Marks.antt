@@ -1,4 +1,5 @@
 -- What a hand-out lists next is what the model marks next. Assumes nothing.
+use Rattle.std.specs.Prelude.{Some}
 use Prim.Native.Nat.{ℕ, zero, suc, ◌*◌, ◌/◌, ◌%◌, ◌≤◌, ◌<◌}
 use mathlib.Core.Path.{◌≡◌, refl, sym, ap, subst, ◌∙◌}
 use mathlib.Core.Logic.{◌⊎◌, inl, inr, ⊎_elim}
@@ -13,10 +14,9 @@ use Rattle.paper.specs.Logic.{implies}
 use Rattle.paper.specs.Instance.{instance_ok}
 use Rattle.paper.specs.Deps.{covers}
 use Rattle.paper.specs.declared.Record.{Record}
-use Rattle.rules.specs.declared.First.TheVariants.{At}
 use Rattle.rules.specs.Seen.{Records}
 use Rattle.rules.specs.Step.{is_committed}
-use Rattle.rules.specs.Order.{everywhere, covers_in, reaches_in, reaches, waits_for, is_settled, is_marked, candidate, next_out}
+use Rattle.rules.specs.Order.{instance, everywhere, covers_in, reaches_in, reaches, waits_for, is_settled, is_marked, candidate, next_out}
 use Rattle.rules.specs.Order.{marked as with-mark}
 use Rattle.safety.specs.Run.{State, replaced, marked}
 use Rattle.reach.proofs.Tests.{tf, bool, and_l, and_r, and_in, not-not, not-true, or_cases, eqb-eq, eqb_same, eqb-false, leb-le, leb-in}
@@ -215,7 +215,7 @@ module _ {C : Case} {x : State} (tie : Tie C x) (c : ℕ) (lc : c < copies C) wh
               back z = ⊎_elim (λ q. tf (Found K I) (rw q (rw q at e)) f) (λ q. tf (Found K I) q f) (reach-found K I (star-in I K i p) z)
 
   -- the mark that is saved is the one that the model sets
-  pub mark-next : (o j : ℕ) → next_out N s t ≡ At o j → Next tie (marked x c o j)
+  pub mark-next : (o j : ℕ) → next_out N s t ≡ Some (instance o j) → Next tie (marked x c o j)
   unfolding next_out
   mark-next o j e =
       let (lo, l1, l2, cd, lw) = at_first N (omega arith) (candidate N s t) s 1 o j e in

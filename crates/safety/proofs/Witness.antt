@@ -1,6 +1,7 @@
 -- The demand is not empty: scripts of three copies that commit and hand out, played by the rules. Assumes nothing.
+use Rattle.std.specs.Prelude.{Option, Some, None}
 use Prim.Native.Nat.{ℕ, zero, suc, ◌^◌, ◌<◌}
-use mathlib.Core.Path.{◌≡◌, refl}
+use mathlib.Core.Path.{◌≡◌, refl, ap₂}
 use mathlib.Core.Bool.{Bool, true, false, ◌&&◌, not}
 use mathlib.Core.List.{List, [], ◌∷◌, ◌++◌, Memᴰ}
 use native.Mathlib.Omega.{arith}
@@ -19,8 +20,7 @@ use Rattle.paper.specs.Valid.{valid, first_failing, first_of, holds_of, entry_cl
 use Rattle.paper.specs.declared.Op.TheVariants.{Read, Write}
 use Rattle.paper.specs.declared.Command.{Command}
 use Rattle.paper.specs.declared.Message.{Message}
-use Rattle.rules.specs.declared.First.{First}
-use Rattle.rules.specs.declared.First.TheVariants.{At, Nowhere}
+use Rattle.rules.specs.declared.Instance.{Instance}
 use Rattle.rules.specs.Sets.{bits_below, others, absent, lowest_from, largest_below, highest}
 use Rattle.rules.specs.Step.{is_committed, collect, awaited, commit_back, nack_back}
 use Rattle.rules.specs.Seen.{met, seen_entry, seen_from}
@@ -40,7 +40,7 @@ use Rattle.rules.specs.Recover.{out_of_ballots}
 use Rattle.rules.specs.Nudge.{nothing_to_nudge, again}
 use Rattle.rules.specs.Received.{by_kind, conflict, refused10}
 use Rattle.rules.specs.Events.{put, request_number, on_request, on_message, on_recover, on_nudge, messages_from, messages}
-use Rattle.rules.specs.Order.{everywhere, somewhere, first_owner, first_number, covers_in, reaches_in, reaches, waits_for, first_open, is_settled, candidate, next_out, found}
+use Rattle.rules.specs.Order.{instance, everywhere, somewhere, first_owner, first_number, covers_in, reaches_in, reaches, waits_for, first_open, is_settled, candidate, next_out, found}
 use Rattle.safety.specs.Run.{Happening, requested, answered, Settling, settled, waits, unknown, settling, State, begun, Start, blanks, save_of, saved, happened, marked, Move, request, receive, recover, nudge, hand_out, question, Run, stay, further}
 use Rattle.safety.specs.Demand.{Committed}
 use Rattle.reach.proofs.Tests.{clash, and_l, and_r, not-not, eqb-eq, leb-le, ltb-lt}
@@ -87,9 +87,9 @@ module _ (n s : ℕ) where
   mem-at (m ∷ l) zero d h = Memᴰ.head refl
   mem-at (m ∷ l) (suc i) d h = Memᴰ.tail (mem-at l i d (omega arith))
 
-  at-found : (f : First) (o j : ℕ) → found f false (λ p i. eqb p o && eqb i j) ≡ true → f ≡ At o j
-  at-found Nowhere o j h = clash (cc)
-  at-found (At p i) o j h = λ k. At (eqb-eq p o (and_l _ (eqb i j) h) k) (eqb-eq i j (and_r (eqb p o) _ h) k)
+  at-found : (f : Option Instance) (o j : ℕ) → found f false (λ p i. eqb p o && eqb i j) ≡ true → f ≡ Some (instance o j)
+  at-found None o j h = clash (cc)
+  at-found (Some x) o j h = ap₂ (λ (p i : ℕ). Some (instance p i)) (eqb-eq x.owner o (and_l _ (eqb x.number j) h)) (eqb-eq x.number j (and_r (eqb x.owner o) _ h))
 
   fair-move : (w : Interference) → Wide w → (x : State) (e : Line) → fair x e ≡ true → Move n s x (after w x e)
   fair-move w wide x (ask c k) h =

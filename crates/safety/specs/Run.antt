@@ -1,6 +1,6 @@
 -- A run of N copies: what stands saved, and every move that can change it. Assumes nothing.
 -- In all of this n, s is the setup and c a copy.
-use Rattle.std.specs.Prelude.{ℕ, ◌≤◌, ◌<◌, ◌≡◌, true, false, cond, eqb}
+use Rattle.std.specs.Prelude.{ℕ, ◌≤◌, ◌<◌, ◌≡◌, true, false, cond, eqb, Some}
 use mathlib.Core.List.{List, [], ◌∷◌, ◌++◌, Memᴰ}
 use Rattle.paper.specs.Setup.{copies_ok, numbers_ok}
 use Rattle.paper.specs.Instance.{instance_ok}
@@ -11,14 +11,13 @@ use Rattle.paper.specs.declared.Command.{Command}
 use Rattle.paper.specs.declared.Record.{Record}
 use Rattle.paper.specs.declared.Message.{Message}
 use Rattle.rules.specs.declared.Step.{Step}
-use Rattle.rules.specs.declared.First.TheVariants.{At}
 use Rattle.rules.specs.Seen.{Records}
 use Rattle.rules.specs.Step.{is_committed}
 use Rattle.rules.specs.Received.{refused10}
 use Rattle.rules.specs.Recover.{out_of_ballots}
 use Rattle.rules.specs.Nudge.{nothing_to_nudge}
 use Rattle.rules.specs.Events.{put, request_number, on_request, on_message, on_recover, on_nudge, messages}
-use Rattle.rules.specs.Order.{found, first_open, next_out}
+use Rattle.rules.specs.Order.{instance, found, first_open, next_out}
 use Rattle.rules.specs.Order as order
 
 -- an instance: owner, number
@@ -136,7 +135,7 @@ pub data Move (n s : ℕ) (x : State) : State → Type 0 where
       → Among out (messages (on_nudge n c (x.tables c) o j))
       → Move n s x (saved x c (save_of o j (on_nudge n c (x.tables c) o j)) out)
   -- what a hand-out lists next
-  hand_out : (c o j : ℕ) → c < n → next_out n s (x.tables c) ≡ At o j → Move n s x (marked x c o j)
+  hand_out : (c o j : ℕ) → c < n → next_out n s (x.tables c) ≡ Some (instance o j) → Move n s x (marked x c o j)
   -- whether o.j is settled, at any moment and of any instance
   question : (c o j : ℕ) → c < n → Move n s x (happened x (answered c o j (settling n s (x.tables c) o j)))
 

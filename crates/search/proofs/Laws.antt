@@ -16,14 +16,14 @@ use Rattle.search.specs.Searching.{Searching, Asked}
 
 -- the mark of q against the entry of q, as they were compared
 module _ (s : ℕ) (t : List ℕ) (p k q : ℕ) (r : List ℕ) {d : List ℕ} (ed : d ≡ (records_in s t p k).vote.deps)
-    {a b : ℕ} (ra : a ≡ get_or r q 0) (rb : b ≡ get_or d q 0) where
+    {a : ℕ} (ra : a ≡ get_or r q 0) where
   entry_read : get_or d q 0 ≡ entry_of (records_in s t) p k q
   entry_read = rw ed
 
-  pub above : a < b → get_or r q 0 + 1 ≤ entry_of (records_in s t) p k q
+  pub above : a < get_or d q 0 → get_or r q 0 + 1 ≤ entry_of (records_in s t) p k q
   above l = omega (arith, entry_read)
 
-  pub reached : b ≤ a → entry_of (records_in s t) p k q ≤ get_or r q 0
+  pub reached : get_or d q 0 ≤ a → entry_of (records_in s t) p k q ≤ get_or r q 0
   reached l = omega (arith, entry_read)
 
 pub inst : (n s o j : ℕ) → Names n s o j → Inst n s o j
@@ -57,10 +57,3 @@ module _ (n s : ℕ) (t : List ℕ) (p k : ℕ) (m : List ℕ) (h : Searching n 
     -- the loop's measure falls
     pub shrinks : (y : ℕ) (u : List ℕ) → Explored n s (records_in s t) q y n (set r q x) u → unvisited n s u < unvisited n s r
     shrinks y u v = omega (arith, unvisited-raised r q x marks-long ex n s lq last, unvisited-kept n s (set r q x) u v.kept)
-
--- the walk over what was visited
-module _ (n s : ℕ) (t : List ℕ) (p k : ℕ) (m : List ℕ) (o j : ℕ) (h : Asked n s t p k m o j) where
-  pub waits-is : {a b x y z : Bool} {i : ℕ} → a ≡ itself p k o j → i ≡ get_or m o 0 → b ≡ leb j i → x ≡ (a || b)
-      → y ≡ is_committed (records_in s t o j) → z ≡ (x && not y) → z ≡ waits_for n s (records_in s t) p k o j
-  unfolding waits_for
-  waits-is ra ri rb rx ry rz = rz ∙ rw (rx, ra, rb, ri, ry, h.searched.highs o j h.inst)

@@ -9,8 +9,7 @@ ghost use Rattle.seen.specs.Records.{records_in};
 ghost use Rattle.reach.specs.High.{Explored};
 ghost use Rattle.search.specs.Searching.{Searching, Searched, Asked};
 
-use nouns::logic::{at_most, both, either, equal, wide8, wide16};
-use rules::First;
+use rules::Instance;
 use table::records::{deps_of, status_of};
 
 // o.j is committed.
@@ -18,7 +17,7 @@ pub fn committed_of(t: &[u8], n: usize, s: usize, o: usize, j: usize) -> bool
     requires { Has n s o j t.now }
     ensures { result ≡ is_committed (records_in s t.now o j) }
 {
-    equal(wide8(status_of(t, n, s, o, j)), 4)
+    status_of(t, n, s, o, j) == 4
 }
 
 // Visits all that p.k reaches and that was not visited before. Each call raises a mark first: unvisited instances fall.
@@ -29,10 +28,10 @@ pub fn explore(t: &[u8], n: usize, s: usize, p: usize, k: usize, m: &mut [u8])
     let deps = deps_of(t, n, s, p, k);
     let mut q = 0;
     while q < n {
-        if wide8(m[q]) < wide16(deps[q]) {
+        if u16::from(m[q]) < deps[q] {
             let x = m[q] + 1;
             m[q] = x;
-            explore(t, n, s, q, wide8(x), &mut *m);
+            explore(t, n, s, q, usize::from(x), &mut *m);
         } else {
             q += 1;
         }
@@ -40,28 +39,29 @@ pub fn explore(t: &[u8], n: usize, s: usize, p: usize, k: usize, m: &mut [u8])
 }
 
 // o.j is p.k, or the search from p.k visited it; and it is not committed.
+#[tactic(auto, unfolding(rules::specs::Order::waits_for))]
 fn waits_for(t: &[u8], n: usize, s: usize, p: usize, k: usize, m: &[u8], o: usize, j: usize) -> bool
     requires { Asked n s t.now p k m.now o j }
     ensures { result ≡ waits_for n s (records_in s t.now) p k o j }
 {
-    let itself = both(equal(o, p), equal(j, k));
-    let visited = either(itself, at_most(j, wide8(m[o])));
-    both(visited, !committed_of(t, n, s, o, j))
+    let itself = o == p && j == k;
+    let visited = itself || j <= usize::from(m[o]);
+    visited && !committed_of(t, n, s, o, j)
 }
 
 // Names the uncommitted instance that comes first among p.k and what the search from it visited.
-pub fn first_open(t: &[u8], n: usize, s: usize, p: usize, k: usize, m: &[u8]) -> First
+pub fn first_open(t: &[u8], n: usize, s: usize, p: usize, k: usize, m: &[u8]) -> Option<Instance>
     requires { Searched n s t.now p k m.now }
     ensures { result ≡ first_open n s (records_in s t.now) p k }
 {
-    let mut found = First::Nowhere;
+    let mut found = None;
     'walk: for j in 1..=s {
         for o in 0..n {
             if waits_for(t, n, s, p, k, m, o, j) {
-                found = First::At {
+                found = Some(Instance {
                     owner: o,
                     number: j,
-                };
+                });
                 break 'walk;
             }
         }

@@ -30,19 +30,13 @@ free_row-requires c =
     let w = row-span _ _ _ _ _ _ g.lists a.requires.asking.inst _ c.loop-q-test.true f.slot_of-x.ensures.0 c.mark_at.ensures in
     (w.states, g.long, w.other, w.last)
 
-pub overflow_step-q : goal.overflow_step-q
-overflow_step-q c = omega arith
-
-pub loop-q-smaller : goal.loop-q-smaller
-loop-q-smaller c = omega arith
-
 pub loop-q-preserved : goal.loop-q-preserved
 loop-q-preserved c =
     let d = c in
     let l = d in
     let f = l in
     let a = f in
-    let w = freed-at a.args.h.now a.args.st.now a.args.past.now _ _ _ f.slot_of-x.ensures.0 d.mark_at.ensures d.wide8.ensures d.free_row.ensures in
+    let w = freed-at a.args.h.now a.args.st.now a.args.past.now _ _ _ f.slot_of-x.ensures.0 d.mark_at.ensures d.from.ensures d.free_row.ensures in
     known-freed _ _ _ _ _ _ l.loop-q.invariant _ _ a.requires.asking.inst a.requires.ready _ _ d.loop-q-test.true w
 
 pub shape_of-know : goal.shape_of-know

@@ -4,29 +4,14 @@ use Rattle.next.proofs.Held.{freed-start, freed-more}
 use Rattle.next.proofs.free_row.Goals as goal
 use Rattle.next.proofs.free_row.Goals.{then-st-y-ne2, else-st-y-ne2}
 
-pub overflow_mul-base : goal.overflow_mul-base
-overflow_mul-base c = omega arith
-
 pub loop-i-init : goal.loop-i-init
 loop-i-init c = (omega arith, refl, freed-start _ _ _ _ _)
-
-pub overflow_add-y : goal.overflow_add-y
-overflow_add-y c = omega arith
 
 pub bounds-st-y : goal.bounds-st-y
 bounds-st-y c = omega arith
 
-pub offset_bounds-know-y : goal.offset_bounds-know-y
-offset_bounds-know-y c = omega arith
-
 pub bounds-know-y : goal.bounds-know-y
 bounds-know-y c = omega (arith, c.loop-i.invariant.2.long)
-
-pub overflow_step-i : goal.overflow_step-i
-overflow_step-i c = omega arith
-
-pub loop-i-smaller : goal.loop-i-smaller
-loop-i-smaller c = omega arith
 
 pub loop-i-preserved : goal.loop-i-preserved
 loop-i-preserved c =

@@ -16,31 +16,25 @@ bounds-past-q c = let g = c.requires.passed in omega (arith, g.copies, g.long, c
 pub start_of-start-requires : goal.start_of-start-requires
 start_of-start-requires c =
     let g = c.requires.passed in
-    (omega (arith, (g.rows _ c.loop-q-test.true).few, g.numbers, c.wide8.ensures), omega (arith, g.copies, c.loop-q-test.true))
+    (omega (arith, (g.rows _ c.loop-q-test.true).few, g.numbers, c.from.ensures), omega (arith, g.copies, c.loop-q-test.true))
 
 pub mark_at-requires : goal.mark_at-requires
 mark_at-requires c =
     let g = c.requires.lists in
     (record { long = g.marks; place = c.slot_of-x.ensures.1 }, omega (arith, g.copies, c.loop-q-test.true))
 
-pub row_holder-y-requires : goal.row_holder-y-requires
-row_holder-y-requires c =
+pub row_holder-held-requires : goal.row_holder-held-requires
+row_holder-held-requires c =
     let g = c.requires in
     row-span _ _ _ _ _ _ g.lists g.inst _ c.loop-q-test.true c.slot_of-x.ensures.0 c.mark_at.ensures
 
-pub returns-then-y-lt448 : goal.returns-then-y-lt448
-returns-then-y-lt448 c =
+pub returns-in-Some : goal.returns-in-Some
+returns-in-Some c =
     let d = c in
     let l = d in
     let g = l.requires in
     held-some _ _ _ _ _ _ _ _ g _ _ _ _ _ _ d.loop-q-test.true l.slot_of-x.ensures.0
-    d.mark_at.ensures d.wide8.ensures d.start_of-start.ensures d.row_holder-y.ensures l.loop-q.invariant c.if-y-lt448.true
-
-pub overflow_step-q : goal.overflow_step-q
-overflow_step-q c = omega arith
-
-pub loop-q-smaller : goal.loop-q-smaller
-loop-q-smaller c = omega arith
+    d.mark_at.ensures d.from.ensures d.start_of-start.ensures d.row_holder-held.ensures l.loop-q.invariant _ c.in-Some.is
 
 pub loop-q-preserved : goal.loop-q-preserved
 loop-q-preserved c =
@@ -48,7 +42,7 @@ loop-q-preserved c =
     let l = d in
     let g = l.requires in
     lets-more _ _ _ _ _ _ _ _ g _ _ _ _ _ _ d.loop-q-test.true l.slot_of-x.ensures.0
-    d.mark_at.ensures d.wide8.ensures d.start_of-start.ensures d.row_holder-y.ensures c.if-y-lt448.false l.loop-q.invariant
+    d.mark_at.ensures d.from.ensures d.start_of-start.ensures d.row_holder-held.ensures c.in_default.is l.loop-q.invariant
 
 pub returns : goal.returns
 returns c = held_none _ _ _ _ _ _ _ _ c.requires _ c.loop-q.invariant c.loop-q-test.false

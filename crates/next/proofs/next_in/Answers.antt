@@ -23,23 +23,11 @@ loop-o-init c = let w = c.walk.invariant in (w.0, row-start _ _ _ _ w.1 c.walk-t
 pub ready_in-requires : goal.ready_in-requires
 ready_in-requires c = let l = c in record { going = l.loop-o.invariant.2; inst = row_inst _ _ _ _ _ l.loop-o.invariant.1 c.loop-o-test.true }
 
-pub overflow_step-o : goal.overflow_step-o
-overflow_step-o c = omega arith
-
-pub loop-o-smaller : goal.loop-o-smaller
-loop-o-smaller c = omega arith
-
 pub loop-o-preserved : goal.loop-o-preserved
 loop-o-preserved c =
     let a = c in
     let l = a in
     (l.loop-o.invariant.0, row_on _ _ _ _ _ _ l.loop-o.invariant.1 a.loop-o-test.true refl (sym a.ready_in.ensures.says ∙ c.if-ready_in.false), a.ready_in.ensures.kept)
-
-pub overflow_step-j : goal.overflow_step-j
-overflow_step-j c = omega arith
-
-pub walk-smaller : goal.walk-smaller
-walk-smaller c = omega arith
 
 pub walk-preserved : goal.walk-preserved
 walk-preserved c = let l = c in (l.loop-o.invariant.0, row-end _ _ _ _ _ _ l.loop-o.invariant.1 c.loop-o-test.false refl, l.loop-o.invariant.2)

@@ -8,12 +8,6 @@ loop-o-init c = λ q l. absurd (omega arith)
 pub returns-then-st-y-eq1 : goal.returns-then-st-y-eq1
 returns-then-st-y-eq1 c = none-no _ _ _ _ _ c.loop-o-test.true c.slot_of-y.ensures.0 c.if-st-y-eq1.true
 
-pub overflow_step-o : goal.overflow_step-o
-overflow_step-o c = omega arith
-
-pub loop-o-smaller : goal.loop-o-smaller
-loop-o-smaller c = omega arith
-
 pub loop-o-preserved : goal.loop-o-preserved
 loop-o-preserved c =
     let a = c.args in

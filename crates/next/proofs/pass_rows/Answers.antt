@@ -10,19 +10,13 @@ pub bounds-past-q : goal.bounds-past-q
 bounds-past-q c = let g = c.loop-q.invariant in omega (arith, g.copies, g.long, c.loop-q-test.true)
 
 pub row_past-z-requires : goal.row_past-z-requires
-row_past-z-requires c = let g = c.loop-q.invariant in (g.numbers, omega (arith, g.copies, c.loop-q-test.true), g.states, rw c.wide8.ensures (g.rows _ c.loop-q-test.true))
+row_past-z-requires c = let g = c.loop-q.invariant in (g.numbers, omega (arith, g.copies, c.loop-q-test.true), g.states, rw c.from.ensures (g.rows _ c.loop-q-test.true))
 
 pub overflow_cast-past : goal.overflow_cast-past
 overflow_cast-past c = omega (arith, c.row_past-z.ensures.few, c.loop-q.invariant.numbers)
 
 pub bounds-past-q-in-loop-q : goal.bounds-past-q-in-loop-q
 bounds-past-q-in-loop-q c = let g = c.loop-q.invariant in omega (arith, g.copies, g.long, c.loop-q-test.true)
-
-pub overflow_step-q : goal.overflow_step-q
-overflow_step-q c = omega arith
-
-pub loop-q-smaller : goal.loop-q-smaller
-loop-q-smaller c = omega arith
 
 pub loop-q-preserved : goal.loop-q-preserved
 loop-q-preserved c = past_row _ _ _ _ c.loop-q.invariant _ _ c.loop-q-test.true c.row_past-z.ensures

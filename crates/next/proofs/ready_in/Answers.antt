@@ -7,7 +7,7 @@ returns-then-is_held c =
     let w = c in
     let f = w in
     let g = f.requires in
-    let u = known_at _ _ _ _ _ _ g.going _ _ g.inst f.slot_of-x.ensures.0 w.wide16-seen.ensures in
+    let u = known_at _ _ _ _ _ _ g.going _ _ g.inst f.slot_of-x.ensures.0 w.from-seen.ensures in
     let d = sym c.is_held.ensures ∙ c.if-is_held.true in
     let e = sym (known-held _ _ _ _ _ _ g.going _ _ g.inst _ u d) in
     record { says = ready-is _ _ _ _ _ _ _ f.slot_of-x.ensures.0 w.if-st-x-ne1.false e; kept = g.going }
@@ -17,7 +17,7 @@ ask-requires c =
     let w = c in
     let f = w in
     let g = f.requires in
-    let u = known_at _ _ _ _ _ _ g.going _ _ g.inst f.slot_of-x.ensures.0 w.wide16-seen.ensures in
+    let u = known_at _ _ _ _ _ _ g.going _ _ g.inst f.slot_of-x.ensures.0 w.from-seen.ensures in
     record { asking = g; below = rw c.place_in.ensures u.below }
 
 pub returns-then-st-x-ne1 : goal.returns-then-st-x-ne1
@@ -30,7 +30,7 @@ returns-then-seen-eq1 c =
     let w = c in
     let f = w in
     let g = f.requires in
-    let u = known_at _ _ _ _ _ _ g.going _ _ g.inst f.slot_of-x.ensures.0 w.wide16-seen.ensures in
+    let u = known_at _ _ _ _ _ _ g.going _ _ g.inst f.slot_of-x.ensures.0 w.from-seen.ensures in
     record { says = ready-is _ _ _ _ _ _ _ f.slot_of-x.ensures.0 w.if-st-x-ne1.false (sym (u.ready c.if-seen-eq1.true)); kept = g.going }
 
 pub is_held-requires : goal.is_held-requires
@@ -38,7 +38,7 @@ is_held-requires c =
     let w = c in
     let f = w in
     let g = f.requires in
-    let u = known_at _ _ _ _ _ _ g.going _ _ g.inst f.slot_of-x.ensures.0 w.wide16-seen.ensures in
+    let u = known_at _ _ _ _ _ _ g.going _ _ g.inst f.slot_of-x.ensures.0 w.from-seen.ensures in
     (g.going.lists.states, known_small _ _ _ _ _ _ g.going _ _ g.inst _ u)
 
 pub returns : goal.returns

@@ -18,13 +18,7 @@ passes_at-requires c = let g = c.requires in (g.marks, g.states, g.owner, omega 
 pub returns-then-not-passes_at : goal.returns-then-not-passes_at
 returns-then-not-passes_at c =
     let l = c in
-    sought-some _ _ _ _ _ _ _ l.loop-i.i _ l.requires l.loop-i.invariant.0 c.loop-i-test.true l.loop-i.invariant.2 (omega (arith, l.loop-i.invariant.1)) (sym c.passes_at.ensures ∙ c.if-not-passes_at.true)
-
-pub overflow_add-i : goal.overflow_add-i
-overflow_add-i c = omega arith
-
-pub loop-i-smaller : goal.loop-i-smaller
-loop-i-smaller c = omega arith
+    sought-some _ _ _ _ _ _ _ l.loop-i.i _ l.loop-i.invariant.0 c.loop-i-test.true l.loop-i.invariant.2 (omega (arith, l.loop-i.invariant.1)) (sym c.passes_at.ensures ∙ c.if-not-passes_at.true)
 
 pub loop-i-preserved : goal.loop-i-preserved
 loop-i-preserved c =

@@ -15,42 +15,39 @@ bounds-m-q t c = marks-long _ _ _ _ _ _ c.requires _ _ c.loop-q.invariant.0 c.lo
 pub bounds-deps-q : goal.bounds-deps-q
 bounds-deps-q t c = omega (arith, c.loop-q-test.true, c.requires.names.copies)
 
-pub bounds-m-q-then-wide8-wide16 : goal.bounds-m-q-then-wide8-wide16
-bounds-m-q-then-wide8-wide16 t c = marks-long _ _ _ _ _ _ c.requires _ _ c.loop-q.invariant.0 c.loop-q-test.true
+pub bounds-m-q-then-from-deps : goal.bounds-m-q-then-from-deps
+bounds-m-q-then-from-deps t c = marks-long _ _ _ _ _ _ c.requires _ _ c.loop-q.invariant.0 c.loop-q-test.true
 
 pub overflow_add-x : goal.overflow_add-x
 overflow_add-x t c = omega (arith, c.loop-q.invariant.0.few c.loop-q.q c.loop-q-test.true, c.requires.names.numbers)
 
-pub bounds-m-q-then-wide8-wide16-2 : goal.bounds-m-q-then-wide8-wide16-2
-bounds-m-q-then-wide8-wide16-2 t c = marks-long _ _ _ _ _ _ c.requires _ _ c.loop-q.invariant.0 c.loop-q-test.true
+pub bounds-m-q-then-from-deps-2 : goal.bounds-m-q-then-from-deps-2
+bounds-m-q-then-from-deps-2 t c = marks-long _ _ _ _ _ _ c.requires _ _ c.loop-q.invariant.0 c.loop-q-test.true
 
 pub explore-requires : goal.explore-requires
 explore-requires t c =
     let e = c.args in
-    let d = above e.s e.t.now e.p e.k c.loop-q.q c.loop-q.m c.deps_of-deps.ensures c.wide8.ensures c.wide16.ensures c.if-wide8-wide16.true in
+    let d = above e.s e.t.now e.p e.k c.loop-q.q c.loop-q.m c.deps_of-deps.ensures c.from.ensures c.if-from-deps.true in
     let f = fewer _ _ _ _ _ _ c.requires _ _ c.loop-q.invariant.0 c.loop-q-test.true _ refl d in
-    (omega arith, onward _ _ _ _ _ _ c.requires _ _ c.loop-q.invariant.0 c.loop-q-test.true _ refl d _ c.wide8-then-wide8-wide16.ensures)
+    (omega arith, onward _ _ _ _ _ _ c.requires _ _ c.loop-q.invariant.0 c.loop-q-test.true _ refl d _ c.from-then-from-deps.ensures)
 
-pub loop-q-smaller-then-wide8-wide16 : goal.loop-q-smaller-then-wide8-wide16
-loop-q-smaller-then-wide8-wide16 t c =
+pub loop-q-smaller-then-from-deps : goal.loop-q-smaller-then-from-deps
+loop-q-smaller-then-from-deps t c =
     let e = c.args in
-    let d = above e.s e.t.now e.p e.k c.loop-q.q c.loop-q.m c.deps_of-deps.ensures c.wide8.ensures c.wide16.ensures c.if-wide8-wide16.true in
+    let d = above e.s e.t.now e.p e.k c.loop-q.q c.loop-q.m c.deps_of-deps.ensures c.from.ensures c.if-from-deps.true in
     let f = shrinks _ _ _ _ _ _ c.requires _ _ c.loop-q.invariant.0 c.loop-q-test.true _ refl d _ _ c.explore.ensures in
     omega arith
 
-pub loop-q-preserved-then-wide8-wide16 : goal.loop-q-preserved-then-wide8-wide16
-loop-q-preserved-then-wide8-wide16 t c =
+pub loop-q-preserved-then-from-deps : goal.loop-q-preserved-then-from-deps
+loop-q-preserved-then-from-deps t c =
     let e = c.args in
-    let d = above e.s e.t.now e.p e.k c.loop-q.q c.loop-q.m c.deps_of-deps.ensures c.wide8.ensures c.wide16.ensures c.if-wide8-wide16.true in
-    (more _ _ _ _ _ _ c.requires _ _ c.loop-q.invariant.0 c.loop-q-test.true _ refl d _ _ c.wide8-then-wide8-wide16.ensures c.explore.ensures, c.loop-q.invariant.1)
+    let d = above e.s e.t.now e.p e.k c.loop-q.q c.loop-q.m c.deps_of-deps.ensures c.from.ensures c.if-from-deps.true in
+    (more _ _ _ _ _ _ c.requires _ _ c.loop-q.invariant.0 c.loop-q-test.true _ refl d _ _ c.from-then-from-deps.ensures c.explore.ensures, c.loop-q.invariant.1)
 
 pub loop-q-preserved : goal.loop-q-preserved
 loop-q-preserved t c =
     let e = c.args in
-    (explore-skip _ _ _ _ _ _ _ _ _ c.loop-q.invariant.0 refl (reached e.s e.t.now e.p e.k c.loop-q.q c.loop-q.m c.deps_of-deps.ensures c.wide8.ensures c.wide16.ensures c.if-wide8-wide16.false), omega arith)
-
-pub shape_of-m : goal.shape_of-m
-shape_of-m t c = c.loop-q.invariant.0.long
+    (explore-skip _ _ _ _ _ _ _ _ _ c.loop-q.invariant.0 refl (reached e.s e.t.now e.p e.k c.loop-q.q c.loop-q.m c.deps_of-deps.ensures c.from.ensures c.if-from-deps.false), omega arith)
 
 pub returns : goal.returns
 returns t c =

@@ -14,20 +14,8 @@ loop-o-init c = (c.walk.invariant.0, row-start _ _ _ _ c.walk.invariant.1 c.walk
 pub waits_for-requires : goal.waits_for-requires
 waits_for-requires c = record { searched = c.requires; inst = row_inst _ _ _ _ _ c.loop-o.invariant.1 c.loop-o-test.true }
 
-pub overflow_step-o : goal.overflow_step-o
-overflow_step-o c = omega arith
-
-pub loop-o-smaller : goal.loop-o-smaller
-loop-o-smaller c = omega arith
-
 pub loop-o-preserved : goal.loop-o-preserved
 loop-o-preserved c = (c.loop-o.invariant.0, row_on _ _ _ _ _ _ c.loop-o.invariant.1 c.loop-o-test.true refl (sym c.waits_for.ensures ∙ c.if-waits_for.false))
-
-pub overflow_step-j : goal.overflow_step-j
-overflow_step-j c = omega arith
-
-pub walk-smaller : goal.walk-smaller
-walk-smaller c = omega arith
 
 pub walk-preserved : goal.walk-preserved
 walk-preserved c = (c.loop-o.invariant.0, row-end _ _ _ _ _ _ c.loop-o.invariant.1 c.loop-o-test.false refl)

@@ -14,13 +14,13 @@ returns-in_default c =
 pub slot_of-x-requires : goal.slot_of-x-requires
 slot_of-x-requires c =
     let l = c.loop-count.invariant in
-    let i = found-inst _ _ _ _ _ _ _ _ _ _ _ l _ _ (sym c.in-At.is ∙ c.next_in-found.ensures.says) in
+    let i = found-inst _ _ _ _ _ _ _ _ _ _ _ l _ _ (sym c.in-Some.is ∙ c.next_in-found.ensures.says) in
     (omega (arith, i.owner, l.listing.going.lists.copies), i.first, omega (arith, i.last, l.listing.going.lists.numbers))
 
 pub marked_in-requires : goal.marked_in-requires
 marked_in-requires c =
     let l = c.loop-count.invariant in
-    let i = found-inst _ _ _ _ _ _ _ _ _ _ _ l _ _ (sym c.in-At.is ∙ c.next_in-found.ensures.says) in
+    let i = found-inst _ _ _ _ _ _ _ _ _ _ _ l _ _ (sym c.in-Some.is ∙ c.next_in-found.ensures.says) in
     record {
       has = record {
         names = record { copies = l.listing.going.lists.copies; numbers = l.listing.going.lists.numbers; owner = i.owner; first = i.first; last = i.last };
@@ -32,13 +32,13 @@ marked_in-requires c =
 pub code_of-requires : goal.code_of-requires
 code_of-requires c =
     let l = c.loop-count.invariant in
-    let i = found-inst _ _ _ _ _ _ _ _ _ _ _ l _ _ (sym c.in-At.is ∙ c.next_in-found.ensures.says) in
+    let i = found-inst _ _ _ _ _ _ _ _ _ _ _ l _ _ (sym c.in-Some.is ∙ c.next_in-found.ensures.says) in
     (omega (arith, i.owner, l.listing.going.lists.copies), omega (arith, i.last, l.listing.going.lists.numbers))
 
 pub loop-count-preserved : goal.loop-count-preserved
 loop-count-preserved c =
     let d = c in
-    let e = sym c.in-At.is ∙ d.next_in-found.ensures.says in
+    let e = sym c.in-Some.is ∙ d.next_in-found.ensures.says in
     listed-on _ _ _ _ _ _ _ _ _ _ _ c.loop-count.invariant _ _ _ _ _ _ _ e c.loop-count-test.true c.slot_of-x.ensures.0 d.next_in-found.ensures.kept c.marked_in.ensures c.code_of.ensures
 
 pub loop-count-init : goal.loop-count-init
@@ -73,12 +73,6 @@ offset_bounds-list-count c =
 
 pub bounds-list-count : goal.bounds-list-count
 bounds-list-count c = omega (arith, c.loop-count-test.true)
-
-pub overflow_add-count : goal.overflow_add-count
-overflow_add-count c = let l = c in omega (arith, c.loop-count-test.true, l.loop-count.invariant.long, l.well_formed.1.1.1.1.1.1.1.0.0)
-
-pub loop-count-smaller : goal.loop-count-smaller
-loop-count-smaller c = omega (arith, c.loop-count-test.true, c.loop-count.invariant.long)
 
 pub shape_of-t : goal.shape_of-t
 shape_of-t c = let l = c in l.loop-count.invariant.listing.long ∙ sym l.requires.long

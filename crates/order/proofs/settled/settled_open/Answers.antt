@@ -6,8 +6,8 @@ use Rattle.order.proofs.Asked.{searching, searched, settled-6, settled-waits, se
 use borrow.Author.Rules.{rules}
 use Rattle.order.proofs.settled.settled_open.Goals as goal
 
-pub returns-in-At : goal.returns-in-At
-returns-in-At c = settled-waits _ _ c.args.c _ _ _ _ _ (sym c.instance_ok.ensures ∙ c.if-not-instance_ok.false) (sym c.in-At.is ∙ c.first_open-found.ensures)
+pub returns-in-Some : goal.returns-in-Some
+returns-in-Some c = settled-waits _ _ c.args.c _ _ _ _ _ (sym c.instance_ok.ensures ∙ c.if-not-instance_ok.false) (sym c.in-Some.is ∙ c.first_open-found.ensures)
 
 pub returns : goal.returns
 returns c = settled-gives _ _ c.args.c _ _ _ (sym c.instance_ok.ensures ∙ c.if-not-instance_ok.false) (sym c.in_default.is ∙ c.first_open-found.ensures) c.load-r.ensures
