@@ -10,7 +10,6 @@ use native.Mathlib.Decide.{dec_lt}
 use lib.Dec.{leb, ltb, eqb}
 use lib.ListN.{length, get_or, get_or-eq_default}
 use borrow.Author.Tests.{leb-true, ltb-true, eqb-true, lt-ltb, le-ltb}
-use Rattle.std.specs.Prelude.{Ok}
 use Rattle.paper.specs.Logic.{all_below}
 use Rattle.paper.specs.Instance.{instance_ok}
 use Rattle.paper.specs.Command.{interfere}

@@ -8,7 +8,6 @@ use native.Mathlib.Omega.{arith}
 use lib.ListN.{length, take, drop, get_or}
 use lib.Dec.{eqb}
 use borrow.Author.Tests.{eqb-true, not-true}
-use Rattle.std.specs.Prelude.{Ok}
 use Rattle.numbers.proofs.Laws.{splice-same}
 use Rattle.paper.specs.declared.Refusal.{Refusal}
 use Rattle.paper.specs.Instance.{instance_ok}

@@ -24,7 +24,6 @@ use Rattle.order.specs.declared.Settling.{Settling}
 use Rattle.order.specs.Calls.{settled, handed}
 use Rattle.entries.specs.Entry.{record_entry}
 use Rattle.entries.specs.Replay.{Replayed, committed_in, replayed, replaying_offset}
-use Rattle.std.specs.Prelude.{Ok}
 use Rattle.entries.specs.Journal.{Journal, none}
 use Rattle.entries.proofs.Journal.{joined, replays-rest}
 use Rattle.safety.specs.Run.{Instance, Happening, requested, answered, Setup}

@@ -29,7 +29,6 @@ use Rattle.order.specs.declared.Settling.{Settling}
 use Rattle.order.specs.Calls.{marked_in, handed}
 use Rattle.entries.specs.Entry.{entry_length, kind_in, record_entry, mark_entry}
 use Rattle.entries.specs.Replay.{front_of}
-use Rattle.std.specs.Prelude.{Ok}
 use Rattle.entries.specs.declared.Front.TheVariants as front
 use Rattle.entries.specs.Journal.{Journal, none, record-then, mark-then}
 use Rattle.entries.proofs.Framed.{short-rest, none_rest}

@@ -17,7 +17,6 @@ use Rattle.rules.specs.Order.{is_marked}
 use Rattle.table.specs.Table.{blank_table, record_in}
 use Rattle.table.specs.Calls.{judged}
 use Rattle.gate.specs.Events.{answer_number}
-use Rattle.std.specs.Prelude.{Ok}
 use Rattle.entries.specs.Replay.{Replayed, replayed, replayed_open, replayed_at, replayed_through, end_of, puts}
 use Rattle.entries.proofs.Journal.{replays}
 use Rattle.safety.specs.Run.{Instance, requested, Setup}

@@ -27,7 +27,6 @@ use Rattle.order.specs.declared.Settling.{Settling}
 use Rattle.order.specs.Calls.{marked_in, handed}
 use Rattle.entries.specs.Entry.{record_kind, mark_kind, entry_length, kind_in, record_entry, mark_entry}
 use Rattle.entries.specs.Replay.{Replayed, committed_in, replayed}
-use Rattle.std.specs.Prelude.{Ok}
 use Rattle.entries.specs.Journal.{Journal, none, record-then, mark-then}
 use Rattle.entries.proofs.Framed.{record-long, short-rest}
 use Rattle.entries.proofs.Journal.{bounds, record-size, mark-size, replays, replays-rest}

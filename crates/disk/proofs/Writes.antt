@@ -1,5 +1,5 @@
 -- The bytes that a run is to write are those that the calls write: none of them refuses. Assumes nothing.
-use Rattle.std.specs.Prelude.{Option, Some, None}
+use Rattle.std.specs.Prelude.{Option, Some, None, Ok}
 use Prim.Native.Nat.{ℕ, zero, suc, ◌≤◌, ◌<◌}
 use mathlib.Core.Path.{◌≡◌, refl, sym, ap, ap₂, ◌∙◌, subst}
 use mathlib.Core.Logic.{⊎_elim}
@@ -24,7 +24,6 @@ use Rattle.gate.specs.Events.{event_of}
 use Rattle.order.specs.Calls.{marked_in, handed_table, handed_codes, handed}
 use Rattle.entries.specs.Entry.{record_kind, mark_kind, entry_length, record_entry, mark_entry}
 use Rattle.entries.specs.Writing.{gate_of, record_open, mark_open, record_entered, mark_entered}
-use Rattle.std.specs.Prelude.{Ok}
 use Rattle.safety.specs.Run.{Setup}
 use Rattle.demand.specs.Run.{outcome}
 use Rattle.demand.proofs.Handing.{mark-kept, mark-here, next-table, next-codes, left, listed-pending}

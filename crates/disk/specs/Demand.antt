@@ -8,7 +8,6 @@ use Rattle.order.specs.Calls.{handed}
 use Rattle.entries.specs.Entry.{record_kind, mark_kind, entry_length, mark_entry}
 use Rattle.entries.specs.Writing.{Entered, record_entered, mark_entered}
 use Rattle.entries.specs.Replay.{replayed}
-use Rattle.std.specs.Prelude.{Ok}
 use Rattle.demand.specs.Demand.{View}
 use Rattle.demand.specs.Run.{Call, outcome, Possible}
 use Rattle.disk.specs.Run.{saved_table, saved_marks, State, Start, acted, Run}

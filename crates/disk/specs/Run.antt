@@ -12,7 +12,6 @@ use Rattle.order.specs.declared.Settling.{Settling}
 use Rattle.order.specs.Calls.{settled, Handed, handed}
 use Rattle.entries.specs.Entry.{mark_kind, kind_in, owner_in, number_in, record_entry, mark_entry}
 use Rattle.entries.specs.Replay.{behind, replayed}
-use Rattle.std.specs.Prelude.{Ok}
 use Rattle.safety.specs.Run.{Instance, Happening, answered, replaced}
 use Rattle.demand.specs.Run.{Call, outcome, Possible, recorded, written}
 

@@ -5,7 +5,6 @@ use mathlib.Core.Path.{◌≡◌, refl, ap, ◌∙◌}
 use mathlib.Core.List.{List}
 use native.Mathlib.Omega.{arith}
 use lib.ListN.{length, get_or, replicate, length-replicate}
-use Rattle.std.specs.Prelude.{Ok, Err}
 use Rattle.numbers.specs.Num.{splice}
 use Rattle.codec.specs.Parts.{deps_at}
 use Rattle.paper.specs.declared.Refusal.{Refusal}

@@ -6,7 +6,6 @@ use mathlib.Core.List.{List}
 use Prim.Native.Nat.{ℕ}
 use native.Mathlib.Omega.{arith}
 use lib.ListN.{get_or}
-use Rattle.std.specs.Prelude.{Result, Ok, Err}
 use Rattle.paper.proofs.Laws.{op_number-apart}
 use Rattle.paper.proofs.Numbers.{number-apart, number_of-pos}
 use Rattle.paper.specs.Instance.{instance_ok}
