@@ -54,10 +54,6 @@ module _ (b : Bool) (ws : List ℕ) (at : ℕ) where
   unfolding past
   past-there e = rw e
 
-  pub past-none : b ≡ false → past b ws at ≡ at
-  unfolding past
-  past-none e = rw e
-
   pub past-further : (k : ℕ) → past b ws (k + at) ≡ k + past b ws at
   unfolding past
   past-further k = go b
