@@ -1,6 +1,6 @@
 // The copies' lines, and what happens on them.
-use crate::marks::{down, forget, get, set};
-use crate::picture::{Picture, draw, left, line_of, moved, plus, with_run};
+use crate::marks::{down, get, set};
+use crate::picture::{LEFT, Picture, draw, line_of, moved, plus, with_run};
 
 // The copy's line up to here, from where it was last drawn to.
 fn line_on(p: Picture, v: &[usize], c: usize) {
@@ -23,7 +23,7 @@ pub fn end_run(p: Picture, v: &[usize]) {
 }
 
 fn begin_copy(p: Picture, v: &mut [usize], c: usize) {
-    set(v, c, left());
+    set(v, c, LEFT);
     if p.n <= c {
         return;
     }
@@ -37,7 +37,7 @@ fn begin_copy(p: Picture, v: &mut [usize], c: usize) {
 pub fn begin_run(p: Picture, n: usize, v: &mut [usize]) -> Picture {
     end_run(p, &*v);
     let q = with_run(p, n);
-    forget(&mut *v);
+    v.fill(0);
     for c in 0..7 {
         begin_copy(q, &mut *v, c);
     }

@@ -1,7 +1,6 @@
 // The messages' arrows.
 use crate::marks::{get, leave, place};
 use crate::picture::{Picture, draw, line_of, moved, plus};
-use text::bytes::{find, front, least};
 use text::put::{empty, finish, put_bytes, put_form};
 
 fn half_way(a: usize, b: usize) -> usize {
@@ -21,10 +20,11 @@ pub fn depart(p: Picture, id: usize, from: usize, to: usize, v: &mut [usize]) ->
 
 // The first two words, with the space behind them.
 fn two_words(words: &[u8]) -> &[u8] {
-    let first = find(words, 0, words.len(), b' ');
-    let from = least(first + 1, words.len());
-    let second = find(words, from, words.len(), b' ');
-    front(words, second + 1)
+    let mut spaces = words.iter().enumerate().filter(|(_, b)| **b == b' ');
+    match spaces.nth(1) {
+        Some((second, _)) => &words[..=second],
+        None => words,
+    }
 }
 
 // What the message is: its name and instance, up to the ballot.
