@@ -3,6 +3,7 @@ ghost use Rattle.std.specs.Prelude.{◌<◌, ◌≤◌, IfSome, length};
 
 // What is held of the input, in a lent room: where the next line begins, where what is held ends, and whether that is the
 // input's last part.
+#[derive(Drop)]
 pub struct Lines<'a> {
     room: &'a mut [u8],
     next: usize,
