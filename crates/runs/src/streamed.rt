@@ -5,7 +5,6 @@ use stream::place::{Begun, begin};
 use stream::reader::read;
 use stream::taking::{Taken, Took, take};
 use stream::yielding::{Found, next};
-use text::bytes::front;
 use text::forms::Read;
 use text::put::{Text, empty, finish, put_bytes, put_form, put_hex};
 
@@ -42,9 +41,8 @@ fn put_stop(out: Text, answer: Found) -> Text {
 fn put_messages(out: Text, buf: &[u8], w: Told) -> Told {
     let mut told = out;
     let mut place = w.place;
-    let mut left = buf.len();
     let mut found = next(buf, place);
-    while 0 < left {
+    for _ in 0..buf.len() {
         let answer = found.answer;
         let Found::Message(n) = answer else {
             break;
@@ -52,7 +50,6 @@ fn put_messages(out: Text, buf: &[u8], w: Told) -> Told {
         told = put_hex(told, read(buf, place), n);
         place = found.place;
         found = next(buf, place);
-        left -= 1;
     }
     let last = found.answer;
     finish(put_stop(told, last));
@@ -67,8 +64,7 @@ fn taken(x: Taken, w: Told, buf: &[u8]) -> Told {
 }
 
 // take BYTES
-pub fn take_line(got: Read, w: Told, buf: &mut [u8]) -> Told {
-    let bytes = got.bytes;
-    let x = take(&mut *buf, w.place, front(&bytes, got.length));
+pub fn take_line(got: &Read, w: Told, buf: &mut [u8]) -> Told {
+    let x = take(&mut *buf, w.place, &got.bytes);
     taken(x, w, &*buf)
 }
