@@ -1,5 +1,5 @@
-// Lent bytes: searched, moved, summed up in one number, and their first ones.
-ghost use Rattle.std.specs.Prelude.{◌+◌, ◌≤◌, length};
+// Lent bytes: written to, summed up in one number, and their first ones.
+ghost use Rattle.std.specs.Prelude.{◌≤◌};
 
 pub fn low8(x: usize) -> u8 {
     (x % 256) as u8
@@ -16,25 +16,11 @@ pub fn byte_at(b: &[u8], i: usize) -> usize
     if i < b.len() { b[i] as usize } else { 0 }
 }
 
-// Where the line that these bytes begin with ends.
-pub fn line_end(b: &[u8]) -> usize
-    ensures { result ≤ length b.now }
-{
-    b.iter().position(|&x| x == b'\n').unwrap_or(b.len())
-}
-
 // Writes bytes from a place on, as many as there is room for.
 pub fn write(into: &mut [u8], at: usize, bytes: &[u8]) {
     for (to, &b) in behind(into, at).iter_mut().zip(bytes) {
         *to = b;
     }
-}
-
-// Moves bytes to a place before them, or clear of them.
-pub fn move_bytes(all: &mut [u8], from: usize, to: usize, count: usize)
-    requires { (from + count ≤ length all.old) × (to + count ≤ length all.old) }
-{
-    all.copy_within(from..from + count, to);
 }
 
 // h * 31 + b modulo 2^64.
