@@ -36,11 +36,11 @@ pub fn put_number(out: Text, n: usize) -> Text {
 }
 
 // Puts a form: a text in which each '#' stands for the next of these numbers, 0 behind the last.
-pub fn put_form(mut out: Text, form: &[u8], v: [usize; 4]) -> Text {
-    let mut numbers = v.into_iter();
+pub fn put_form<const K: usize>(mut out: Text, form: &[u8], v: [usize; K]) -> Text {
+    let mut numbers = v.iter();
     for &b in form {
         out = match b {
-            b'#' => put_decimal(out, numbers.next().unwrap_or(0)),
+            b'#' => put_decimal(out, numbers.next().copied().unwrap_or(0)),
             _ => put_byte(out, b),
         };
     }
