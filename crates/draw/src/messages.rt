@@ -32,11 +32,7 @@ fn write_label(p: Picture, x: usize, y: usize, words: &[u8]) {
     if !p.writes {
         return;
     }
-    let open = put_form(
-        empty(),
-        b"<text x=\"#\" y=\"#\" class=\"label\">",
-        [x, y, 0, 0],
-    );
+    let open = put_form(empty(), b"<text x=\"#\" y=\"#\" class=\"label\">", [x, y]);
     finish(put_bytes(put_bytes(open, two_words(words)), b"</text>"));
 }
 
@@ -69,7 +65,7 @@ pub fn lose(p: Picture, id: usize, v: &[usize]) -> Picture {
     draw(
         q,
         b"<path class=\"cross\" d=\"M# #m-4 -4l8 8m-8 0l8 -8\"/>",
-        [q.x, below, 0, 0],
+        [q.x, below],
     );
     q
 }

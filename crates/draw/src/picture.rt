@@ -69,8 +69,8 @@ pub fn line_of(p: Picture, c: usize) -> usize {
     plus(plus(p.top, lines(c)), 45)
 }
 
-// Draws a part by its form, with up to four numbers.
-pub fn draw(p: Picture, form: &[u8], v: [usize; 4]) {
+// Draws a part by its form, with the numbers in it.
+pub fn draw<const K: usize>(p: Picture, form: &[u8], v: [usize; K]) {
     if p.writes {
         finish(put_form(empty(), form, v));
     }

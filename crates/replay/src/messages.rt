@@ -13,7 +13,7 @@ fn put_names(out: Text, m: Message) -> Text {
     let body = m.body;
     let copies = [kind_of(body), m.from, m.to, m.owner].map(usize::from);
     let named = put_form(out, b" # # # #", copies);
-    put_form(named, b" # #", [m.number as usize, m.ballot as usize, 0, 0])
+    put_form(named, b" # #", [m.number as usize, m.ballot as usize])
 }
 
 // What only some kinds carry, 0 where this one does not.
@@ -23,7 +23,6 @@ fn put_body(out: Text, body: Body) -> Text {
         voted_in(body) as usize,
         status_in(body) as usize,
         joined_in(body) as usize,
-        0,
     ];
     let v = [
         op_number(k.op),
