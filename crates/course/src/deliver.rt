@@ -1,38 +1,36 @@
 // What becomes of messages on the way.
-use crate::turn::{Turn, halted, went};
+use crate::turn::Turn;
 use crate::work::event;
 use say::message::put_message;
 use say::value::{begin, say};
 use scene::Scene;
 use scene::copies::is_down;
 use scene::way::{
-    Found, Parcel, damage, find, message_at, number_at, parcel_at, shorten, take_off, to_at,
+    Parcel, damage, find, message_at, number_at, parcel_at, shorten, take_off, to_at,
 };
 use script::{Event, Fate, Reason};
-use text::bytes::{byte_at, front};
+use text::bytes::byte_at;
 use text::put::finish;
 
 // The message reaches copy c, if that is up. What it is, the copy that it was sent to can tell.
-fn arrive(all: &mut [u8], w: Scene, c: usize, m: Parcel) -> Turn {
+fn arrive(all: &mut [u8], w: Scene, c: usize, m: &Parcel) -> Turn {
     if is_down(w, c) {
-        say(b"  message # is lost: copy # is down", m.number, c, 0);
-        return went(w);
+        say(b"  message # is lost: copy # is down", [m.number, c]);
+        return Ok(w);
     }
-    let bytes = m.bytes;
-    let b = front(&bytes, m.length);
-    let at = begin(b"  message # arrives at #: ", m.number, c, 0);
-    finish(put_message(at, w.n, w.s, m.to, b));
-    event(all, w, c, Event::Message, b)
+    let at = begin(b"  message # arrives at #: ", [m.number, c]);
+    finish(put_message(at, w.n, w.s, m.to, &m.bytes));
+    event(all, w, c, Event::Message, &m.bytes)
 }
 
 // The message at a place of the way is taken off, and reaches copy c, whoever it was sent to.
 fn stray_at(all: &mut [u8], w: Scene, i: usize, c: usize) -> Turn {
     if w.n <= c {
-        return halted(w, Reason::NoCopy);
+        return Err(Reason::NoCopy);
     }
     let m = parcel_at(&*all, i);
     let next = take_off(&mut *all, w, i);
-    arrive(all, next, c, m)
+    arrive(all, next, c, &m)
 }
 
 fn deliver_at(all: &mut [u8], w: Scene, i: usize) -> Turn {
@@ -43,42 +41,38 @@ fn deliver_at(all: &mut [u8], w: Scene, i: usize) -> Turn {
 // The message stays on the way, to arrive once more.
 fn repeat_at(all: &mut [u8], w: Scene, i: usize) -> Turn {
     let m = parcel_at(&*all, i);
-    arrive(all, w, m.to, m)
+    arrive(all, w, m.to, &m)
 }
 
 fn drop_at(all: &mut [u8], w: Scene, i: usize) -> Turn {
-    say(b"  message # is lost on the way", number_at(&*all, i), 0, 0);
-    went(take_off(all, w, i))
+    say(b"  message # is lost on the way", [number_at(&*all, i)]);
+    Ok(take_off(all, w, i))
 }
 
 fn damage_at(all: &mut [u8], w: Scene, i: usize, at: usize, byte: usize) -> Turn {
     let m = message_at(&*all, i);
     if m.len() <= at {
-        return halted(w, Reason::NoByte);
+        return Err(Reason::NoByte);
     }
     say(
         b"  message # is damaged: byte # was #",
-        number_at(&*all, i),
-        at,
-        byte_at(m, at),
+        [number_at(&*all, i), at, byte_at(m, at)],
     );
     damage(all, i, at, byte);
-    went(w)
+    Ok(w)
 }
 
 fn shorten_at(all: &mut [u8], w: Scene, i: usize, length: usize) -> Turn {
     let had = message_at(&*all, i).len();
     if had < length {
-        return halted(w, Reason::NoByte);
+        return Err(Reason::NoByte);
     }
     say(
         b"  message # keeps # of # bytes",
-        number_at(&*all, i),
-        length,
-        had,
+        [number_at(&*all, i), length, had],
     );
     shorten(all, i, length);
-    went(w)
+    Ok(w)
 }
 
 fn meet(all: &mut [u8], w: Scene, i: usize, fate: Fate) -> Turn {
@@ -94,25 +88,17 @@ fn meet(all: &mut [u8], w: Scene, i: usize, fate: Fate) -> Turn {
 
 // The oldest message between two copies.
 pub fn between(all: &mut [u8], w: Scene, from: usize, to: usize, fate: Fate) -> Turn {
-    match find(&*all, w, from, to) {
-        Found::Nothing => halted(w, Reason::NoMessage),
-        Found::At(i) => meet(all, w, i, fate),
-    }
+    let i = find(&*all, w, from, to).ok_or(Reason::NoMessage)?;
+    meet(all, w, i, fate)
 }
 
 // Oldest first, until nothing is on the way.
-pub fn deliver_all(all: &mut [u8], w: Scene) -> Turn {
-    let mut turn = went(w);
-    let mut left: u32 = 100000;
-    while 0 < left {
-        if turn.scene.waiting == 0 {
-            return turn;
+pub fn deliver_all(all: &mut [u8], mut w: Scene) -> Turn {
+    for _ in 0..100000 {
+        if w.waiting == 0 {
+            return Ok(w);
         }
-        turn = deliver_at(&mut *all, turn.scene, 0);
-        if !turn.good {
-            return turn;
-        }
-        left -= 1;
+        w = deliver_at(&mut *all, w, 0)?;
     }
-    halted(turn.scene, Reason::Restless)
+    Err(Reason::Restless)
 }

@@ -1,5 +1,5 @@
 // A copy that was cut off starts again, and a journal begins anew.
-use crate::turn::{Turn, halted, went};
+use crate::turn::Turn;
 use entries::Unreplayed;
 use say::restart::{say_bad, say_replayed, say_unreplayed};
 use say::value::say;
@@ -12,14 +12,14 @@ use storage::is_full;
 // The entries up to an offset are in the table; what stands there is cut off before more is written.
 fn go_on(all: &mut [u8], w: Scene, c: usize, table: &[u8], at: usize) -> Turn {
     say_replayed(c, journal_of(&*all, w, c), at);
-    say(b"  copy # goes on with what it saved", c, 0, 0);
-    went(restarted(restore(all, w, c, table, at), c))
+    say(b"  copy # goes on with what it saved", [c]);
+    Ok(restarted(restore(all, w, c, table, at), c))
 }
 
 // The copy starts again by what its disk has, whatever it worked on before; it stays down if that is refused.
 pub fn restart(all: &mut [u8], w: Scene, c: usize) -> Turn {
     if !is_down(w, c) {
-        return halted(w, Reason::IsUp);
+        return Err(Reason::IsUp);
     }
     let disk = saved(&*all, w, c);
     let table = disk.table;
@@ -28,11 +28,11 @@ pub fn restart(all: &mut [u8], w: Scene, c: usize) -> Turn {
         Ok(at) => go_on(all, w, c, &table, at),
         Err(Unreplayed::Bad(bad)) => {
             say_bad(c, bad);
-            went(w)
+            Ok(w)
         }
         Err(Unreplayed::Refused(why)) => {
             say_unreplayed(c, why);
-            went(w)
+            Ok(w)
         }
     }
 }
@@ -40,15 +40,13 @@ pub fn restart(all: &mut [u8], w: Scene, c: usize) -> Turn {
 fn anew(all: &mut [u8], w: Scene, c: usize) -> Scene {
     say(
         b"  copy # saves its table, and begins its journal anew",
-        c,
-        0,
-        0,
+        [c],
     );
     begin_anew(all, w, c)
 }
 
 pub fn begin_journal(all: &mut [u8], w: Scene, c: usize) -> Turn {
-    went(anew(all, w, c))
+    Ok(anew(all, w, c))
 }
 
 // Before a step: its entries have to have room.

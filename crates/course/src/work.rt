@@ -1,6 +1,9 @@
 // An event's course at a copy: the library's answer, the save, the sending. A cut takes the rest.
+ghost use Rattle.std.specs.Prelude.{◌+◌, ◌<◌, ◌≤◌, IfSome, length};
+
 use crate::restart::with_room;
-use crate::turn::{Turn, halted, went};
+use crate::turn::Turn;
+use nouns::command::op_number;
 use paper::Refusal;
 use say::held::put_part;
 use say::message::put_message;
@@ -13,12 +16,11 @@ use scene::tables::{table_in, table_mut};
 use scene::way::{is_full, put_on, to_of};
 use script::{Event, Reason};
 use table::record_part;
-use text::bytes::byte_at;
 use text::put::finish;
 use wire::length_of;
 
 fn say_saved(all: &[u8], w: Scene, c: usize, o: usize, j: usize) {
-    let at = begin(b"  copy # saves #.#: ", c, o, j);
+    let at = begin(b"  copy # saves #.#: ", [c, o, j]);
     let part = record_part(table_in(all, w, c), w.n, w.s, c, o, j);
     finish(put_part(at, w.n, part));
 }
@@ -26,12 +28,12 @@ fn say_saved(all: &[u8], w: Scene, c: usize, o: usize, j: usize) {
 // The copy saves what changed in the record of o.j, and says what it holds then.
 fn save_record(all: &mut [u8], w: Scene, c: usize, o: usize, j: usize, changed: bool) -> Scene {
     if !changed {
-        say(b"  copy #: nothing changes", c, 0, 0);
+        say(b"  copy #: nothing changes", [c]);
         return w;
     }
     say_saved(&*all, w, c, o, j);
     let entry = record_entry(&*all, w, c, o, j);
-    save(all, w, c, entry)
+    save(all, w, c, &entry)
 }
 
 // What a cut leaves of an entry that it falls into.
@@ -41,9 +43,7 @@ pub fn say_part(c: usize, part: usize, length: usize) {
     }
     say(
         b"  copy # has # of the entry's # bytes on its disk",
-        c,
-        part,
-        length,
+        [c, part, length],
     );
 }
 
@@ -51,42 +51,42 @@ pub fn say_part(c: usize, part: usize, length: usize) {
 fn cut_entry(all: &mut [u8], w: Scene, c: usize, o: usize, j: usize) -> Turn {
     let entry = record_entry(&*all, w, c, o, j);
     let reach = bytes_saved(w, c);
-    say(b"  copy # is cut off before it saves #.#", c, o, j);
-    say_part(c, reach, entry.length);
-    went(stopped(save_part(all, w, c, entry, reach), c))
+    say(b"  copy # is cut off before it saves #.#", [c, o, j]);
+    say_part(c, reach, entry.len());
+    Ok(stopped(save_part(all, w, c, &entry, reach), c))
 }
 
 // One message leaves copy c: it is on the way from now on.
 fn send_one(all: &mut [u8], w: Scene, c: usize, b: &[u8]) -> Scene {
     let to = to_of(b);
-    let at = begin(b"  message # leaves # for #: ", w.sent, c, to);
+    let at = begin(b"  message # leaves # for #: ", [w.sent, c, to]);
     finish(put_message(at, w.n, w.s, to, b));
     put_on(all, w, c, to, b)
 }
 
+// The whole message at a place of the room, if one stands there.
+fn whole_at(room: &[u8], at: usize) -> Option<&[u8]>
+    ensures { IfSome result (λ b. (0 < length b.now) × (at + length b.now ≤ length room.now)) }
+{
+    let left = room.get(at..)?;
+    let k = length_of(*left.first()? as usize);
+    if k == 0 { None } else { left.get(..k) }
+}
+
 // Whole messages stand one after the other in the first bytes of the room.
-fn send_all(all: &mut [u8], w: Scene, c: usize, room: &[u8], written: usize) -> Turn {
-    let mut now = w;
+fn send_all(all: &mut [u8], mut w: Scene, c: usize, room: &[u8], written: usize) -> Turn {
     let mut at = 0;
     while at < written {
-        if room.len() <= at {
+        let Some(b) = whole_at(room, at) else {
             break;
+        };
+        if is_full(w) {
+            return Err(Reason::WayFull);
         }
-        let length = length_of(byte_at(room, at));
-        if length == 0 {
-            break;
-        }
-        if room.len() - at < length {
-            break;
-        }
-        if is_full(now) {
-            return halted(now, Reason::WayFull);
-        }
-        let end = at + length;
-        now = send_one(&mut *all, now, c, &room[at..end]);
-        at = end;
+        w = send_one(&mut *all, w, c, b);
+        at += b.len();
     }
-    went(now)
+    Ok(w)
 }
 
 // An answered event is saved, and then its messages leave.
@@ -105,15 +105,15 @@ fn save_and_send(
     }
     let next = save_record(&mut *all, w, c, o, j, changed);
     if cut_before_sending(w, c) {
-        say(b"  copy # is cut off before it sends", c, 0, 0);
-        return went(stopped(next, c));
+        say(b"  copy # is cut off before it sends", [c]);
+        return Ok(stopped(next, c));
     }
     send_all(all, next, c, room, written)
 }
 
 fn refused(w: Scene, c: usize, b: &[u8], why: Refusal) -> Turn {
-    finish(put_wrong(begin(b"  copy #:", c, 0, 0), w, c, b, why));
-    went(w)
+    finish(put_wrong(begin(b"  copy #:", [c]), w, c, b, why));
+    Ok(w)
 }
 
 fn answered(
@@ -147,7 +147,7 @@ fn on_table(
             key,
             second,
             edit,
-        } => request::ask::request(t, n, s, c, room, op, key, second, edit),
+        } => request::ask::request(t, n, s, c, room, op_number(op), key, second, edit),
         Event::Message => receive::message::message(t, n, s, c, room, b),
         Event::Recover { o, j } => recover::recover(t, n, s, c, room, o, j),
         Event::Nudge { o, j } => nudge::nudge(t, n, s, c, room, o, j),

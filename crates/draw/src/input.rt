@@ -1,9 +1,9 @@
 // Reads all that `play` wrote, measures the picture, and then draws it.
 use crate::copies::end_run;
-use crate::marks::{MARKS, forget};
+use crate::marks::MARKS;
 use crate::picture::{Picture, blank, draw, moved};
 use crate::see::see;
-use text::bytes::{find, front};
+use text::bytes::front;
 use text::put::{empty, finish, put_bytes};
 
 // How much of what `play` wrote is drawn.
@@ -12,11 +12,8 @@ const ROOM: usize = 400000;
 // All lines one after the other.
 fn pass(p: Picture, text: &[u8], v: &mut [usize]) -> Picture {
     let mut q = p;
-    let mut at = 0;
-    while at < text.len() {
-        let end = find(text, at, text.len(), b'\n');
-        q = see(q, &text[at..end], &mut *v);
-        at = end + 1;
+    for line in text.split(|&b| b == b'\n') {
+        q = see(q, line, &mut *v);
     }
     q
 }
@@ -52,7 +49,7 @@ fn draw_head() {
 // The first pass writes nothing: it finds how wide and high the picture is.
 fn measured(text: &[u8], v: &mut [usize]) -> Picture {
     let p = pass(blank(false, 0, 0), text, &mut *v);
-    forget(v);
+    v.fill(0);
     blank(true, p.wide, p.high)
 }
 

@@ -5,12 +5,12 @@ ghost use Rattle.std.specs.Prelude.{◌≤◌};
 pub const MARKS: usize = 3088;
 
 pub fn get(v: &[usize], i: usize) -> usize {
-    if i < v.len() { v[i] } else { 0 }
+    v.get(i).copied().unwrap_or(0)
 }
 
 pub fn set(v: &mut [usize], i: usize, x: usize) {
-    if i < v.len() {
-        v[i] = x;
+    if let Some(mark) = v.get_mut(i) {
+        *mark = x;
     }
 }
 
@@ -31,12 +31,4 @@ pub fn leave(v: &mut [usize], id: usize, x: usize, from: usize, to: usize) {
     set(&mut *v, at, x);
     set(&mut *v, at + 1, from);
     set(&mut *v, at + 2, to);
-}
-
-pub fn forget(v: &mut [usize]) {
-    let mut i = 0;
-    while i < v.len() {
-        v[i] = 0;
-        i += 1;
-    }
 }

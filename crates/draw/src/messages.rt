@@ -1,7 +1,6 @@
 // The messages' arrows.
 use crate::marks::{get, leave, place};
 use crate::picture::{Picture, draw, line_of, moved, plus};
-use text::bytes::{find, front, least};
 use text::put::{empty, finish, put_bytes, put_form};
 
 fn half_way(a: usize, b: usize) -> usize {
@@ -21,10 +20,11 @@ pub fn depart(p: Picture, id: usize, from: usize, to: usize, v: &mut [usize]) ->
 
 // The first two words, with the space behind them.
 fn two_words(words: &[u8]) -> &[u8] {
-    let first = find(words, 0, words.len(), b' ');
-    let from = least(first + 1, words.len());
-    let second = find(words, from, words.len(), b' ');
-    front(words, second + 1)
+    let mut spaces = words.iter().enumerate().filter(|(_, b)| **b == b' ');
+    match spaces.nth(1) {
+        Some((second, _)) => &words[..=second],
+        None => words,
+    }
 }
 
 // What the message is: its name and instance, up to the ballot.
@@ -32,11 +32,7 @@ fn write_label(p: Picture, x: usize, y: usize, words: &[u8]) {
     if !p.writes {
         return;
     }
-    let open = put_form(
-        empty(),
-        b"<text x=\"#\" y=\"#\" class=\"label\">",
-        [x, y, 0, 0],
-    );
+    let open = put_form(empty(), b"<text x=\"#\" y=\"#\" class=\"label\">", [x, y]);
     finish(put_bytes(put_bytes(open, two_words(words)), b"</text>"));
 }
 
@@ -69,7 +65,7 @@ pub fn lose(p: Picture, id: usize, v: &[usize]) -> Picture {
     draw(
         q,
         b"<path class=\"cross\" d=\"M# #m-4 -4l8 8m-8 0l8 -8\"/>",
-        [q.x, below, 0, 0],
+        [q.x, below],
     );
     q
 }

@@ -13,7 +13,7 @@ pub struct Picture {
     pub writes: bool,
 }
 
-const LEFT: usize = 70;
+pub const LEFT: usize = 70;
 
 const FAR: usize = 1000000;
 
@@ -26,7 +26,7 @@ pub fn blank(writes: bool, wide: usize, high: usize) -> Picture {
         n: 0,
         x: LEFT,
         top: 0,
-        wide: larger(wide, KEY),
+        wide: wide.max(KEY),
         high,
         writes,
     }
@@ -34,25 +34,17 @@ pub fn blank(writes: bool, wide: usize, high: usize) -> Picture {
 
 // A number that stays in range.
 pub fn plus(a: usize, b: usize) -> usize {
-    if FAR < a {
-        return FAR;
-    }
-    if FAR < b {
-        return FAR;
-    }
-    a + b
-}
-
-fn larger(a: usize, b: usize) -> usize {
-    if a < b { b } else { a }
+    if FAR < a || FAR < b { FAR } else { a + b }
 }
 
 // The pen moves right.
 pub fn moved(p: Picture, by: usize) -> Picture {
-    let mut q = p;
-    q.x = plus(p.x, by);
-    q.wide = larger(p.wide, plus(q.x, 40));
-    q
+    let x = plus(p.x, by);
+    Picture {
+        x,
+        wide: p.wide.max(plus(x, 40)),
+        ..p
+    }
 }
 
 // The height of n lines.
@@ -62,12 +54,14 @@ fn lines(n: usize) -> usize {
 
 // A run of n copies begins below the last one.
 pub fn with_run(p: Picture, n: usize) -> Picture {
-    let mut q = p;
-    q.n = n;
-    q.x = LEFT;
-    q.top = plus(p.top, lines(p.n));
-    q.high = plus(q.top, lines(n));
-    q
+    let top = plus(p.top, lines(p.n));
+    Picture {
+        n,
+        x: LEFT,
+        top,
+        high: plus(top, lines(n)),
+        ..p
+    }
 }
 
 // The height of a copy's line.
@@ -75,14 +69,9 @@ pub fn line_of(p: Picture, c: usize) -> usize {
     plus(plus(p.top, lines(c)), 45)
 }
 
-pub fn left() -> usize {
-    LEFT
-}
-
-// Draws a part by its form, with up to four numbers.
-pub fn draw(p: Picture, form: &[u8], v: [usize; 4]) {
-    if !p.writes {
-        return;
+// Draws a part by its form, with the numbers in it.
+pub fn draw<const K: usize>(p: Picture, form: &[u8], v: [usize; K]) {
+    if p.writes {
+        finish(put_form(empty(), form, v));
     }
-    finish(put_form(empty(), form, v));
 }

@@ -4,15 +4,6 @@ use crate::messages::{arrive, depart, lose};
 use crate::picture::{Picture, moved};
 use text::forms::which_form;
 
-// What follows a place and the space there.
-fn behind(line: &[u8], rest: usize) -> &[u8] {
-    if line.len() <= rest {
-        return &line[..0];
-    }
-    let from = rest + 1;
-    &line[from..]
-}
-
 fn commit(p: Picture, c: usize, o: usize, j: usize) -> Picture {
     mark(
         moved(p, 8),
@@ -39,13 +30,12 @@ fn at_copy(p: Picture, form: usize, v: &mut [usize], c: usize, o: usize, j: usiz
         5 => hand_out(p, c, o, j),
         6 => commit(p, c, o, j),
         7 => turned(p, c, v, 0),
-        8 | 9 | 10 | 11 => stop(p, c, v),
-        _ => p,
+        _ => stop(p, c, v),
     }
 }
 
 pub fn see(p: Picture, line: &[u8], v: &mut [usize]) -> Picture {
-    let got = which_form(
+    let read = which_form(
         line,
         b"copies #, numbers #\
             |  message # leaves # for #:*\
@@ -60,13 +50,15 @@ pub fn see(p: Picture, line: &[u8], v: &mut [usize]) -> Picture {
             |  copy # is cut off before it sends\
             |  copy # is cut off after # of # marks are saved",
     );
-    let form = got.form;
+    let Some(got) = read else {
+        return p;
+    };
     let a = got.v;
-    match form {
+    match got.form {
         0 => begin_run(p, a[0], v),
         1 => depart(p, a[0], a[1], a[2], v),
-        2 => arrive(p, a[0], a[1], &*v, behind(line, got.rest)),
+        2 => arrive(p, a[0], a[1], &*v, got.rest),
         3 | 4 => lose(p, a[0], &*v),
-        _ => at_copy(p, form, v, a[0], a[1], a[2]),
+        form => at_copy(p, form, v, a[0], a[1], a[2]),
     }
 }

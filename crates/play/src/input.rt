@@ -1,36 +1,32 @@
 // Reads the script and plays it line by line, until a line cannot be played.
 use crate::line::play_line;
-use course::turn::{Turn, went};
 use say::reason::put_reason;
 use say::value::begin;
 use scene::copies::begun;
 use scene::disks::ALL;
-use text::lines::{before_first, next_line};
+use script::Reason;
+use text::lines::Lines;
 use text::put::finish;
 
 // Says in which line, and why, the run stopped.
-fn say_halt(line: usize, turn: Turn) {
-    let why = turn.why;
-    finish(put_reason(begin(b"line #: ", line, 0, 0), why));
+fn say_halt(line: usize, why: Reason) {
+    finish(put_reason(begin(b"line #: ", [line]), why));
 }
 
 // A proved loop has to end, and nothing says that the input does: the lines count up to a number that no script reaches.
 fn play_lines(buf: &mut [u8], all: &mut [u8]) {
-    let mut count = 0;
-    let mut turn = went(begun(0, 0));
-    let mut line = before_first();
-    while count < 4294967295 {
-        line = next_line(&mut *buf, line);
-        if !line.more {
+    let mut lines = Lines::new(buf);
+    let mut w = begun(0, 0);
+    for count in 1..4294967296 {
+        let Some(line) = lines.next_line() else {
             break;
-        }
-        let from = line.from;
-        let end = line.end;
-        turn = play_line(&buf[from..end], turn.scene, &mut *all);
-        count += 1;
-        if !turn.good {
-            say_halt(count, turn);
-            break;
+        };
+        match play_line(line, w, &mut *all) {
+            Ok(next) => w = next,
+            Err(why) => {
+                say_halt(count, why);
+                break;
+            }
         }
     }
 }

@@ -2,7 +2,7 @@
 use course::ask::{ask, hand_out};
 use course::deliver::{between, deliver_all};
 use course::restart::{begin_journal, restart};
-use course::turn::{Turn, halted, went};
+use course::turn::Turn;
 use course::work::event;
 use entries::Kind;
 use journal::entry::kind_length;
@@ -18,21 +18,20 @@ use text::put::{empty, finish, put_bytes};
 
 fn copies(all: &mut [u8], w: Scene, n: usize, s: usize) -> Turn {
     if !setup_ok(n, s, 0) {
-        return halted(w, Reason::Setup);
+        return Err(Reason::Setup);
     }
     let next = begun(n, s);
     blank_all(all, next);
-    went(next)
+    Ok(next)
 }
 
 // What a copy is told to do; no message is handed in with it.
 fn act(all: &mut [u8], w: Scene, c: usize, what: Act) -> Turn {
-    let none = [0u8; 1];
     if is_down(w, c) {
-        return halted(w, Reason::IsDown);
+        return Err(Reason::IsDown);
     }
     match what {
-        Act::Event(what) => event(all, w, c, what, &none[..0]),
+        Act::Event(what) => event(all, w, c, what, &[]),
         Act::Ask { o, j } => ask(&*all, w, c, o, j),
         Act::HandOut(room) => hand_out(all, w, c, room),
         Act::Anew => begin_journal(all, w, c),
@@ -44,24 +43,26 @@ fn has_byte(when: Moment) -> bool {
     match when {
         Moment::Entry(bytes) => bytes < kind_length(Kind::Record),
         Moment::Marks { whole: _, bytes } => bytes < kind_length(Kind::Mark),
-        _ => true,
+        Moment::Saving | Moment::Sending => true,
     }
 }
 
 fn cut(w: Scene, c: usize, when: Moment) -> Turn {
     if is_down(w, c) {
-        return halted(w, Reason::IsDown);
+        return Err(Reason::IsDown);
     }
     if !has_byte(when) {
-        return halted(w, Reason::NoEntryByte);
+        return Err(Reason::NoEntryByte);
     }
-    match when {
-        Moment::Now => {
-            say(b"  copy # stops", c, 0, 0);
-            went(stopped(w, c))
-        }
-        _ => went(awaiting(w, c, when)),
+    Ok(awaiting(w, c, when))
+}
+
+fn stop(w: Scene, c: usize) -> Turn {
+    if is_down(w, c) {
+        return Err(Reason::IsDown);
     }
+    say(b"  copy # stops", [c]);
+    Ok(stopped(w, c))
 }
 
 // The copy that a step names.
@@ -69,6 +70,7 @@ fn named(step: Step) -> usize {
     match step {
         Step::At(c, _) => c,
         Step::Cut(c, _) => c,
+        Step::Stop(c) => c,
         Step::Restart(c) => c,
         Step::ShowCopy(c) => c,
         _ => 0,
@@ -78,31 +80,32 @@ fn named(step: Step) -> usize {
 // A step at one copy.
 fn play_copy(all: &mut [u8], w: Scene, step: Step) -> Turn {
     if w.n <= named(step) {
-        return halted(w, Reason::NoCopy);
+        return Err(Reason::NoCopy);
     }
     match step {
         Step::At(c, what) => act(all, w, c, what),
         Step::Cut(c, when) => cut(w, c, when),
+        Step::Stop(c) => stop(w, c),
         Step::Restart(c) => restart(all, w, c),
         Step::ShowCopy(c) => {
             show_copy(&*all, w, c);
-            went(w)
+            Ok(w)
         }
-        _ => went(w),
+        _ => Ok(w),
     }
 }
 
 // A step of a run that has begun.
 fn play_step(all: &mut [u8], w: Scene, step: Step) -> Turn {
     if w.n == 0 {
-        return halted(w, Reason::NoRun);
+        return Err(Reason::NoRun);
     }
     match step {
         Step::Way { from, to, fate } => between(all, w, from, to, fate),
         Step::All => deliver_all(all, w),
         Step::Show => {
             show_all(&*all, w);
-            went(w)
+            Ok(w)
         }
         _ => play_copy(all, w, step),
     }
@@ -111,11 +114,10 @@ fn play_step(all: &mut [u8], w: Scene, step: Step) -> Turn {
 // The line stands in what is written, above what came of it.
 pub fn play_line(line: &[u8], w: Scene, all: &mut [u8]) -> Turn {
     finish(put_bytes(empty(), line));
-    let step = step_of(line);
+    let step = step_of(line)?;
     match step {
-        Step::Text => went(w),
+        Step::Text => Ok(w),
         Step::Copies { n, s } => copies(all, w, n, s),
-        Step::Bad(why) => halted(w, why),
         _ => play_step(all, w, step),
     }
 }

@@ -2,50 +2,46 @@
 use crate::play::Setup;
 use codec::op_of;
 use nouns::command::op_number;
-use nouns::logic::{both, equal, wide8, wide16, wide32};
 use nouns::message::{body_of, command_in, joined_in, kind_of, status_in, voted_in};
 use paper::{Body, Carried, Command, Message, Refusal};
-use text::bytes::{front, front_mut, low8, low32, size};
+use text::bytes::{front_mut, low8, low32};
 use text::forms::{BYTES, NUMBERS, Read};
-use text::put::{
-    Text, bad_line, empty, put_bytes, put_form, put_hex, put_number, put_refused, wide,
-};
+use text::put::{Text, bad_line, empty, put_bytes, put_form, put_hex, put_number, put_refused};
 
 fn put_names(out: Text, m: Message) -> Text {
     let body = m.body;
-    let kind = wide8(kind_of(body));
-    let copies = [kind, wide8(m.from), wide8(m.to), wide8(m.owner)];
+    let copies = [kind_of(body), m.from, m.to, m.owner].map(usize::from);
     let named = put_form(out, b" # # # #", copies);
-    put_form(named, b" # #", [wide16(m.number), wide32(m.ballot), 0, 0])
+    put_form(named, b" # #", [m.number as usize, m.ballot as usize])
 }
 
 // What only some kinds carry, 0 where this one does not.
 fn put_body(out: Text, body: Body) -> Text {
     let k = command_in(body);
-    let op = k.op;
     let told = [
-        wide32(voted_in(body)),
-        wide8(status_in(body)),
-        wide32(joined_in(body)),
-        0,
+        voted_in(body) as usize,
+        status_in(body) as usize,
+        joined_in(body) as usize,
     ];
-    let v = [op_number(op), wide32(k.key), wide32(k.second), size(k.edit)];
+    let v = [
+        op_number(k.op),
+        k.key as usize,
+        k.second as usize,
+        k.edit as usize,
+    ];
     put_form(put_form(out, b" # # #", told), b" # # # #", v)
 }
 
-fn put_deps(out: Text, deps: [u16; 7]) -> Text {
-    let mut next = out;
-    for i in 0..7 {
-        next = put_number(next, wide16(deps[i]));
+fn put_deps(mut out: Text, deps: [u16; 7]) -> Text {
+    for j in deps {
+        out = put_number(out, j as usize);
     }
-    next
+    out
 }
 
 // Every field of a message, in the order of the line.
 fn put_message(out: Text, m: Message) -> Text {
-    let body = m.body;
-    let deps = m.deps;
-    put_deps(put_body(put_names(out, m), body), deps)
+    put_deps(put_body(put_names(out, m), m.body), m.deps)
 }
 
 // The message written again, into a room of 256 bytes.
@@ -70,9 +66,8 @@ fn read_bytes(b: &[u8], w: Setup) -> Text {
 }
 
 // C read BYTES
-pub fn read(got: Read, w: Setup) -> Text {
-    let bytes = got.bytes;
-    read_bytes(front(&bytes, got.length), w)
+pub fn read(got: &Read, w: Setup) -> Text {
+    read_bytes(&got.bytes, w)
 }
 
 fn low16(x: usize) -> u16 {
@@ -84,7 +79,7 @@ fn command_of(v: [usize; NUMBERS]) -> Command {
         op: op_of(low8(v[11])),
         key: low32(v[12]),
         second: low32(v[13]),
-        edit: wide(v[14]),
+        edit: v[14] as u64,
     }
 }
 
@@ -101,8 +96,8 @@ fn carried_of(v: [usize; NUMBERS]) -> Carried {
 
 fn deps_of(v: [usize; NUMBERS]) -> [u16; 7] {
     let mut deps = [0u16; 7];
-    for i in 0..7 {
-        deps[i] = low16(v[i + 15]);
+    for (d, &j) in deps.iter_mut().zip(&v[15..]) {
+        *d = low16(j);
     }
     deps
 }
@@ -135,12 +130,7 @@ fn most(i: usize) -> usize {
 }
 
 fn fit(v: [usize; NUMBERS]) -> bool {
-    for i in 0..NUMBERS {
-        if v[i] > most(i) {
-            return false;
-        }
-    }
-    v[2] > 0
+    v.iter().enumerate().all(|(i, &x)| x <= most(i)) && v[2] > 0
 }
 
 fn put_writing(answer: Result<usize, Refusal>) -> Text {
@@ -158,16 +148,15 @@ fn write_to(room: &mut [u8], w: Setup, m: Message) -> Text {
 
 // The kind of the line is the one that its body has with its command.
 fn agree(v: [usize; NUMBERS], m: Message) -> bool {
-    let body = m.body;
-    equal(v[2], wide8(kind_of(body)))
+    v[2] == kind_of(m.body) as usize
 }
 
 // C write ROOM KIND FROM TO OWNER NUMBER BALLOT VOTED STATUS JOINED OP KEY SECOND EDIT D0 .. D6
-pub fn write(got: Read, w: Setup) -> Text {
+pub fn write(got: &Read, w: Setup) -> Text {
     let mut room = [0xEEu8; BYTES];
     let v = got.v;
     let m = message_of(v);
-    if !both(fit(v), agree(v, m)) {
+    if !fit(v) || !agree(v, m) {
         return bad_line();
     }
     write_to(front_mut(&mut room, v[1]), w, m)

@@ -2,7 +2,7 @@
 use crate::{messages, tables};
 use table::LONGEST;
 use text::forms::{Read, which_form};
-use text::lines::{before_first, is_passed_over, next_line};
+use text::lines::{Lines, is_passed_over};
 use text::put::{Text, bad_line, finish};
 
 // The setup of the calls that follow, and the copy of a call.
@@ -14,9 +14,8 @@ pub struct Setup {
 }
 
 // The answer to a call, by the place of its form below.
-fn answer_of(got: Read, w: Setup, t: &mut [u8]) -> Text {
-    let form = got.form;
-    match form {
+fn answer_of(got: &Read, w: Setup, t: &mut [u8]) -> Text {
+    match got.form {
         1 => messages::read(got, w),
         2 => messages::write(got, w),
         3 => tables::judge(got, w, t),
@@ -26,10 +25,9 @@ fn answer_of(got: Read, w: Setup, t: &mut [u8]) -> Text {
     }
 }
 
-fn play_call(got: Read, old: Setup, t: &mut [u8]) {
-    let mut w = old;
-    w.c = got.v[0];
-    finish(answer_of(got, w, t));
+fn play_call(got: &Read, w: Setup, t: &mut [u8]) {
+    let c = got.v[0];
+    finish(answer_of(got, Setup { c, ..w }, t));
 }
 
 // Plays one line; the setup that holds after it.
@@ -37,7 +35,7 @@ fn play_line(line: &[u8], w: Setup, t: &mut [u8]) -> Setup {
     if is_passed_over(line) {
         return w;
     }
-    let got = which_form(
+    let read = which_form(
         line,
         b"run # #\
             |# read @\
@@ -46,6 +44,10 @@ fn play_line(line: &[u8], w: Setup, t: &mut [u8]) -> Setup {
             |# blank #\
             |# part # # #",
     );
+    let Some(got) = read else {
+        finish(bad_line());
+        return w;
+    };
     if got.form == 0 {
         return Setup {
             n: got.v[0],
@@ -53,24 +55,19 @@ fn play_line(line: &[u8], w: Setup, t: &mut [u8]) -> Setup {
             c: 0,
         };
     }
-    play_call(got, w, t);
+    play_call(&got, w, t);
     w
 }
 
-// A proved loop has to end, and nothing says that the input does: the lines count down from a number that no run uses up.
+// A proved loop has to end, and nothing says that the input does: the lines are counted, up to a number that no run reaches.
 fn play_lines(buf: &mut [u8], t: &mut [u8]) {
-    let mut lines = u64::MAX;
+    let mut lines = Lines::new(buf);
     let mut w = Setup { n: 0, s: 0, c: 0 };
-    let mut line = before_first();
-    while 0 < lines {
-        line = next_line(&mut *buf, line);
-        if !line.more {
+    for _ in 0..u64::MAX {
+        let Some(line) = lines.next_line() else {
             break;
-        }
-        let from = line.from;
-        let end = line.end;
-        w = play_line(&buf[from..end], w, &mut *t);
-        lines -= 1;
+        };
+        w = play_line(line, w, &mut *t);
     }
 }
 

@@ -1,18 +1,15 @@
 // The calls on one table: judge, blank and part. The table's bytes are lent, as many as the longest table has.
 use crate::play::Setup;
-use nouns::logic::{both, either};
 use paper::Refusal;
 use table::part_start;
-use text::bytes::{behind, checksum, fill, front, front_mut, low8, write};
+use text::bytes::{behind, checksum, front_mut, low8, write};
 use text::forms::Read;
 use text::put::{Text, bad_line, empty, put_bytes, put_number, put_refused};
 
 // Byte i is i modulo 251.
 fn count_up(t: &mut [u8]) {
-    let mut i = 0;
-    while i < t.len() {
-        t[i] = low8(i % 251);
-        i += 1;
+    for (i, b) in t.iter_mut().enumerate() {
+        *b = low8(i % 251);
     }
 }
 
@@ -37,25 +34,24 @@ fn put_judging(answer: Result<(), Refusal>) -> Text {
 }
 
 // The answer for a table that is blank but for the bytes of the line.
-fn judge_in(t: &mut [u8], w: Setup, got: Read) -> Text {
+fn judge_in(t: &mut [u8], w: Setup, got: &Read) -> Text {
     let v = got.v;
-    let bytes = got.bytes;
-    fill(&mut *t, 0);
+    t.fill(0);
     let _ = table::blank_table(&mut *t, w.n, w.s, w.c);
-    set(&mut *t, w, v[2], v[3], v[4], front(&bytes, got.length));
+    set(&mut *t, w, v[2], v[3], v[4], &got.bytes);
     put_judging(table::judge_table(&*t, w.n, w.s, w.c))
 }
 
 // The line names a record, or the table itself.
 fn names_place(o: usize, j: usize) -> bool {
-    either(o == 9, both(o < 9, 0 < j))
+    o == 9 || o < 9 && 0 < j
 }
 
 // C judge LEN O J AT BYTES
-pub fn judge(got: Read, w: Setup, t: &mut [u8]) -> Text {
+pub fn judge(got: &Read, w: Setup, t: &mut [u8]) -> Text {
     let v = got.v;
     let length = v[1];
-    if !both(length <= t.len(), names_place(v[2], v[3])) {
+    if t.len() < length || !names_place(v[2], v[3]) {
         return bad_line();
     }
     judge_in(front_mut(t, length), w, got)
@@ -69,13 +65,13 @@ fn put_blanking(answer: Result<(), Refusal>) -> Text {
 }
 
 fn blank_in(t: &mut [u8], w: Setup) -> Text {
-    fill(&mut *t, 0xEE);
+    t.fill(0xEE);
     let answer = table::blank_table(&mut *t, w.n, w.s, w.c);
     put_number(put_blanking(answer), checksum(&*t))
 }
 
 // C blank LEN
-pub fn blank(got: Read, w: Setup, t: &mut [u8]) -> Text {
+pub fn blank(got: &Read, w: Setup, t: &mut [u8]) -> Text {
     let length = got.v[1];
     if t.len() < length {
         return bad_line();
@@ -91,7 +87,7 @@ fn part_in(t: &mut [u8], w: Setup, o: usize, j: usize) -> Text {
 }
 
 // C part LEN O J
-pub fn part(got: Read, w: Setup, t: &mut [u8]) -> Text {
+pub fn part(got: &Read, w: Setup, t: &mut [u8]) -> Text {
     let v = got.v;
     let length = v[1];
     if t.len() < length {

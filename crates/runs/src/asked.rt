@@ -3,16 +3,18 @@ use crate::event::put_no;
 use crate::kept::keep_marks;
 use crate::told::{Outcome, Told, said};
 use nouns::command::op_number;
-use nouns::logic::{wide16, wide32};
 use nouns::setup::INSTANCES;
 use order::Settling;
 use paper::{Command, Refusal};
-use text::bytes::size;
 use text::put::{Text, bad_line, empty, put_bytes, put_form, put_number};
 
 fn put_settled(k: Command) -> Text {
-    let op = k.op;
-    let v = [op_number(op), wide32(k.key), wide32(k.second), size(k.edit)];
+    let v = [
+        op_number(k.op),
+        k.key as usize,
+        k.second as usize,
+        k.edit as usize,
+    ];
     put_form(empty(), b"= settled # # # #", v)
 }
 
@@ -36,13 +38,8 @@ pub fn settled(t: &[u8], w: Told, o: usize, j: usize) -> Text {
 // The first k codes of the list, all of it where k is more; a space after the word even where there are none.
 fn put_codes(list: &[u16], k: usize) -> Text {
     let mut next = put_bytes(empty(), b"= codes");
-    let mut i = 0;
-    while i < list.len() {
-        if k <= i {
-            break;
-        }
-        next = put_number(next, wide16(list[i]));
-        i += 1;
+    for &code in list.iter().take(k) {
+        next = put_number(next, code as usize);
     }
     next
 }

@@ -2,11 +2,10 @@
 use crate::kept::keep_record;
 use crate::told::{Outcome, Told, said};
 use gate::Event;
-use nouns::logic::both;
 use paper::Refusal;
-use text::bytes::{front, low32};
+use text::bytes::low32;
 use text::forms::{NUMBERS, Read};
-use text::put::{Text, bad_line, empty, put_bytes, put_form, put_hex, put_refused, wide};
+use text::put::{Text, bad_line, empty, put_bytes, put_form, put_hex, put_refused};
 
 pub fn put_no(why: Refusal) -> Text {
     put_refused(put_bytes(empty(), b"="), why)
@@ -35,18 +34,16 @@ fn kept(w: Told, answer: Result<Event, Refusal>, t: &[u8], d: &mut [u8]) -> Told
 fn ask(v: [usize; NUMBERS], w: Told, t: &mut [u8], room: &mut [u8]) -> Result<Event, Refusal> {
     let key = low32(v[2]);
     let second = low32(v[3]);
-    let edit = wide(v[4]);
+    let edit = v[4] as u64;
     request::ask::request(t, w.n, w.s, w.c, room, v[1], key, second, edit)
 }
 
 // The library's answer, by the place of the call's form.
-fn answer_of(got: Read, w: Told, t: &mut [u8], room: &mut [u8]) -> Result<Event, Refusal> {
+fn answer_of(got: &Read, w: Told, t: &mut [u8], room: &mut [u8]) -> Result<Event, Refusal> {
     let v = got.v;
-    let bytes = got.bytes;
-    let form = got.form;
-    match form {
+    match got.form {
         6 => ask(v, w, t, room),
-        7 => receive::message::message(t, w.n, w.s, w.c, room, front(&bytes, got.length)),
+        7 => receive::message::message(t, w.n, w.s, w.c, room, &got.bytes),
         8 => recover::recover(t, w.n, w.s, w.c, room, v[1], v[2]),
         _ => nudge::nudge(t, w.n, w.s, w.c, room, v[1], v[2]),
     }
@@ -54,13 +51,13 @@ fn answer_of(got: Read, w: Told, t: &mut [u8], room: &mut [u8]) -> Result<Event,
 
 // Keys are u32.
 fn keys_fit(key: usize, second: usize) -> bool {
-    both(key <= 4294967295, second <= 4294967295)
+    key <= 4294967295 && second <= 4294967295
 }
 
 // C request OP KEY SECOND EDIT, C message BYTES, C recover OWNER NUMBER, C nudge OWNER NUMBER
-pub fn event(got: Read, w: Told, t: &mut [u8], d: &mut [u8], room: &mut [u8]) -> Outcome {
+pub fn event(got: &Read, w: Told, t: &mut [u8], d: &mut [u8], room: &mut [u8]) -> Outcome {
     let v = got.v;
-    if both(got.form == 6, !keys_fit(v[2], v[3])) {
+    if got.form == 6 && !keys_fit(v[2], v[3]) {
         return said(bad_line(), w);
     }
     let answer = answer_of(got, w, &mut *t, &mut *room);

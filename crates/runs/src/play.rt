@@ -5,9 +5,9 @@ use crate::told::{Outcome, Told, at_copy, begun, poked, said, way};
 use crate::{asked, event};
 use storage::DISK;
 use table::LONGEST;
-use text::bytes::{checksum, fill, front, front_mut, part, part_mut, write};
+use text::bytes::{checksum, front_mut, part, part_mut, write};
 use text::forms::{BYTES, Read, which_form};
-use text::lines::{before_first, is_passed_over, next_line};
+use text::lines::{Lines, is_passed_over};
 use text::put::{Text, bad_line, finish, put_number};
 
 // Seven areas, one for each copy's table, and one for the stream's buffer.
@@ -38,23 +38,21 @@ fn blank_all(all: &mut [u8], w: Told) {
     }
 }
 
-fn play_run(got: Read, all: &mut [u8]) -> Told {
+fn play_run(got: &Read, all: &mut [u8]) -> Told {
     let w = begun(got.v[0], got.v[1]);
-    fill(&mut *all, 0);
+    all.fill(0);
     blank_all(all, w);
     w
 }
 
 // The answer to a call, by the place of its form.
-fn answer_of(got: Read, w: Told, t: &mut [u8], d: &mut [u8], room: &mut [u8]) -> Outcome {
+fn answer_of(got: &Read, w: Told, t: &mut [u8], d: &mut [u8], room: &mut [u8]) -> Outcome {
     let v = got.v;
-    let form = got.form;
-    match form {
+    match got.form {
         6 | 7 | 8 | 9 => event::event(got, w, t, d, room),
         10 => said(asked::settled(&*t, w, v[1], v[2]), w),
         11 => asked::hand_out(t, w, d, v[1]),
-        12 => cut(w, v[0], v[1], t, &*d),
-        _ => said(bad_line(), w),
+        _ => cut(w, v[0], v[1], t, &*d),
     }
 }
 
@@ -66,23 +64,20 @@ fn put_watched(out: Text, w: Told, t: &[u8], room: &[u8]) -> Text {
     put_number(put_number(out, checksum(t)), checksum(room))
 }
 
-fn play_in(got: Read, w: Told, t: &mut [u8], d: &mut [u8], room: &mut [u8]) -> Told {
+fn play_in(got: &Read, w: Told, t: &mut [u8], d: &mut [u8], room: &mut [u8]) -> Told {
     let answer = answer_of(got, w, &mut *t, d, &mut *room);
-    let text = answer.text;
-    finish(put_watched(text, w, &*t, &*room));
+    finish(put_watched(answer.text, w, &*t, &*room));
     answer.told
 }
 
 // C poke AT BYTES
-fn poke(got: Read, w: Told, t: &mut [u8]) -> Told {
-    let bytes = got.bytes;
-    let v = got.v;
-    write(t, v[1], front(&bytes, got.length));
-    poked(w, v[0])
+fn poke(got: &Read, w: Told, t: &mut [u8]) -> Told {
+    write(t, got.v[1], &got.bytes);
+    poked(w, got.v[0])
 }
 
 // A call with the part of the copy's area that is lent.
-fn play_call(got: Read, w: Told, t: &mut [u8], d: &mut [u8]) -> Told {
+fn play_call(got: &Read, w: Told, t: &mut [u8], d: &mut [u8]) -> Told {
     let mut room = [0xEEu8; BYTES];
     if got.form == 5 {
         return poke(got, w, t);
@@ -95,9 +90,8 @@ fn play_call(got: Read, w: Told, t: &mut [u8], d: &mut [u8]) -> Told {
 }
 
 // A call is about to be made; a cut is none.
-fn before_call(got: Read, w: Told, all: &[u8], disks: &mut [u8]) -> Told {
-    let v = got.v;
-    let copy = v[0];
+fn before_call(got: &Read, w: Told, all: &[u8], disks: &mut [u8]) -> Told {
+    let copy = got.v[0];
     if got.form == 12 {
         return w;
     }
@@ -105,9 +99,8 @@ fn before_call(got: Read, w: Told, all: &[u8], disks: &mut [u8]) -> Told {
     ready(w, copy, t, disk_of(disks, copy))
 }
 
-fn play_copy(got: Read, old: Told, all: &mut [u8], disks: &mut [u8]) -> Told {
-    let v = got.v;
-    let copy = v[0];
+fn play_copy(got: &Read, old: Told, all: &mut [u8], disks: &mut [u8]) -> Told {
+    let copy = got.v[0];
     let w = before_call(got, old, &*all, &mut *disks);
     let t = part_mut(all, start_of(copy), w.length);
     if t.len() != w.length {
@@ -118,7 +111,7 @@ fn play_copy(got: Read, old: Told, all: &mut [u8], disks: &mut [u8]) -> Told {
 }
 
 // stream ROOM, or take BYTES
-fn play_stream(got: Read, w: Told, all: &mut [u8]) -> Told {
+fn play_stream(got: &Read, w: Told, all: &mut [u8]) -> Told {
     if got.form == 14 {
         return take_line(got, w, part_mut(all, TABLES, w.buffer));
     }
@@ -132,17 +125,12 @@ fn play_stream(got: Read, w: Told, all: &mut [u8]) -> Told {
 }
 
 // Plays one line that is read, by the place of its form; how the calls after it are made.
-fn play_read(got: Read, w: Told, all: &mut [u8], disks: &mut [u8]) -> Told {
-    let form = got.form;
-    match form {
+fn play_read(got: &Read, w: Told, all: &mut [u8], disks: &mut [u8]) -> Told {
+    match got.form {
         0 => play_run(got, all),
         1 | 2 | 3 | 4 => way(got, w),
         5 | 6 | 7 | 8 | 9 | 10 | 11 | 12 => play_copy(got, w, all, disks),
-        13 | 14 => play_stream(got, w, all),
-        _ => {
-            finish(bad_line());
-            w
-        }
+        _ => play_stream(got, w, all),
     }
 }
 
@@ -150,7 +138,7 @@ fn play_line(line: &[u8], w: Told, all: &mut [u8], disks: &mut [u8]) -> Told {
     if is_passed_over(line) {
         return w;
     }
-    let got = which_form(
+    let read = which_form(
         line,
         b"run # #\
             |as # # #\
@@ -168,23 +156,24 @@ fn play_line(line: &[u8], w: Told, all: &mut [u8], disks: &mut [u8]) -> Told {
             |stream #\
             |take @",
     );
-    play_read(got, w, all, disks)
+    match read {
+        Some(got) => play_read(&got, w, all, disks),
+        None => {
+            finish(bad_line());
+            w
+        }
+    }
 }
 
-// A proved loop has to end, and nothing says that the input does: the lines count down from a number that no run uses up.
+// A proved loop has to end, and nothing says that the input does: the lines are counted, up to a number that no run reaches.
 fn play_lines(buf: &mut [u8], all: &mut [u8], disks: &mut [u8]) {
-    let mut lines = u64::MAX;
+    let mut lines = Lines::new(buf);
     let mut w = begun(0, 0);
-    let mut line = before_first();
-    while 0 < lines {
-        line = next_line(&mut *buf, line);
-        if !line.more {
+    for _ in 0..u64::MAX {
+        let Some(line) = lines.next_line() else {
             break;
-        }
-        let from = line.from;
-        let end = line.end;
-        w = play_line(&buf[from..end], w, &mut *all, &mut *disks);
-        lines -= 1;
+        };
+        w = play_line(line, w, &mut *all, &mut *disks);
     }
 }
 

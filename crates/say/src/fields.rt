@@ -1,16 +1,8 @@
 // The fields of a message in its bytes: which of them begins where, and the number in each.
-use nouns::logic::{both, equal};
 use nouns::message::{has_field, row_of};
 use paper::{Field, Parts, Row};
-use text::bytes::{byte_at, part};
+use text::bytes::part;
 use wire::{kind_at, offset_of, width_of};
-
-// What begins at a place of a message.
-#[derive(Clone, Copy)]
-pub enum Begins {
-    Field(Field),
-    Nothing,
-}
 
 // What messages of the kind of this one are like.
 pub fn row_at(b: &[u8]) -> Row {
@@ -19,72 +11,55 @@ pub fn row_at(b: &[u8]) -> Row {
 
 // It is of a kind that carries rewires alone.
 pub fn is_for_rewire(b: &[u8]) -> bool {
-    let row = row_at(b);
-    let parts = row.parts;
-    parts.second
+    row_at(b).parts.second
 }
 
 // Every field in the order of the bytes.
-fn field(i: usize) -> Field {
-    match i {
-        0 => Field::From,
-        1 => Field::To,
-        2 => Field::Owner,
-        3 => Field::Number,
-        4 => Field::Ballot,
-        5 => Field::Voted,
-        6 => Field::Status,
-        7 => Field::Op,
-        8 => Field::Key,
-        9 => Field::Second,
-        10 => Field::Edit,
-        11 => Field::Entry(0),
-        12 => Field::Entry(1),
-        13 => Field::Entry(2),
-        14 => Field::Entry(3),
-        15 => Field::Entry(4),
-        16 => Field::Entry(5),
-        17 => Field::Entry(6),
-        _ => Field::Joined,
-    }
-}
+const FIELDS: [Field; 19] = [
+    Field::From,
+    Field::To,
+    Field::Owner,
+    Field::Number,
+    Field::Ballot,
+    Field::Voted,
+    Field::Status,
+    Field::Op,
+    Field::Key,
+    Field::Second,
+    Field::Edit,
+    Field::Entry(0),
+    Field::Entry(1),
+    Field::Entry(2),
+    Field::Entry(3),
+    Field::Entry(4),
+    Field::Entry(5),
+    Field::Entry(6),
+    Field::Joined,
+];
 
 fn begins_at(p: Parts, f: Field, offset: usize) -> bool {
-    both(has_field(p, f), equal(offset_of(p, f), offset))
+    has_field(p, f) && offset_of(p, f) == offset
 }
 
-pub fn field_at(b: &[u8], offset: usize) -> Begins {
-    let row = row_at(b);
-    let parts = row.parts;
-    for i in 0..19 {
-        let f = field(i);
-        if begins_at(parts, f, offset) {
-            return Begins::Field(f);
-        }
-    }
-    Begins::Nothing
+// The field that begins at a place of a message.
+pub fn field_at(b: &[u8], offset: usize) -> Option<Field> {
+    let parts = row_at(b).parts;
+    FIELDS.into_iter().find(|&f| begins_at(parts, f, offset))
 }
 
 // One more byte below those of a number; what is above eight bytes is lost.
-fn with_low(x: usize, b: usize) -> usize {
-    x % 72057594037927936 * 256 + b % 256
+fn with_low(x: usize, b: u8) -> usize {
+    x % 72057594037927936 * 256 + b as usize
 }
 
 // The number in these bytes, the lowest first.
 fn number_in(b: &[u8]) -> usize {
-    let mut x = 0;
-    let mut i = b.len();
-    while 0 < i {
-        i -= 1;
-        x = with_low(x, byte_at(b, i));
-    }
-    x
+    b.iter().rev().fold(0, |x, &low| with_low(x, low))
 }
 
 // The number in a field; 0 where the message does not have the field whole.
 pub fn value_in(b: &[u8], f: Field) -> usize {
-    let row = row_at(b);
-    let parts = row.parts;
+    let parts = row_at(b).parts;
     if !has_field(parts, f) {
         return 0;
     }

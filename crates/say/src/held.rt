@@ -1,28 +1,18 @@
 // A record: who holds what, with which status and ballots.
 use crate::value::put_proposal;
-use nouns::logic::{wide8, wide32};
 use nouns::vote::member;
 use paper::{Record, Vote};
 use record::places::LENGTH;
 use text::put::{Text, put_bytes, put_form, put_number, put_text};
 
-fn put_member(out: Text, q: usize, set: u8) -> Text {
-    if 6 < q {
-        return out;
-    }
-    if member(q, set) {
-        return put_number(out, q);
+// The copies that have replied.
+fn put_members(mut out: Text, set: u8) -> Text {
+    for q in 0..7 {
+        if member(q, set) {
+            out = put_number(out, q);
+        }
     }
     out
-}
-
-// The copies that have replied.
-fn put_members(out: Text, set: u8) -> Text {
-    let mut next = out;
-    for q in 0..7 {
-        next = put_member(next, q, set);
-    }
-    next
 }
 
 fn put_replies(out: Text, set: u8) -> Text {
@@ -37,14 +27,12 @@ pub fn put_vote(out: Text, n: usize, vote: Vote, between: &[u8]) -> Text {
     let told = put_text(
         out,
         b"no vote|pre-accepted with dependencies added here|pre-accepted as received|accepted|committed",
-        wide8(vote.status),
+        vote.status as usize,
     );
     if vote.status == 0 {
         return told;
     }
-    let command = vote.command;
-    let deps = vote.deps;
-    put_proposal(put_bytes(told, between), n, command, deps)
+    put_proposal(put_bytes(told, between), n, vote.command, vote.deps)
 }
 
 // What a copy does with its record: what it leads, who has replied, whether the instance is handed out.
@@ -52,15 +40,15 @@ fn put_state(out: Text, phase: u8, set: u8, mark: u8) -> Text {
     let leads = put_text(
         out,
         b"|, preparing|, pre-accepting|, accepting",
-        wide8(phase),
+        phase as usize,
     );
-    put_text(put_replies(leads, set), b"|, handed out", wide8(mark))
+    put_text(put_replies(leads, set), b"|, handed out", mark as usize)
 }
 
 fn put_record(out: Text, n: usize, r: Record) -> Text {
     let vote = r.vote;
     let told = put_vote(out, n, vote, b" ");
-    let v = [wide32(r.joined), wide32(vote.voted), 0, 0];
+    let v = [r.joined as usize, vote.voted as usize];
     let ballots = put_form(told, b", joined #, voted #", v);
     put_state(ballots, r.phase, r.set, r.mark)
 }
@@ -75,12 +63,5 @@ pub fn put_part(out: Text, n: usize, part: &[u8]) -> Text {
 
 // Nothing has happened to the record yet.
 pub fn is_blank(part: &[u8]) -> bool {
-    let mut i = 0;
-    while i < part.len() {
-        if part[i] != 0 {
-            return false;
-        }
-        i += 1;
-    }
-    true
+    part.iter().all(|&b| b == 0)
 }

@@ -1,7 +1,6 @@
 // A message by its name and fields.
 use crate::held::put_vote;
 use crate::value::{put_deps, put_proposal};
-use nouns::logic::{wide8, wide16, wide32};
 use nouns::message::kind_of;
 use paper::{Body, Command, Message, Vote};
 use text::put::{Text, put_bytes, put_form, put_hex, put_text};
@@ -11,7 +10,7 @@ fn put_carried(out: Text, n: usize, k: Command, deps: [u16; 7]) -> Text {
 }
 
 fn put_told(out: Text, n: usize, vote: Vote) -> Text {
-    let told = put_form(out, b": voted #, ", [wide32(vote.voted), 0, 0, 0]);
+    let told = put_form(out, b": voted #, ", [vote.voted as usize]);
     put_vote(told, n, vote, b", ")
 }
 
@@ -35,7 +34,7 @@ fn put_body(out: Text, n: usize, body: Body, deps: [u16; 7]) -> Text {
             };
             put_told(out, n, vote)
         }
-        Body::Nack(joined) => put_form(out, b": joined #", [wide32(joined), 0, 0, 0]),
+        Body::Nack(joined) => put_form(out, b": joined #", [joined as usize]),
         _ => out,
     }
 }
@@ -50,11 +49,9 @@ pub fn put_kind(out: Text, k: usize) -> Text {
 }
 
 fn put_fields(out: Text, n: usize, m: Message) -> Text {
-    let body = m.body;
-    let deps = m.deps;
-    let name = put_kind(out, wide8(kind_of(body)));
-    let v = [wide8(m.owner), wide16(m.number), wide32(m.ballot), 0];
-    put_body(put_form(name, b" #.# ballot #", v), n, body, deps)
+    let name = put_kind(out, kind_of(m.body) as usize);
+    let v = [m.owner as usize, m.number as usize, m.ballot as usize];
+    put_body(put_form(name, b" #.# ballot #", v), n, m.body, m.deps)
 }
 
 // The message in these bytes, as copy c reads it; the bytes where it cannot.

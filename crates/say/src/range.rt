@@ -1,6 +1,5 @@
 // What a field of a message may be, beside what stands in the others.
 use crate::fields::{is_for_rewire, row_at, value_in};
-use nouns::logic::{both, wide8};
 use nouns::message::{is_fresh, is_recovery};
 use paper::Field;
 use scene::Scene;
@@ -8,12 +7,12 @@ use text::put::{Text, put_bytes, put_form};
 use wire::kind_at;
 
 fn put_below(out: Text, n: usize) -> Text {
-    put_form(out, b"below #", [n, 0, 0, 0])
+    put_form(out, b"below #", [n])
 }
 
 // The ballots of a recovery name the copy that leads them.
 fn put_led(out: Text, n: usize) -> Text {
-    put_form(out, b"at least 8 and, modulo 8, below #", [n, 0, 0, 0])
+    put_form(out, b"at least 8 and, modulo 8, below #", [n])
 }
 
 fn put_zero_or_led(out: Text, n: usize) -> Text {
@@ -21,21 +20,19 @@ fn put_zero_or_led(out: Text, n: usize) -> Text {
 }
 
 fn put_ballot_range(out: Text, n: usize, b: &[u8]) -> Text {
-    let row = row_at(b);
-    let ballots = row.ballots;
-    if is_recovery(ballots) {
+    if is_recovery(row_at(b).ballots) {
         return put_led(out, n);
     }
     put_zero_or_led(out, n)
 }
 
 fn put_voted_range(out: Text, n: usize, b: &[u8]) -> Text {
-    let v = [value_in(b, Field::Ballot), 0, 0, 0];
+    let v = [value_in(b, Field::Ballot)];
     put_form(put_zero_or_led(out, n), b"; and less than ballot #", v)
 }
 
 fn put_joined_range(out: Text, n: usize, b: &[u8]) -> Text {
-    let v = [value_in(b, Field::Ballot), 0, 0, 0];
+    let v = [value_in(b, Field::Ballot)];
     put_form(put_led(out, n), b"; and more than ballot #", v)
 }
 
@@ -44,26 +41,22 @@ fn put_status_range(out: Text, b: &[u8]) -> Text {
     if voted == 0 {
         return put_bytes(out, b"0 to 3");
     }
-    put_form(out, b"1 to 3, since voted is #", [voted, 0, 0, 0])
+    put_form(out, b"1 to 3, since voted is #", [voted])
 }
 
 // It tells that there is no vote.
 fn tells_none(b: &[u8]) -> bool {
-    let row = row_at(b);
-    let parts = row.parts;
-    both(parts.told, value_in(b, Field::Status) == 0)
+    row_at(b).parts.told && value_in(b, Field::Status) == 0
 }
 
 // Its owner asks for it.
 fn is_first(b: &[u8]) -> bool {
-    let row = row_at(b);
-    let ballots = row.ballots;
-    both(is_fresh(ballots), value_in(b, Field::Ballot) == 0)
+    is_fresh(row_at(b).ballots) && value_in(b, Field::Ballot) == 0
 }
 
 // It is of a kind for rewires, which cannot tell that there is no vote.
 fn put_rewire_range(out: Text, b: &[u8]) -> Text {
-    let told = put_form(out, b"3, since kind is #", [kind_at(b), 0, 0, 0]);
+    let told = put_form(out, b"3, since kind is #", [kind_at(b)]);
     if tells_none(b) {
         return put_bytes(told, b"; and 0, since status is 0");
     }
@@ -89,17 +82,17 @@ fn put_noop_range(out: Text) -> Text {
 }
 
 fn put_second_range(out: Text, b: &[u8]) -> Text {
-    put_form(out, b"above key #", [value_in(b, Field::Key), 0, 0, 0])
+    put_form(out, b"above key #", [value_in(b, Field::Key)])
 }
 
 fn put_entry_range(out: Text, w: Scene, b: &[u8], q: usize) -> Text {
     if w.n <= q {
-        return put_form(out, b"0, since there is no copy #", [q, 0, 0, 0]);
+        return put_form(out, b"0, since there is no copy #", [q]);
     }
     if tells_none(b) {
         return put_bytes(out, b"0, since status is 0");
     }
-    put_form(out, b"0 to #", [w.s, 0, 0, 0])
+    put_form(out, b"0 to #", [w.s])
 }
 
 // What the field may be in the message in these bytes.
@@ -109,7 +102,7 @@ pub fn put_range(out: Text, w: Scene, b: &[u8], f: Field) -> Text {
         Field::From => put_below(out, n),
         Field::To => put_below(out, n),
         Field::Owner => put_below(out, n),
-        Field::Number => put_form(out, b"1 to #", [w.s, 0, 0, 0]),
+        Field::Number => put_form(out, b"1 to #", [w.s]),
         Field::Ballot => put_ballot_range(out, n, b),
         Field::Voted => put_voted_range(out, n, b),
         Field::Status => put_status_range(out, b),
@@ -117,7 +110,7 @@ pub fn put_range(out: Text, w: Scene, b: &[u8], f: Field) -> Text {
         Field::Key => put_noop_range(out),
         Field::Second => put_second_range(out, b),
         Field::Edit => put_noop_range(out),
-        Field::Entry(q) => put_entry_range(out, w, b, wide8(q)),
+        Field::Entry(q) => put_entry_range(out, w, b, q as usize),
         Field::Joined => put_joined_range(out, n, b),
     }
 }

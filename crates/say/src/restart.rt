@@ -4,19 +4,20 @@ use entries::BadEntry;
 use journal::entry::entry_length;
 use paper::Refusal;
 use storage::walk;
-use text::bytes::{byte_at, front, least};
-use text::put::{empty, finish, put_form, put_text};
+use text::bytes::{byte_at, front};
+use text::put::{empty, finish, put_bytes, put_form};
 
 // The whole entries, up to an offset.
 fn say_entries(c: usize, journal: &[u8], at: usize) {
     let replayed = walk(front(journal, at), 0, usize::MAX);
     let k = replayed.count;
-    let told = begin(b"  copy # replays # ", c, k, 0);
-    finish(put_text(
-        told,
-        b"entries of its journal|entry of its journal|entries of its journal",
-        least(k, 2),
-    ));
+    let told = begin(b"  copy # replays # ", [c, k]);
+    let entries = if k == 1 {
+        b"entry".as_slice()
+    } else {
+        b"entries".as_slice()
+    };
+    finish(put_bytes(put_bytes(told, entries), b" of its journal"));
 }
 
 // What stands behind them: less than an entry, and dropped.
@@ -46,12 +47,10 @@ pub fn say_replayed(c: usize, journal: &[u8], at: usize) {
 pub fn say_bad(c: usize, bad: BadEntry) {
     finish(begin(
         b"  copy #: the journal is refused #, at offset #",
-        c,
-        bad.why.number() as usize,
-        bad.offset,
+        [c, bad.why.number() as usize, bad.offset],
     ));
 }
 
 pub fn say_unreplayed(c: usize, why: Refusal) {
-    finish(put_refusal(begin(b"  copy #: the journal's table is", c, 0, 0), why));
+    finish(put_refusal(begin(b"  copy #: the journal's table is", [c]), why));
 }

@@ -15,7 +15,7 @@ fn show_record(t: &[u8], w: Scene, c: usize, o: usize, j: usize) {
     if is_blank(part) {
         return;
     }
-    finish(put_part(begin(b"    #.# ", o, j, 0), w.n, part));
+    finish(put_part(begin(b"    #.# ", [o, j]), w.n, part));
 }
 
 // The records of one owner, by rising number.
@@ -32,18 +32,15 @@ fn show_rows(t: &[u8], w: Scene, c: usize) {
 }
 
 fn holds_nothing(t: &[u8]) -> bool {
-    if t.len() < HEAD {
-        return true;
-    }
-    is_blank(&t[HEAD..])
+    t.get(HEAD..).is_none_or(is_blank)
 }
 
 fn say_down(c: usize, nothing: bool) {
     if nothing {
-        say(b"  copy # is down, and has saved nothing", c, 0, 0);
+        say(b"  copy # is down, and has saved nothing", [c]);
         return;
     }
-    say(b"  copy # is down, and has saved", c, 0, 0);
+    say(b"  copy # is down, and has saved", [c]);
 }
 
 fn say_copy(w: Scene, c: usize, nothing: bool) {
@@ -52,27 +49,23 @@ fn say_copy(w: Scene, c: usize, nothing: bool) {
         return;
     }
     if nothing {
-        say(b"  copy # holds nothing", c, 0, 0);
+        say(b"  copy # holds nothing", [c]);
         return;
     }
-    say(b"  copy # holds", c, 0, 0);
+    say(b"  copy # holds", [c]);
 }
 
 // What a copy has saved; a copy that is up holds nothing else.
 pub fn show_copy(all: &[u8], w: Scene, c: usize) {
     let kept = saved(all, w, c);
-    let table = kept.table;
-    let t = front(&table, length_of(w.n, w.s));
+    let t = front(&kept.table, length_of(w.n, w.s));
     say_copy(w, c, holds_nothing(t));
     show_rows(t, w, c);
 }
 
 fn show_copies(all: &[u8], w: Scene) {
-    let n = w.n;
-    let mut c = 0;
-    while c < n {
+    for c in 0..w.n {
         show_copy(all, w, c);
-        c += 1;
     }
 }
 
@@ -80,19 +73,14 @@ fn show_message(all: &[u8], w: Scene, i: usize) {
     let to = to_at(all, i);
     let at = begin(
         b"  message # is on the way from # to #: ",
-        number_at(all, i),
-        from_at(all, i),
-        to,
+        [number_at(all, i), from_at(all, i), to],
     );
     finish(put_message(at, w.n, w.s, to, message_at(all, i)));
 }
 
 fn show_way(all: &[u8], w: Scene) {
-    let waiting = w.waiting;
-    let mut i = 0;
-    while i < waiting {
+    for i in 0..w.waiting {
         show_message(all, w, i);
-        i += 1;
     }
 }
 

@@ -1,10 +1,9 @@
 // What is wrong with a message that is refused.
-use crate::fields::{Begins, field_at, is_for_rewire, row_at, value_in};
+use crate::fields::{field_at, is_for_rewire, row_at, value_in};
 use crate::message::put_kind;
 use crate::range::put_range;
-use crate::value::put_refusal;
+use crate::value::put_meaning;
 use nouns::ballot::lead;
-use nouns::logic::wide8;
 use nouns::message::is_word;
 use paper::{Field, Refusal};
 use scene::Scene;
@@ -13,10 +12,10 @@ use text::put::{Text, put_bytes, put_form, put_refused};
 use wire::{kind_at, length_of};
 
 fn put_unknown_kind(out: Text, b: &[u8]) -> Text {
-    if b.len() == 0 {
+    if b.is_empty() {
         return put_bytes(out, b": it is empty");
     }
-    put_form(out, b": there is no kind #", [kind_at(b), 0, 0, 0])
+    put_form(out, b": there is no kind #", [kind_at(b)])
 }
 
 // The name of its kind; a rewire's messages are longer than others of that name.
@@ -34,20 +33,16 @@ fn put_wrong_length(out: Text, b: &[u8]) -> Text {
     put_form(
         named,
         b" has # bytes, and this has #",
-        [length_of(k), b.len(), 0, 0],
+        [length_of(k), b.len()],
     )
 }
 
 fn put_wrong_way(out: Text, c: usize, b: &[u8]) -> Text {
     let to = value_in(b, Field::To);
     if to != c {
-        return put_form(
-            out,
-            b": it is for copy #, and this is copy #",
-            [to, c, 0, 0],
-        );
+        return put_form(out, b": it is for copy #, and this is copy #", [to, c]);
     }
-    put_form(out, b": it says that copy # itself sent it", [c, 0, 0, 0])
+    put_form(out, b": it says that copy # itself sent it", [c])
 }
 
 // A lead's word has another sender, or an answer to the lead another receiver.
@@ -57,19 +52,17 @@ fn put_wrong_lead(out: Text, b: &[u8]) -> Text {
     let leads = lead(owner, low32(ballot));
     let v = [leads, owner, value_in(b, Field::Number), ballot];
     let told = put_form(out, b": copy # leads #.# at ballot #", v);
-    let row = row_at(b);
-    let role = row.role;
-    if is_word(role) {
+    if is_word(row_at(b).role) {
         return put_form(
             told,
             b", and the sender is copy #",
-            [value_in(b, Field::From), 0, 0, 0],
+            [value_in(b, Field::From)],
         );
     }
     put_form(
         told,
         b", and the receiver is copy #",
-        [value_in(b, Field::To), 0, 0, 0],
+        [value_in(b, Field::To)],
     )
 }
 
@@ -86,23 +79,22 @@ fn put_name(out: Text, f: Field) -> Text {
         Field::Key => put_bytes(out, b"key"),
         Field::Second => put_bytes(out, b"second key"),
         Field::Edit => put_bytes(out, b"edit"),
-        Field::Entry(q) => put_form(out, b"entry # of the dependencies", [wide8(q), 0, 0, 0]),
+        Field::Entry(q) => put_form(out, b"entry # of the dependencies", [q as usize]),
         Field::Joined => put_bytes(out, b"joined"),
     }
 }
 
 fn put_field(out: Text, w: Scene, b: &[u8], offset: usize, f: Field) -> Text {
     let named = put_name(put_bytes(out, b": "), f);
-    let v = [offset, value_in(b, f), 0, 0];
+    let v = [offset, value_in(b, f)];
     let told = put_form(named, b", at byte #, is #; it has to be ", v);
     put_range(told, w, b, f)
 }
 
 fn put_wrong_field(out: Text, w: Scene, b: &[u8], offset: usize) -> Text {
-    let begins = field_at(b, offset);
-    match begins {
-        Begins::Nothing => out,
-        Begins::Field(f) => put_field(out, w, b, offset, f),
+    match field_at(b, offset) {
+        Some(f) => put_field(out, w, b, offset, f),
+        None => out,
     }
 }
 
@@ -115,6 +107,6 @@ pub fn put_wrong(out: Text, w: Scene, c: usize, b: &[u8], why: Refusal) -> Text 
         Refusal::WrongWay => put_wrong_way(told, c, b),
         Refusal::WrongLead => put_wrong_lead(told, b),
         Refusal::WrongField(offset) => put_wrong_field(told, w, b, offset),
-        _ => put_refusal(out, why),
+        _ => put_meaning(told, why),
     }
 }

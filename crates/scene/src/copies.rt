@@ -1,19 +1,6 @@
 // Which copies are up, the cut that awaits each, and where its journal ends.
-use crate::Scene;
-use nouns::logic::{both, either};
+use crate::{Known, Scene};
 use script::Moment;
-
-fn at7(v: [usize; 7], i: usize) -> usize {
-    if i < 7 { v[i] } else { 0 }
-}
-
-fn with7(v: [usize; 7], i: usize, x: usize) -> [usize; 7] {
-    let mut w = v;
-    if i < 7 {
-        w[i] = x;
-    }
-    w
-}
 
 // A run of n blank copies: all are up, no cut awaits one, and nothing is on the way.
 pub fn begun(n: usize, s: usize) -> Scene {
@@ -22,125 +9,101 @@ pub fn begun(n: usize, s: usize) -> Scene {
         s,
         waiting: 0,
         sent: 0,
-        down: [0; 7],
-        cut: [0; 7],
-        whole: [0; 7],
-        bytes: [0; 7],
-        ends: [0; 7],
+        copies: [Known::default(); 7],
     }
 }
 
+fn known(w: Scene, c: usize) -> Known {
+    w.copies.get(c).copied().unwrap_or_default()
+}
+
+fn with_known(mut w: Scene, c: usize, what: Known) -> Scene {
+    if let Some(copy) = w.copies.get_mut(c) {
+        *copy = what;
+    }
+    w
+}
+
 pub fn is_down(w: Scene, c: usize) -> bool {
-    let down = w.down;
-    at7(down, c) == 1
-}
-
-fn with_down(w: Scene, c: usize, x: usize) -> Scene {
-    let mut next = w;
-    let old = w.down;
-    let down = with7(old, c, x);
-    next.down = down;
-    next
-}
-
-fn with_cut(w: Scene, c: usize, x: usize, marks: usize, at: usize) -> Scene {
-    let mut next = w;
-    let old = w.cut;
-    let cut = with7(old, c, x);
-    next.cut = cut;
-    let wholes = w.whole;
-    let whole = with7(wholes, c, marks);
-    next.whole = whole;
-    let all = w.bytes;
-    let bytes = with7(all, c, at);
-    next.bytes = bytes;
-    next
+    known(w, c).down
 }
 
 // The copy is cut off: it is down, and no cut awaits it any more.
 pub fn stopped(w: Scene, c: usize) -> Scene {
-    with_cut(with_down(w, c, 1), c, 0, 0, 0)
+    let end = end_of(w, c);
+    with_known(
+        w,
+        c,
+        Known {
+            down: true,
+            cut: None,
+            end,
+        },
+    )
 }
 
 pub fn restarted(w: Scene, c: usize) -> Scene {
-    with_down(w, c, 0)
+    let down = false;
+    with_known(
+        w,
+        c,
+        Known {
+            down,
+            ..known(w, c)
+        },
+    )
 }
-
-const SAVING: usize = 1;
-
-const SENDING: usize = 2;
-
-const ENTRY: usize = 3;
-
-const MARKS: usize = 4;
 
 // The copy's next step will be cut; one that is cut inside an entry of some kind is the next that has one.
 pub fn awaiting(w: Scene, c: usize, when: Moment) -> Scene {
-    match when {
-        Moment::Now => w,
-        Moment::Saving => with_cut(w, c, SAVING, 0, 0),
-        Moment::Sending => with_cut(w, c, SENDING, 0, 0),
-        Moment::Entry(bytes) => with_cut(w, c, ENTRY, 0, bytes),
-        Moment::Marks { whole, bytes } => with_cut(w, c, MARKS, whole, bytes),
-    }
-}
-
-fn awaits(w: Scene, c: usize, what: usize) -> bool {
-    let cut = w.cut;
-    at7(cut, c) == what
+    let cut = Some(when);
+    with_known(w, c, Known { cut, ..known(w, c) })
 }
 
 // An event is cut off before its entry is whole; it may have none.
 pub fn cut_before_saving(w: Scene, c: usize, has_entry: bool) -> bool {
-    either(awaits(w, c, SAVING), both(has_entry, awaits(w, c, ENTRY)))
+    match known(w, c).cut {
+        Some(Moment::Saving) => true,
+        Some(Moment::Entry(_)) => has_entry,
+        _ => false,
+    }
 }
 
 pub fn cut_before_sending(w: Scene, c: usize) -> bool {
-    awaits(w, c, SENDING)
+    matches!(known(w, c).cut, Some(Moment::Sending))
 }
 
 // How many bytes of the entry that the cut falls into are saved.
 pub fn bytes_saved(w: Scene, c: usize) -> usize {
-    let bytes = w.bytes;
-    at7(bytes, c)
+    match known(w, c).cut {
+        Some(Moment::Entry(bytes)) => bytes,
+        Some(Moment::Marks { whole: _, bytes }) => bytes,
+        _ => 0,
+    }
 }
 
-// How many marks a hand-out saves before the copy is cut off, how many bytes of the next, and whether it is cut off.
+// How many marks a hand-out saves, and, where the copy is cut off behind them, how many bytes of the next.
 #[derive(Clone, Copy)]
 pub struct Marks {
     pub count: usize,
-    pub bytes: usize,
-    pub cut: bool,
-}
-
-fn before_cut(count: usize, bytes: usize, cut: bool) -> Marks {
-    Marks { count, bytes, cut }
+    pub cut: Option<usize>,
 }
 
 pub fn marks_saved(w: Scene, c: usize, listed: usize) -> Marks {
-    let wholes = w.whole;
-    let whole = at7(wholes, c);
-    if awaits(w, c, SAVING) {
-        return before_cut(0, 0, true);
-    }
-    if !awaits(w, c, MARKS) {
-        return before_cut(listed, 0, awaits(w, c, SENDING));
-    }
-    if listed <= whole {
-        return before_cut(listed, 0, true);
-    }
-    before_cut(whole, bytes_saved(w, c), true)
+    let (count, cut) = match known(w, c).cut {
+        Some(Moment::Saving) => (0, Some(0)),
+        Some(Moment::Sending) => (listed, Some(0)),
+        Some(Moment::Marks { whole, bytes }) if whole < listed => (whole, Some(bytes)),
+        Some(Moment::Marks { .. }) => (listed, Some(0)),
+        _ => (listed, None),
+    };
+    Marks { count, cut }
 }
 
 pub fn end_of(w: Scene, c: usize) -> usize {
-    let ends = w.ends;
-    at7(ends, c)
+    known(w, c).end
 }
 
 pub fn with_end(w: Scene, c: usize, end: usize) -> Scene {
-    let mut next = w;
-    let old = w.ends;
-    let ends = with7(old, c, end);
-    next.ends = ends;
-    next
+    with_known(w, c, Known { end, ..known(w, c) })
 }

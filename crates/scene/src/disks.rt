@@ -6,7 +6,7 @@ use crate::tables::{TABLES, start_of, table_in, table_mut};
 use entries::Unreplayed;
 use storage::{DISK, Entry, add_part, journal_in, mark_of, record_of, replay_onto};
 use table::{LONGEST, length_of, record_part};
-use text::bytes::{front_mut, move_bytes, part, part_mut, write};
+use text::bytes::{front_mut, part, part_mut, write};
 
 // All lent bytes.
 pub const ALL: usize = TABLES + 7 * DISK;
@@ -33,16 +33,10 @@ fn begin_with_table(all: &mut [u8], w: Scene, c: usize) {
     let from = start_of(c);
     let to = disk_start(c);
     let count = length_of(w.n, w.s);
-    if all.len() < to {
+    if to < from || all.len() < to || all.len() - to < count {
         return;
     }
-    if all.len() - to < count {
-        return;
-    }
-    if to < from {
-        return;
-    }
-    move_bytes(all, from, to, count);
+    all.copy_within(from..from + count, to);
 }
 
 // The journal is begun anew with the table that the copy has now.
@@ -65,13 +59,13 @@ pub fn mark_entry(all: &[u8], w: Scene, c: usize, code: u16) -> Entry {
 }
 
 // So many bytes of an entry reach the disk.
-pub fn save_part(all: &mut [u8], w: Scene, c: usize, entry: Entry, reach: usize) -> Scene {
+pub fn save_part(all: &mut [u8], w: Scene, c: usize, entry: &Entry, reach: usize) -> Scene {
     let d = part_mut(all, disk_start(c), DISK);
     with_end(w, c, add_part(d, end_of(w, c), entry, reach))
 }
 
-pub fn save(all: &mut [u8], w: Scene, c: usize, entry: Entry) -> Scene {
-    save_part(all, w, c, entry, entry.length)
+pub fn save(all: &mut [u8], w: Scene, c: usize, entry: &Entry) -> Scene {
+    save_part(all, w, c, entry, entry.len())
 }
 
 // The table that a replay of a copy's disk makes, and what the replay answers.
@@ -88,30 +82,13 @@ pub fn saved(all: &[u8], w: Scene, c: usize) -> Replayed {
     Replayed { table, answer }
 }
 
-fn differ(a: &[u8], b: &[u8]) -> bool {
-    let mut i = 0;
-    while i < a.len() {
-        if b.len() <= i {
-            return true;
-        }
-        if a[i] != b[i] {
-            return true;
-        }
-        i += 1;
-    }
-    false
-}
-
 // The record of o.j in a copy's table is not the saved one.
 pub fn is_changed(all: &[u8], w: Scene, c: usize, o: usize, j: usize) -> bool {
     let kept = saved(all, w, c);
-    let old = kept.table;
     let t = table_in(all, w, c);
-    let before = part(&old, 0, t.len());
-    differ(
-        record_part(t, w.n, w.s, c, o, j),
-        record_part(before, w.n, w.s, c, o, j),
-    )
+    let before = part(&kept.table, 0, t.len());
+    let was = record_part(before, w.n, w.s, c, o, j);
+    !was.starts_with(record_part(t, w.n, w.s, c, o, j))
 }
 
 // The copy goes on with this table, and its journal is cut off at an offset.

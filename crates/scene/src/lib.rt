@@ -7,17 +7,22 @@ pub mod disks;
 pub mod tables;
 pub mod way;
 
-// The setup, the messages on the way and all that ever left; for each copy whether it is down, which cut awaits it, after how
-// many marks and at which byte, and where its journal ends.
+use script::Moment;
+
+// Of one copy: whether it is down, the cut that awaits it, if one does, and where its journal ends.
+#[derive(Clone, Copy, Default)]
+pub struct Known {
+    pub down: bool,
+    pub cut: Option<Moment>,
+    pub end: usize,
+}
+
+// The setup, the messages on the way and all that ever left; and what is known of each copy.
 #[derive(Clone, Copy)]
 pub struct Scene {
     pub n: usize,
     pub s: usize,
     pub waiting: usize,
     pub sent: usize,
-    pub down: [usize; 7],
-    pub cut: [usize; 7],
-    pub whole: [usize; 7],
-    pub bytes: [usize; 7],
-    pub ends: [usize; 7],
+    pub copies: [Known; 7],
 }

@@ -3,8 +3,8 @@
 ghost use Rattle.std.specs.Prelude.{◌≤◌};
 
 use crate::Scene;
-use nouns::logic::{both, equal};
-use text::bytes::{byte_at, low8, move_bytes, part, part_mut, write};
+use arrayvec::ArrayVec;
+use text::bytes::{byte_at, front, low8, part, part_mut, write};
 
 // How many messages can be on the way.
 const MOST: usize = 512;
@@ -17,19 +17,12 @@ const FRONT: usize = 5;
 // All places.
 pub const WAY: usize = MOST * PLACE;
 
-#[derive(Clone, Copy)]
-pub enum Found {
-    At(usize),
-    Nothing,
-}
-
 // A message in its bytes, the number by which the run knows it, and the copy that it goes to.
-#[derive(Clone, Copy)]
+#[derive(Drop)]
 pub struct Parcel {
     pub number: usize,
     pub to: usize,
-    pub length: usize,
-    pub bytes: [u8; PLACE],
+    pub bytes: ArrayVec<u8, PLACE>,
 }
 
 fn place(i: usize) -> usize
@@ -70,32 +63,22 @@ pub fn to_at(all: &[u8], i: usize) -> usize {
 
 // The message at a place, held outside the way.
 pub fn parcel_at(all: &[u8], i: usize) -> Parcel {
-    let mut bytes = [0u8; PLACE];
-    let m = message_at(all, i);
-    write(&mut bytes, 0, m);
+    let mut bytes = ArrayVec::new();
+    let _ = bytes.try_extend_from_slice(front(message_at(all, i), PLACE));
     Parcel {
         number: number_at(all, i),
         to: to_at(all, i),
-        length: m.len(),
         bytes,
     }
 }
 
 fn is_between(all: &[u8], i: usize, from: usize, to: usize) -> bool {
-    both(equal(from_at(all, i), from), equal(to_at(all, i), to))
+    from_at(all, i) == from && to_at(all, i) == to
 }
 
 // The oldest message on the way from one copy to another.
-pub fn find(all: &[u8], w: Scene, from: usize, to: usize) -> Found {
-    let waiting = w.waiting;
-    let mut i = 0;
-    while i < waiting {
-        if is_between(all, i, from, to) {
-            return Found::At(i);
-        }
-        i += 1;
-    }
-    Found::Nothing
+pub fn find(all: &[u8], w: Scene, from: usize, to: usize) -> Option<usize> {
+    (0..w.waiting).find(|&i| is_between(all, i, from, to))
 }
 
 pub fn is_full(w: Scene) -> bool {
@@ -106,10 +89,6 @@ fn one_more(x: usize) -> usize {
     if x < 65535 { x + 1 } else { x }
 }
 
-fn one_less(x: usize) -> usize {
-    if 0 < x { x - 1 } else { 0 }
-}
-
 // One more message is on the way from one copy to another, if there is a place for it.
 pub fn put_on(all: &mut [u8], w: Scene, from: usize, to: usize, b: &[u8]) -> Scene {
     if is_full(w) {
@@ -117,14 +96,14 @@ pub fn put_on(all: &mut [u8], w: Scene, from: usize, to: usize, b: &[u8]) -> Sce
     }
     let at = place(w.waiting);
     let number = w.sent;
-    let front = [
+    let head = [
         low8(b.len()),
         low8(number),
         low8(number / 256),
         low8(from),
         low8(to),
     ];
-    write(&mut *all, at, &front);
+    write(&mut *all, at, &head);
     write(part_mut(all, at + FRONT, PLACE - FRONT), 0, b);
     let mut next = w;
     next.waiting = one_more(w.waiting);
@@ -136,20 +115,17 @@ pub fn put_on(all: &mut [u8], w: Scene, from: usize, to: usize, b: &[u8]) -> Sce
 fn close_up(all: &mut [u8], i: usize) {
     let to = place(i);
     let from = to + PLACE;
-    if all.len() < WAY {
+    if all.len() < WAY || WAY < from {
         return;
     }
-    if WAY < from {
-        return;
-    }
-    move_bytes(all, from, to, WAY - from);
+    all.copy_within(from..WAY, to);
 }
 
 // The message at a place is not on the way any more.
 pub fn take_off(all: &mut [u8], w: Scene, i: usize) -> Scene {
     close_up(all, i);
     let mut next = w;
-    next.waiting = one_less(w.waiting);
+    next.waiting = w.waiting.saturating_sub(1);
     next
 }
 

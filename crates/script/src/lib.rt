@@ -19,11 +19,13 @@
 
 pub mod line;
 
+use paper::Op;
+
 // An event at a copy; a message's bytes stand beside it.
 #[derive(Clone, Copy)]
 pub enum Event {
     Request {
-        op: usize,
+        op: Op,
         key: u32,
         second: u32,
         edit: u64,
@@ -59,11 +61,10 @@ pub enum Fate {
     Shorten(usize),
 }
 
-// When a copy is cut off: at once, or in its next step. `Entry`: so many bytes of an event's entry are saved; `Marks`: so many
+// When a copy is cut off in its next step. `Entry`: so many bytes of an event's entry are saved; `Marks`: so many
 // marks of a hand-out, and bytes of the next one.
 #[derive(Clone, Copy)]
 pub enum Moment {
-    Now,
     Saving,
     Sending,
     Entry(usize),
@@ -94,6 +95,7 @@ pub enum Reason {
     Restless,
 }
 
+// What a line says.
 #[derive(Clone, Copy)]
 pub enum Step {
     Text,
@@ -102,8 +104,8 @@ pub enum Step {
     Way { from: usize, to: usize, fate: Fate },
     All,
     Cut(usize, Moment),
+    Stop(usize),
     Restart(usize),
     Show,
     ShowCopy(usize),
-    Bad(Reason),
 }

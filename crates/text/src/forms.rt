@@ -1,211 +1,135 @@
 // Lines read by forms. A form is a text with marks: '#' stands for a number, '@' for bytes in hex or '-' for none, and '*'
 // for the end of a word and all that follows it. Several forms stand in one text, with a bar between two of them.
-ghost use Rattle.std.specs.Prelude.{◌≤◌};
+ghost use Rattle.std.specs.Prelude.{◌≤◌, IfSome};
 
-use crate::bytes::low8;
-use nouns::logic::both;
+use arrayvec::ArrayVec;
+use std::str;
 
 // How many numbers, and how many bytes, a line may have.
 pub const NUMBERS: usize = 24;
 
 pub const BYTES: usize = 300;
 
-// Which of the forms a line is, how far it is read and whether it fits so far; what it has for the marks, and where what
-// follows a '*' begins.
-#[derive(Clone, Copy)]
-pub struct Read {
+// Which of the forms a line is; what it has for the marks, 0 for a number that the form does not ask for; and what follows
+// the space that a '*' begins with.
+#[derive(Drop)]
+pub struct Read<'a> {
     pub form: usize,
-    pub next: usize,
-    pub good: bool,
-    pub count: usize,
     pub v: [usize; NUMBERS],
-    pub length: usize,
-    pub bytes: [u8; BYTES],
-    pub rest: usize,
+    pub bytes: ArrayVec<u8, BYTES>,
+    pub rest: &'a [u8],
+    count: usize,
+    left: &'a [u8],
 }
 
-fn unread(form: usize) -> Read {
-    Read {
-        form,
-        next: 0,
-        good: true,
-        count: 0,
-        v: [0; NUMBERS],
-        length: 0,
-        bytes: [0u8; BYTES],
-        rest: 0,
-    }
+// The digits that a line begins with, as a number.
+fn leading_number(line: &[u8]) -> Option<(usize, &[u8])> {
+    let end = line.iter().position(|b| !b.is_ascii_digit());
+    let (digits, left) = line.split_at(end.unwrap_or(line.len()));
+    let value = str::from_utf8(digits).ok()?.parse().ok()?;
+    Some((value, left))
 }
 
-fn unfit(old: Read) -> Read {
-    let mut r = old;
-    r.good = false;
-    r
-}
-
-fn read_to(old: Read, next: usize) -> Read {
-    let mut r = old;
-    r.next = next;
-    r
-}
-
-// The byte at a place of the line; past its end a space.
-fn byte_at(line: &[u8], i: usize) -> u8 {
-    if i < line.len() { line[i] } else { b' ' }
-}
-
-// A digit, decimal or hex; 16 where the byte is none.
-fn digit(b: u8) -> usize
-    ensures { result ≤ 16 }
+fn hex_digit(b: u8) -> Option<u8>
+    ensures { IfSome result (λ d. d ≤ 15) }
 {
     match b {
-        b'0'..=b'9' => (b - b'0') as usize,
-        b'a'..=b'f' => (b - 87) as usize,
-        _ => 16,
+        b'0'..=b'9' => Some(b - b'0'),
+        b'a'..=b'f' => Some(b - b'a' + 10),
+        _ => None,
     }
 }
 
-#[derive(Clone, Copy)]
-struct Number {
-    value: usize,
-    next: usize,
+fn byte_of(pair: &[u8]) -> Option<u8> {
+    let &[high, low] = pair else {
+        return None;
+    };
+    Some(hex_digit(high)? * 16 + hex_digit(low)?)
 }
 
-// The number whose digits begin at a place, as far as it fits.
-fn digits(line: &[u8], at: usize) -> Number {
-    let mut value = 0;
-    let mut i = at;
-    while i < line.len() {
-        let d = digit(line[i]);
-        if d > 9 {
-            break;
+impl<'a> Read<'a> {
+    fn of(line: &'a [u8]) -> Self {
+        Read {
+            form: 0,
+            v: [0; NUMBERS],
+            bytes: ArrayVec::new(),
+            rest: &[],
+            count: 0,
+            left: line,
         }
-        if value > (usize::MAX - d) / 10 {
-            break;
+    }
+
+    fn number(&mut self) -> Option<()> {
+        let (value, left) = leading_number(self.left)?;
+        if NUMBERS <= self.count {
+            return None;
         }
-        value = value * 10 + d;
-        i += 1;
+        self.v[self.count] = value;
+        self.count += 1;
+        self.left = left;
+        Some(())
     }
-    Number { value, next: i }
-}
 
-fn with_number(line: &[u8], old: Read) -> Read {
-    let at = old.next;
-    let k = old.count;
-    let x = digits(line, at);
-    if x.next == at {
-        return unfit(old);
-    }
-    if NUMBERS <= k {
-        return unfit(old);
-    }
-    let mut r = read_to(old, x.next);
-    r.v[k] = x.value;
-    r.count = k + 1;
-    r
-}
-
-fn with_byte(old: Read, b: usize) -> Read {
-    let k = old.length;
-    if BYTES <= k {
-        return unfit(old);
-    }
-    let mut r = old;
-    r.bytes[k] = low8(b);
-    r.length = k + 1;
-    r
-}
-
-// Two hex digits, 256 or more where there are none.
-fn pair(line: &[u8], i: usize) -> usize {
-    if line.len() <= i {
-        return 256;
-    }
-    let high = digit(line[i]);
-    let low = digit(byte_at(line, i + 1));
-    if low > 15 { 256 } else { high * 16 + low }
-}
-
-// The rest of the line is pairs of hex digits.
-fn with_pairs(line: &[u8], old: Read) -> Read {
-    let mut r = old;
-    let mut i = old.next;
-    while i < line.len() {
-        let b = pair(line, i);
-        if b > 255 {
-            return unfit(old);
+    // The rest of the line is pairs of hex digits.
+    fn pairs(&mut self) -> Option<()> {
+        for pair in self.left.chunks(2) {
+            self.bytes.try_push(byte_of(pair)?).ok()?;
         }
-        r = with_byte(r, b);
-        i += 2;
+        self.left = &[];
+        Some(())
     }
-    read_to(r, i)
-}
 
-fn with_bytes(line: &[u8], old: Read) -> Read {
-    let at = old.next;
-    let first = byte_at(line, at);
-    if first == b' ' {
-        return unfit(old);
-    }
-    if first == b'-' {
-        return literal(line, old, b'-');
-    }
-    with_pairs(line, old)
-}
-
-fn with_rest(line: &[u8], old: Read) -> Read {
-    let at = old.next;
-    if byte_at(line, at) != b' ' {
-        return unfit(old);
-    }
-    let mut r = read_to(old, line.len());
-    r.rest = at;
-    r
-}
-
-// The byte itself stands in the line.
-fn literal(line: &[u8], old: Read, b: u8) -> Read {
-    let at = old.next;
-    if line.len() <= at {
-        return unfit(old);
-    }
-    if line[at] != b {
-        return unfit(old);
-    }
-    read_to(old, at + 1)
-}
-
-fn next_form(old: Read) -> Read {
-    let form = old.form;
-    if form < 255 { unread(form + 1) } else { old }
-}
-
-// The line is read on for one more byte of the forms.
-fn read_on(line: &[u8], old: Read, b: u8) -> Read {
-    match b {
-        b'|' => next_form(old),
-        b'#' => with_number(line, old),
-        b'@' => with_bytes(line, old),
-        b'*' => with_rest(line, old),
-        _ => literal(line, old, b),
-    }
-}
-
-fn is_whole(line: &[u8], r: Read) -> bool {
-    both(r.good, r.next == line.len())
-}
-
-// Which of these forms the line is; how many they are where it is none of them.
-pub fn which_form(line: &[u8], forms: &[u8]) -> Read {
-    let mut r = unread(0);
-    let mut i = 0;
-    while i < forms.len() {
-        let b = forms[i];
-        if both(b == b'|', is_whole(line, r)) {
-            return r;
+    fn bytes(&mut self) -> Option<()> {
+        match self.left.first()? {
+            b' ' => None,
+            b'-' => self.literal(b'-'),
+            _ => self.pairs(),
         }
-        r = read_on(line, r, b);
-        i += 1;
     }
-    if is_whole(line, r) { r } else { next_form(r) }
+
+    fn rest(&mut self) -> Option<()> {
+        if let Some((b, behind)) = self.left.split_first() {
+            if *b != b' ' {
+                return None;
+            }
+            self.rest = behind;
+            self.left = &[];
+        }
+        Some(())
+    }
+
+    // The byte itself stands in the line.
+    fn literal(&mut self, b: u8) -> Option<()> {
+        self.left = self.left.strip_prefix(&[b])?;
+        Some(())
+    }
+
+    // The line is read on for one more byte of the form.
+    fn read_on(&mut self, b: u8) -> Option<()> {
+        match b {
+            b'#' => self.number(),
+            b'@' => self.bytes(),
+            b'*' => self.rest(),
+            _ => self.literal(b),
+        }
+    }
+}
+
+fn read_by<'a>(line: &'a [u8], form: &[u8]) -> Option<Read<'a>> {
+    let mut r = Read::of(line);
+    for &b in form {
+        r.read_on(b)?;
+    }
+    if r.left.is_empty() { Some(r) } else { None }
+}
+
+// Which of these forms the line is, the first where it is several.
+pub fn which_form<'a>(line: &'a [u8], forms: &[u8]) -> Option<Read<'a>> {
+    for (form, text) in forms.split(|&b| b == b'|').enumerate() {
+        if let Some(mut r) = read_by(line, text) {
+            r.form = form;
+            return Some(r);
+        }
+    }
+    None
 }

@@ -1,77 +1,62 @@
 // Reads standard input a part at a time and finds its lines. A line is at most as long as the part.
-ghost use Rattle.std.specs.Prelude.{◌≤◌, length};
+ghost use Rattle.std.specs.Prelude.{◌<◌, ◌≤◌, IfSome, length};
 
-use crate::bytes::{find, least, move_bytes};
-use nouns::logic::either;
-
-// The line between two places of the part, and where the next begins; how much is held of the input, whether that is its
-// last part, and whether there is a line at all.
-#[derive(Clone, Copy)]
-pub struct Line {
-    pub from: usize,
-    pub end: usize,
-    pub next: usize,
-    pub held: usize,
-    pub last: bool,
-    pub more: bool,
+// What is held of the input, in a lent room: where the next line begins, where what is held ends, and whether that is the
+// input's last part.
+#[derive(Drop)]
+pub struct Lines<'a> {
+    room: &'a mut [u8],
+    next: usize,
+    held: usize,
+    last: bool,
+    ghost inside: { (next ≤ held) × (held ≤ length room.now) },
 }
 
-// Before the first line: nothing is held.
-pub fn before_first() -> Line {
-    Line {
-        from: 0,
-        end: 0,
-        next: 0,
-        held: 0,
-        last: false,
-        more: true,
+impl<'a> Lines<'a> {
+    // Nothing is held before the first line.
+    pub fn new(room: &'a mut [u8]) -> Self {
+        Lines {
+            room,
+            next: 0,
+            held: 0,
+            last: false,
+        }
     }
-}
 
-// The line that begins at a place of what is held.
-fn line_at(buf: &[u8], at: usize, held: usize, last: bool) -> Line
-    requires { (at ≤ held) × (held ≤ length buf.now) }
-    ensures { (result.from ≤ result.end) × (result.end ≤ length buf.now) }
-{
-    let end = find(buf, at, held, b'\n');
-    Line {
-        from: at,
-        end,
-        next: end + 1,
-        held,
-        last,
-        more: at < held,
+    // Where the next line ends in what is held, if it ends there.
+    fn end(&self) -> Option<usize>
+        ensures { IfSome result (λ e. (self.now.next ≤ e) × (e < self.now.held)) }
+    {
+        let left = &self.room[self.next..self.held];
+        let k = left.iter().position(|&b| b == b'\n')?;
+        Some(self.next + k)
     }
-}
 
-// Reads on behind what is left of the held part, moved to the front. A part that is not full is the last.
-fn read_on(buf: &mut [u8], from: usize, held: usize) -> Line
-    requires { (from ≤ held) × (held ≤ length buf.old) }
-    ensures { (result.from ≤ result.end) × (result.end ≤ length buf.old) }
-{
-    let left = held - from;
-    move_bytes(&mut *buf, from, 0, left);
-    let end = left + io::read_full(0, &mut buf[left..]);
-    line_at(&*buf, 0, end, end < buf.len())
-}
-
-// The next line. The input's last line may lack its end.
-pub fn next_line(buf: &mut [u8], old: Line) -> Line
-    ensures { (result.from ≤ result.end) × (result.end ≤ length buf.old) }
-{
-    let held = least(old.held, buf.len());
-    let at = least(old.next, held);
-    let line = line_at(&*buf, at, held, old.last);
-    if either(line.last, line.end < held) {
-        return line;
+    // Reads on behind what is left, moved to the front. A part that is not full is the last.
+    fn read_on(&mut self) {
+        let left = self.held - self.next;
+        self.room.copy_within(self.next..self.held, 0);
+        self.held = left + io::read_full(0, &mut self.room[left..]);
+        self.next = 0;
+        self.last = self.held < self.room.len();
     }
-    read_on(buf, at, held)
+
+    // The next line, if there is one. The input's last line may lack its end.
+    pub fn next_line(&mut self) -> Option<&[u8]> {
+        if self.end().is_none() && !self.last {
+            self.read_on();
+        }
+        let from = self.next;
+        if from == self.held {
+            return None;
+        }
+        let end = self.end().unwrap_or(self.held);
+        self.next = self.held.min(end + 1);
+        Some(&self.room[from..end])
+    }
 }
 
 // The programs that play calls pass over an empty line, and one that is an answer.
 pub fn is_passed_over(line: &[u8]) -> bool {
-    if line.len() == 0 {
-        return true;
-    }
-    line[0] == b'='
+    matches!(line, [] | [b'=', ..])
 }
