@@ -4,6 +4,7 @@
 ghost use Rattle.std.specs.Prelude.{◌+◌, ◌≤◌, IfSome, length};
 
 use arrayvec::ArrayVec;
+use entries::Unreplayed;
 use journal::entry::{HEAD, entry_length, kind_in};
 use journal::replaying::replay;
 use journal::writing::{mark_entry, record_entry};
