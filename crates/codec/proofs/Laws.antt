@@ -1,12 +1,12 @@
 -- Commands, dependencies and votes: what is written is read back, and what is read is written back. Assumes nothing.
 use mathlib.Core.Path.{◌≡◌, refl, sym, ap, ◌∙◌}
 use mathlib.Core.Bool.{Bool, true, false}
-use mathlib.Core.List.{List, [], ◌∷◌, ◌++◌, map}
+use mathlib.Core.List.{List, [], ◌∷◌, ◌++◌}
 use Prim.Native.Nat.{ℕ, zero, suc, ◌+◌, ◌*◌, ◌^◌, ◌≤◌, ◌<◌}
 use native.Mathlib.Omega.{arith}
 use native.Mathlib.Numerals.{add-one}
 use lib.Dec.{eqb}
-use lib.ListN.{length, get_or, take, drop, replicate, length-append}
+use lib.ListN.{length, get_or, take, drop, length-append}
 use borrow.Author.Tests.{eqb-true, leb-true}
 use Rattle.numbers.specs.Num.{num_at, bytes_of, splice}
 use Rattle.numbers.specs.Fields.{size_of, fields_at, fields_bytes, FieldsFit}
@@ -20,7 +20,6 @@ use Rattle.paper.specs.declared.Op.{Op}
 use Rattle.paper.specs.declared.Op.TheVariants.{Noop, Read, Write, Rewire}
 use Rattle.paper.specs.declared.Command.{Command}
 use Rattle.paper.specs.declared.Vote.{Vote}
-use Rattle.std.specs.List.{range_with_len}
 use Rattle.codec.specs.Parts.{op_of, short_op_of, command_widths, command_of, command_numbers, sent_widths, sent_numbers, sent_of, deps_widths, deps_numbers, vote_of, vote_numbers, vote_widths, sent_at, deps_at, vote_at, sent_bytes, deps_bytes, vote_bytes}
 
 pub op-other : (b : ℕ) → (b ≡ 0 → ⊥) → (b ≡ 1 → ⊥) → (b ≡ 2 → ⊥) → Rewire ≡ op_of b
@@ -76,11 +75,6 @@ unfolding vote_at deps_at
 vote_at-fits b at h =
     let n : (w i : ℕ) → num_at w b i < 256 ^ w = λ w i. num_at-small w b i h in
     record { voted = n 4 _; status = omega (arith, n 1 (at + 4)); command = record { key = n 4 _; second = n 4 _; edit = n 8 _ }; deps = deps_at-fits b _ h }
-
--- dependencies are as many numbers of two bytes, each at its place
-pub deps-values : (s : List ℕ) (at a n j : ℕ) → a ≡ at + 2 * j → map (λ i. num_at 2 s (at + 2 * i)) (range_with_len j n) ≡ fields_at (replicate n 2) s a
-deps-values s at a zero j e = refl
-deps-values s at a (suc n) j e = rw (e, deps-values s at (at + 2 * j + 2) n (j + 1) (omega arith))
 
 -- the bytes of the first entries, one entry after the other
 abbrev pub deps_front : List ℕ → ℕ → List ℕ
