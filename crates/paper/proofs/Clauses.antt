@@ -262,13 +262,13 @@ unfolding computed_of written_of valid_lines entry_clauses first_failing first_o
 valid-clauses = refl
 
 -- what copy c of five, with four numbers each, finds a message by value to be
-abbrev found : ℕ → Message → Result (Unit {0}) Blame
+abbrev found : ℕ → Message → Result Unit Blame
 found c m = verdict_on 5 4 c (op_in m) m
 
-abbrev blames : Blame → Result (Unit {0}) Blame → Line (Result (Unit {0}) Blame)
+abbrev blames : Blame → Result Unit Blame → Line (Result Unit Blame)
 blames b x = record { computed = x; written = Err b }
 
-blame_lines : List (Line (Result (Unit {0}) Blame))
+blame_lines : List (Line (Result Unit Blame))
 blame_lines =
     -- beside a kind without dependencies
     blames blame.Length (found 2 (message 0 10 AcceptOk (entry 3 4)))

@@ -131,7 +131,7 @@ pub named : (n s c o : ℕ) (m : Message) (x : Blame) → verdict_on n s c o m �
 unfolding verdict_on first_failing entry_clauses rising blame_of
 named n s c o m x e = go (first_failing n s c o m) refl e
   where
-    same : {a b : Blame} → ◌≡◌ {A = Result (Unit {0}) Blame} (Err a) (Err b) → a ≡ b
+    same : {a b : Blame} → ◌≡◌ {A = Result Unit Blame} (Err a) (Err b) → a ≡ b
     same h = cc
 
     go : (y : Failing) → first_failing n s c o m ≡ y → verdict_of y ≡ Err x → Named n s c o m x

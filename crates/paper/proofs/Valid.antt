@@ -225,7 +225,7 @@ module _ (n s c : ℕ) (m : Message) where
       alike _ _ (λ h. let (e, k) = from-none o h in rw e (valid-of k)) (λ h. let (e, v) = and-true (op_range (parts_in m.body).second o) (valid n s c m) h in to_none o e (clauses-of v))
 
 -- the verdict is valid where none fails
-abbrev pub is_valid : Result (Unit {0}) Blame → Bool
+abbrev pub is_valid : Result Unit Blame → Bool
 is_valid (Ok u) = true
 is_valid (Err x) = false
 

@@ -219,12 +219,12 @@ blame_of (ToldEntry i) = blame.Of (field.Entry i)
 blame_of JoinedRange = blame.Of field.Joined
 blame_of JoinedAbove = blame.Of field.Joined
 
-abbrev pub verdict_of : Failing → Result (Unit {0}) Blame
+abbrev pub verdict_of : Failing → Result Unit Blame
 verdict_of none = Ok tt
 verdict_of (first x) = Err (blame_of x)
 
 -- what a message, received by copy c with this op in its bytes, is found to be
-unfoldable pub verdict_on : ℕ → ℕ → ℕ → ℕ → Message → Result (Unit {0}) Blame
+unfoldable pub verdict_on : ℕ → ℕ → ℕ → ℕ → Message → Result Unit Blame
 verdict_on n s c o m = verdict_of (first_failing n s c o m)
 
 -- whether a message with these parts has such a field

@@ -26,7 +26,7 @@ use Rattle.paper.proofs.Bodies.{untold-voted, untold-status, no-command, unjoine
 use Rattle.valid.specs.Groups.{unless, and_then, all_carried, head_verdict, way_verdict, told_verdict, command_verdict, highest, entries_verdict, deps_verdict, joined_verdict, body_verdict}
 
 -- the verdict on a list of clauses
-chain : (Clause → Bool) → List Clause → Result (Unit {0}) Blame
+chain : (Clause → Bool) → List Clause → Result Unit Blame
 chain f [] = Ok tt
 chain f (x ∷ xs) = unless (f x) (blame_of x) (chain f xs)
 
@@ -39,11 +39,11 @@ chain-is f (x ∷ xs) = go (f x) (chain-is f xs)
     go true e = e
     go false e = refl
 
-then-unless : (b : Bool) (x : Blame) (y z : Result (Unit {0}) Blame) → and_then (unless b x y) z ≡ unless b x (and_then y z)
+then-unless : (b : Bool) (x : Blame) (y z : Result Unit Blame) → and_then (unless b x y) z ≡ unless b x (and_then y z)
 then-unless true x y z = refl
 then-unless false x y z = refl
 
-then-then : (x y z : Result (Unit {0}) Blame) → and_then (and_then x y) z ≡ and_then x (and_then y z)
+then-then : (x y z : Result Unit Blame) → and_then (and_then x y) z ≡ and_then x (and_then y z)
 then-then (Ok u) y z = refl
 then-then (Err x) y z = refl
 
@@ -53,7 +53,7 @@ chain-join f [] ys = refl
 chain-join f (x ∷ xs) ys = ap (unless (f x) (blame_of x)) (chain-join f xs ys) ∙ sym (then-unless (f x) (blame_of x) (chain f xs) (chain f ys))
 
 -- two tests that blame the same
-merge : (a b : Bool) (x : Blame) (y : Result (Unit {0}) Blame) → unless a x (unless b x y) ≡ unless (a && b) x y
+merge : (a b : Bool) (x : Blame) (y : Result Unit Blame) → unless a x (unless b x y) ≡ unless (a && b) x y
 merge true b x y = refl
 merge false b x y = refl
 
@@ -82,10 +82,10 @@ both_true true false = refl
 both_true false e = refl
 
 -- a group that is tried, or not
-on : (p : Bool) (x : Result (Unit {0}) Blame) → p ≡ true → x ≡ cond p x (Ok tt)
+on : (p : Bool) (x : Result Unit Blame) → p ≡ true → x ≡ cond p x (Ok tt)
 on p x e = rw e
 
-off : (p : Bool) (x : Result (Unit {0}) Blame) → p ≡ false → Ok tt ≡ cond p x (Ok tt)
+off : (p : Bool) (x : Result Unit Blame) → p ≡ false → Ok tt ≡ cond p x (Ok tt)
 off p x e = rw e
 
 -- seven zeros
@@ -117,7 +117,7 @@ entries-chain n s w v f r t (suc k) i =
     let b : (f (EntryRange i) && f (ToldEntry i)) ≡ entry_ok n (highest s w v) v.deps i =
     ap₂ ◌&&◌ (r i) (t i) ∙ entry-as w.parts.told (eqb v.status 0) (get_or v.deps i 0) n s i in
     merge (f (EntryRange i)) (f (ToldEntry i)) x (chain f (entry_clauses k (i + 1)))
-    ∙ ap₂ (λ (c : Bool) (y : Result (Unit {0}) Blame). unless c x y) b (entries-chain n s w v f r t k (i + 1))
+    ∙ ap₂ (λ (c : Bool) (y : Result Unit Blame). unless c x y) b (entries-chain n s w v f r t k (i + 1))
 
 -- entries that are all zero
 zeros-chain : (f : Clause → Bool) → ((i : ℕ) → i < 7 → f (EntryRange i) ≡ true) → ((i : ℕ) → i < 7 → f (ToldEntry i) ≡ true) → (k i : ℕ) → i + k ≤ 7
@@ -202,7 +202,7 @@ module _ (n s c o : ℕ) (m : Message) (w : Row) (ew : w ≡ row_in m.body) wher
           let p : (parts_in m.body).joined ≡ false = sym (flags (λ r. r.parts.joined)) ∙ e in
           rw (e, unjoined m.body p)
 
-  abbrev rest : Result (Unit {0}) Blame
+  abbrev rest : Result Unit Blame
   rest = and_then (chain f told_clauses) (and_then (chain f command_clauses) (and_then (chain f deps_clauses) (chain f joined_clauses)))
 
   -- the body, where no dependencies stand beside a kind that has none
@@ -221,13 +221,13 @@ module _ (n s c o : ℕ) (m : Message) (w : Row) (ew : w ≡ row_in m.body) wher
       let abc = ab ++ told_clauses in
       let abcd = abc ++ command_clauses in
       chain-join f (abcd ++ deps_clauses) joined_clauses
-      ∙ ap (λ (x : Result (Unit {0}) Blame). and_then x (chain f joined_clauses)) (chain-join f abcd deps_clauses)
+      ∙ ap (λ (x : Result Unit Blame). and_then x (chain f joined_clauses)) (chain-join f abcd deps_clauses)
       ∙ then-then (chain f abcd) (chain f deps_clauses) (chain f joined_clauses)
-      ∙ ap (λ (x : Result (Unit {0}) Blame). and_then x (and_then (chain f deps_clauses) (chain f joined_clauses))) (chain-join f abc command_clauses)
+      ∙ ap (λ (x : Result Unit Blame). and_then x (and_then (chain f deps_clauses) (chain f joined_clauses))) (chain-join f abc command_clauses)
       ∙ then-then (chain f abc) (chain f command_clauses) (and_then (chain f deps_clauses) (chain f joined_clauses))
-      ∙ ap (λ (x : Result (Unit {0}) Blame). and_then x (and_then (chain f command_clauses) (and_then (chain f deps_clauses) (chain f joined_clauses)))) (chain-join f ab told_clauses)
+      ∙ ap (λ (x : Result Unit Blame). and_then x (and_then (chain f command_clauses) (and_then (chain f deps_clauses) (chain f joined_clauses)))) (chain-join f ab told_clauses)
       ∙ then-then (chain f ab) (chain f told_clauses) (and_then (chain f command_clauses) (and_then (chain f deps_clauses) (chain f joined_clauses)))
-      ∙ ap (λ (x : Result (Unit {0}) Blame). and_then x rest) (chain-join f a way_clauses)
+      ∙ ap (λ (x : Result Unit Blame). and_then x rest) (chain-join f a way_clauses)
       ∙ then-then (chain f a) (chain f way_clauses) rest
 
   -- past the head no dependencies stand beside a kind that has none
@@ -242,7 +242,7 @@ module _ (n s c o : ℕ) (m : Message) (w : Row) (ew : w ≡ row_in m.body) wher
   by-groups : chain f clauses ≡ and_then (head_verdict n s w m) (and_then (way_verdict c w m) (body_verdict n s w o m v j))
   by-groups = grouped ∙ rw (head-chain, way-chain) (go (head_verdict n s w m) refl)
     where
-      go : (h : Result (Unit {0}) Blame) → head_verdict n s w m ≡ h → and_then h (and_then (way_verdict c w m) rest) ≡ and_then h (and_then (way_verdict c w m) (body_verdict n s w o m v j))
+      go : (h : Result Unit Blame) → head_verdict n s w m ≡ h → and_then h (and_then (way_verdict c w m) rest) ≡ and_then h (and_then (way_verdict c w m) (body_verdict n s w o m v j))
       go (Ok u) e = ap (and_then (way_verdict c w m)) (body-chain (head-carried e))
       go (Err x) e = refl
 

@@ -252,12 +252,12 @@ module _ (n s c : ℕ) (b : List ℕ) where
           rw (p, q) (valid-verdict n s c (op_at (parts_of (kind_at b)) b) (message_at b) ∙ ap (λ (t : Bool). op_range t (op_at (parts_of (kind_at b)) b) && valid n s c (message_at b)) held)
 
 -- the refusal of a verdict that blames; of one that does not it is never asked
-pub why_of : Parts → Result (Unit {0}) Blame → Refusal
+pub why_of : Parts → Result Unit Blame → Refusal
 why_of p (Ok u) = why.UnknownKind
 why_of p (Err x) = refusal_of p x
 
 -- it is 31 to 35
-pub why-number : (p : Parts) (v : Result (Unit {0}) Blame) → (31 ≤ number_of (why_of p v)) × (number_of (why_of p v) ≤ 35)
+pub why-number : (p : Parts) (v : Result Unit Blame) → (31 ≤ number_of (why_of p v)) × (number_of (why_of p v) ≤ 35)
 unfolding why_of
 why-number p (Ok u) = (omega arith, omega arith)
 why-number p (Err blame.Kind) = (omega arith, omega arith)
@@ -266,7 +266,7 @@ why-number p (Err blame.Way) = (omega arith, omega arith)
 why-number p (Err blame.Lead) = (omega arith, omega arith)
 why-number p (Err (blame.Of f)) = (omega arith, omega arith)
 
-pub why-other : (p : Parts) (v : Result (Unit {0}) Blame) (k : ℕ) → k < 31 → eqb (number_of (why_of p v)) k ≡ false
+pub why-other : (p : Parts) (v : Result Unit Blame) (k : ℕ) → k < 31 → eqb (number_of (why_of p v)) k ≡ false
 why-other p v k l = ne_eqb _ k (λ e. omega (arith, e, (why-number p v).0))
 
 abbrev pub why_read : ℕ → ℕ → ℕ → List ℕ → Refusal
@@ -281,7 +281,7 @@ pub read_is : (n s c : ℕ) (b : List ℕ) → read_message n s c b
 unfolding read_message why_of
 read_is n s c b = ap (cond (not (setup_ok n s c)) (Err Setup)) (go (verdict_at n s c b) (valid_bytes n s c b) (valid-bytes n s c b))
   where
-    go : (v : Result (Unit {0}) Blame) (t : Bool) → is_valid v ≡ t
+    go : (v : Result Unit Blame) (t : Bool) → is_valid v ≡ t
         → unless_blamed (parts_of (kind_at b)) v (message_at b) ≡ cond (not t) (Err (why_of (parts_of (kind_at b)) v)) (Ok (message_at b))
     go (Ok u) true e = refl
     go (Ok u) false e = absurd (let z : ◌≡◌ {A = ℕ} 0 1 = cc in omega arith)
@@ -298,7 +298,7 @@ module _ (n s c : ℕ) (out : List ℕ) (m : Message) where
   unfolding wrote
   wrote-2 p q = rw (p, lt-ltb (length out) 256 q)
 
-  pub wrote-rest : setup_ok n s c ≡ true → 256 ≤ length out → (v : Result (Unit {0}) Blame) → v ≡ verdict_on n s m.to (op_in m) m
+  pub wrote-rest : setup_ok n s c ≡ true → 256 ≤ length out → (v : Result Unit Blame) → v ≡ verdict_on n s m.to (op_in m) m
       → write_unless_blamed v out m ≡ wrote n s c out m
   unfolding wrote
   wrote-rest p q v e = rw (e, p, le-ltb (length out) 256 q)
@@ -315,7 +315,7 @@ module _ (n s c : ℕ) (out : List ℕ) (m : Message) where
       ap (λ (x : Wrote). cond (not (setup_ok n s c)) (unwritten Setup out) (cond (ltb (length out) 256) (unwritten Room out) x))
       (go (verdict_on n s m.to (op_in m) m) (valid n s m.to m) e)
     where
-      go : (v : Result (Unit {0}) Blame) (t : Bool) → is_valid v ≡ t
+      go : (v : Result Unit Blame) (t : Bool) → is_valid v ≡ t
           → write_unless_blamed v out m
           ≡ cond (not t) (unwritten (why_of (parts_in m.body) v) out) (record { answer = Ok (length_of (kind_of m.body)); out = splice out 0 (message_bytes m) })
       go (Ok u) true e = refl
@@ -339,7 +339,7 @@ module _ (n s c : ℕ) (b : List ℕ) (setup : setup_ok n s c ≡ true) {k : ℕ
       let l : (length b ≡ length_of (kind_at b) → ⊥) = λ g. d (g ∙ sym (e ∙ ap (λ (w : Row). rest_end w.parts head_size) q)) in
       received-32 n s c b setup (sym (ap (λ (w : Row). w.known) q) ∙ h) (ne_eqb _ _ l)
 
-  pub judged-read : framed b ≡ true → {o : ℕ} → o ≡ op_at r.parts b → {m : Message} → m ≡ message_at b → {v : Result (Unit {0}) Blame} → v ≡ verdict_on n s c o m
+  pub judged-read : framed b ≡ true → {o : ℕ} → o ≡ op_at r.parts b → {m : Message} → m ≡ message_at b → {v : Result Unit Blame} → v ≡ verdict_on n s c o m
       → unless_blamed r.parts v m ≡ read_message n s c b
   judged-read h {o} eo {m} em {v} ev =
       let q : r.parts ≡ parts_of (kind_at b) = ap (λ (w : Row). w.parts) (row ∙ ap row_of kind) in

@@ -122,7 +122,7 @@ module _ (n s c : ℕ) (b : List ℕ) (h : framed b ≡ true) where
             r.before counts y i (ap (about_field p) eq ∙ hq) (let z : offset_in p (blame_of y) ≡ offset_of p q = ap (offset_in p) eq in omega arith);
       }
 
-  by-blame : (v : Result (Unit {0}) Blame) → verdict_on n s c (op_at p b) (message_at b) ≡ v → (a : ℕ) → unless_blamed p v (message_at b) ≡ Err (why.WrongField a)
+  by-blame : (v : Result Unit Blame) → verdict_on n s c (op_at p b) (message_at b) ≡ v → (a : ℕ) → unless_blamed p v (message_at b) ≡ Err (why.WrongField a)
       → FirstBad n s c b a
   by-blame (Ok u) e a r = absurd (let z : ◌≡◌ {A = ℕ} 0 1 = cc in omega arith)
   by-blame (Err blame.Kind) e a r = absurd (let z : ◌≡◌ {A = ℕ} 0 1 = cc in omega arith)

@@ -17,7 +17,7 @@ pub write-message-unique : (n s c : ℕ) (out : List ℕ) (m : Message) (x y : R
 write-message-unique n s c out m x y u v p q r t = (p ∙ sym r, q ∙ sym t)
 
 -- what was read, but for the message
-abbrev pub without_message : Result Message Refusal → Result (Unit {0}) Refusal
+abbrev pub without_message : Result Message Refusal → Result Unit Refusal
 without_message (Ok m) = Ok tt
 without_message (Err r) = Err r
 

@@ -23,7 +23,7 @@ refusal_of p blame.Lead = why.WrongLead
 refusal_of p (blame.Of f) = why.WrongField (offset_of p f)
 
 -- the message, unless it is blamed
-abbrev pub unless_blamed : Parts → Result (Unit {0}) Blame → Message → Result Message Refusal
+abbrev pub unless_blamed : Parts → Result Unit Blame → Message → Result Message Refusal
 unless_blamed p (Ok u) m = Ok m
 unless_blamed p (Err x) m = Err (refusal_of p x)
 
@@ -41,7 +41,7 @@ abbrev pub unwritten : Refusal → List ℕ → Wrote
 unwritten r out = record { answer = Err r; out = out }
 
 -- a message that nobody blames is written; later bytes keep their contents
-abbrev pub write_unless_blamed : Result (Unit {0}) Blame → List ℕ → Message → Wrote
+abbrev pub write_unless_blamed : Result Unit Blame → List ℕ → Message → Wrote
 write_unless_blamed (Ok u) out m = record { answer = Ok (length_of (kind_of m.body)); out = splice out 0 (message_bytes m) }
 write_unless_blamed (Err x) out m = unwritten (refusal_of (parts_in m.body) x) out
 

@@ -133,7 +133,7 @@ unfoldable pub valid_bytes : ℕ → ℕ → ℕ → List ℕ → Bool
 valid_bytes n s c b = framed b && op_fits b && valid n s c (message_at b)
 
 -- 1/12: what copy c finds these bytes to be: the kind first, then the length, then the clauses
-unfoldable pub verdict_at : ℕ → ℕ → ℕ → List ℕ → Result (Unit {0}) Blame
+unfoldable pub verdict_at : ℕ → ℕ → ℕ → List ℕ → Result Unit Blame
 verdict_at n s c b =
     cond (not (row_of (kind_at b)).known) (Err blame.Kind)
     (cond (not (eqb (length b) (length_of (kind_at b)))) (Err blame.Length)
