@@ -2,18 +2,15 @@
 use mathlib.Core.Path.{◌≡◌, refl, sym, ap, ◌∙◌}
 use mathlib.Core.Bool.{Bool, true, false, ◌&&◌, cond}
 use mathlib.Core.List.{List}
-use Prim.Native.Nat.{ℕ, zero, suc, ◌+◌, ◌*◌, ◌-◌, ◌≤◌, ◌<◌}
+use Prim.Native.Nat.{ℕ, zero, suc, ◌-◌, ◌≤◌, ◌<◌}
 use native.Mathlib.Omega.{arith}
-use lib.ListN.{length, take, drop}
 use Rattle.paper.specs.Logic.{all_below}
 use Rattle.record.specs.Part.{idle_ok, sound_part}
 use Rattle.record.proofs.Laws.{all_below-step, all_below-none}
 use Rattle.record.proofs.Quick.{idle-sound}
-use Rattle.table.specs.Place.{head_length, table_length, place_at, place_of, part_at}
+use Rattle.table.specs.Place.{place_at, place_of, part_at}
 use Rattle.table.specs.Table.{past_idle, sound_row}
 use Rattle.table.specs.Sizes.{Row, Names}
-use Rattle.table.proofs.Laws.{row-end}
-use Rattle.record.specs.Layout.{record_length}
 
 -- the whole is what is left, for any test of each number below a bound
 pub left-true : (f : ℕ → Bool) (left : ℕ) {x : Bool} → x ≡ all_below left f → 0 < left → f (left - 1) ≡ true → x ≡ all_below (left - 1) f

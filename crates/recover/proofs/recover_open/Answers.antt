@@ -2,7 +2,7 @@ use mathlib.Core.Path.{◌≡◌, refl, sym, ap, ◌∙◌}
 use mathlib.Core.Bool.{false}
 use native.Mathlib.Omega.{arith}
 use borrow.Author.Rules.{rules}
-use Rattle.std.proofs.lemmas.Grind.{common_steps}
+use borrow.Author.Tests.{lt-leb}
 use Rattle.numbers.specs.Num.{Bytes}
 use Rattle.rules.specs.Step.{is_committed}
 use Rattle.rules.specs.Recover.{out_of_ballots}
@@ -43,7 +43,7 @@ act-requires c =
     let t = a.t.now in
     let i = sym c.instance_ok.ensures ∙ c.if-not-instance_ok.false in
     let q : is_committed (record_in a.s t a.o a.j) ≡ false = rw (← c.load-r.ensures) (cc) in
-    let l : out_of_ballots (record_in a.s t a.o a.j) ≡ false = rw (← c.load-r.ensures) (grind (arith, common_steps)) in
+    let l : out_of_ballots (record_in a.s t a.o a.j) ≡ false = rw (← c.load-r.ensures) (lt-leb _ _ (omega arith)) in
     let x = recover-step a.n a.s a.c t a.out.now a.o a.j c.load-r.ensures c.recover-x.ensures in
     let bt : Bytes t = search rules in
     (record { names = names a.n a.s a.c t a.o a.j c.requires.setup i; long = (sizes a.n a.s a.c t c.requires.setup).long }, c.requires.long, rw x (recover-room a.n a.s a.c t a.out.now a.o a.j bt c.requires i q l))
@@ -54,7 +54,7 @@ returns c =
     let t = a.t.now in
     let i = sym c.instance_ok.ensures ∙ c.if-not-instance_ok.false in
     let q : is_committed (record_in a.s t a.o a.j) ≡ false = rw (← c.load-r.ensures) (cc) in
-    let l : out_of_ballots (record_in a.s t a.o a.j) ≡ false = rw (← c.load-r.ensures) (grind (arith, common_steps)) in
+    let l : out_of_ballots (record_in a.s t a.o a.j) ≡ false = rw (← c.load-r.ensures) (lt-leb _ _ (omega arith)) in
     let x = recover-step a.n a.s a.c t a.out.now a.o a.j c.load-r.ensures c.recover-x.ensures in
     let w = c.act.ensures in
     met (recover-ok a.n a.s a.c t a.out.now a.o a.j i q l) (acted-is a.s t a.out.now a.o a.j x w.answers w.table w.room)

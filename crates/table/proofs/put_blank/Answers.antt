@@ -1,8 +1,7 @@
-use mathlib.Core.Path.{◌≡◌, refl, sym, ◌∙◌}
-use mathlib.Core.List.{List}
+use mathlib.Core.Path.{◌≡◌, sym, ◌∙◌}
 use Prim.Native.Nat.{ℕ, ◌<◌}
 use native.Mathlib.Omega.{arith}
-use lib.ListN.{length, replicate, get_or, length-replicate}
+use lib.ListN.{length, replicate, length-replicate}
 use lib.Seq.{ext_get_or}
 use borrow.Author.Rules.{rules}
 use Rattle.std.proofs.Common.{slice_index}
