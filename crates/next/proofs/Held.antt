@@ -8,18 +8,18 @@ use mathlib.Core.List.{List, []}
 use native.Mathlib.Omega.{arith}
 use native.Mathlib.Nat.{eq-or-lt_of_le}
 use native.Mathlib.Decide.{dec_lt, ℕ_discrete}
-use lib.Dec.{leb, eqb}
+use lib.Dec.{leb}
 use lib.ListN.{length, get_or, set, length-set}
 use lib.Seq.{get_or-set_same, get_or-set_other}
 use Rattle.rules.specs.Order.{everywhere}
 use Rattle.reach.specs.High.{Inst}
-use Rattle.reach.proofs.Tests.{tf, and_l, and_r, or_cases, not-true, not-not, eqb-eq, eqb_same, eqb-ne, eqb-false, leb-le, leb-in}
+use Rattle.reach.proofs.Tests.{tf, and_l, and_r, or_cases, not-true, not-not, leb-le, leb-in}
 use Rattle.reach.proofs.Instances.{every-at, every_in}
 use Rattle.rows.specs.Rows.{slot_of, mark_at}
 use Rattle.next.specs.declared.Stage.{Stage}
 use Rattle.next.specs.declared.Stage.TheVariants.{Waits, Settled, HandedOut}
 use Rattle.next.proofs.Stages.{out-same, out-is, out-not, out-no, out-or-not, due-same, due-not}
-use Rattle.next.specs.Slots.{is_out, is_due, lets, ready_in, passes_at, Lists, Ahead, Below, Known, Going, Seeking, Span, Stops, Sought, Held, Waiting, Freed}
+use Rattle.next.specs.Slots.{is_out, lets, ready_in, passes_at, Lists, Ahead, Below, Known, Going, Seeking, Span, Stops, Sought, Held, Waiting, Freed}
 
 leb-not : (a b : ℕ) → b < a → leb a b ≡ false
 leb-not a b l = not-true (leb a b) (λ e. absurd (omega (arith, leb-le a b e)))

@@ -7,11 +7,10 @@ use mathlib.Core.List.{List}
 use native.Mathlib.Omega.{arith}
 use native.Mathlib.Nat.{eq-or-lt_of_le}
 use native.Mathlib.Decide.{ℕ_discrete}
-use lib.Dec.{eqb}
 use lib.ListN.{get_or, set, length-set}
 use lib.Seq.{get_or-set_same, get_or-set_other}
 use Rattle.paper.proofs.Laws.{all_below-at}
-use Rattle.reach.proofs.Tests.{tf, not-true, not-not, eqb_same, eqb-false}
+use Rattle.reach.proofs.Tests.{tf, not-true, not-not}
 use Rattle.reach.proofs.Instances.{all_in}
 use Rattle.reach.proofs.First.{Walk, Row, walk_start, row-start, row_on, row-end}
 use Rattle.rows.specs.Rows.{slot_of}

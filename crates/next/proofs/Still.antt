@@ -4,7 +4,7 @@ use mathlib.Core.Path.{◌≡◌, refl, ◌∙◌}
 use mathlib.Core.Bool.{Bool, true, false, ◌&&◌, not}
 use mathlib.Core.List.{List}
 use native.Mathlib.Decide.{ℕ_discrete}
-use lib.Dec.{leb, eqb}
+use lib.Dec.{leb}
 use lib.ListN.{length, get_or, set, length-set}
 use lib.Seq.{get_or-set_same, get_or-set_other}
 use Rattle.paper.specs.Logic.{implies}
@@ -13,7 +13,7 @@ use Rattle.rules.specs.Order.{everywhere}
 use Rattle.reach.proofs.Instances.{all_in, every-at, every_in}
 use Rattle.rows.specs.Rows.{slot_of, mark_at}
 use Rattle.next.specs.declared.Stage.{Stage}
-use Rattle.next.specs.declared.Stage.TheVariants.{Waits, Settled, HandedOut}
+use Rattle.next.specs.declared.Stage.TheVariants.{Waits, HandedOut}
 use Rattle.next.specs.Slots.{is_out, is_due, lets, none_at, Past, Going}
 
 module _ (st : List Stage) (x : ℕ) (inside : x < length st) where

@@ -1,6 +1,6 @@
 -- Which instance is handed out next, and what is kept of it from one call to the next. Assumes nothing.
 -- h: a row of seven marks for each instance; st: how far each is.
-use Rattle.std.specs.Prelude.{ℕ, ◌-◌, ◌≤◌, ◌<◌, ◌≡◌, ◌⊎◌, Bool, true, false, ◌&&◌, ◌||◌, not, List, leb, eqb, length, get_or, Option, Some, None}
+use Rattle.std.specs.Prelude.{ℕ, ◌-◌, ◌≤◌, ◌<◌, ◌≡◌, ◌⊎◌, Bool, true, false, ◌&&◌, ◌||◌, not, List, leb, length, get_or, Option, Some, None}
 use Rattle.paper.specs.Logic.{implies, all_below}
 use Rattle.rules.specs.declared.Instance.{Instance}
 use Rattle.rules.specs.Order.{everywhere, first}

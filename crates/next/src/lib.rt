@@ -1,6 +1,6 @@
-// Which instance is handed out next. Lists hold a place for each instance: what it reaches, as seven marks, and how
-// far it is. Marks and dependencies stay, and what was handed out stays so: what is
-// known of an instance, and how much of each row is past, is kept from one call to the next.
+// Which instance is handed out next. Lists hold a place for each instance: what it reaches, as seven marks, and how far it is.
+// Marks and dependencies stay, and what was handed out stays so: what is known of an instance, and how much of each row is
+// past, is kept from one call to the next.
 #![tactic(auto)]
 
 ghost use Rattle.std.specs.Prelude.{◌≡◌, ◌&&◌, not, ◌*◌, ◌-◌, ◌≤◌, ◌<◌, max, leb, eqb, length, get_or};
