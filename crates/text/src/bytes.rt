@@ -13,7 +13,7 @@ pub fn low32(x: usize) -> u32 {
 pub fn byte_at(b: &[u8], i: usize) -> usize
     ensures { result ≤ 255 }
 {
-    if i < b.len() { b[i] as usize } else { 0 }
+    b.get(i).map_or(0, |&x| x as usize)
 }
 
 // Writes bytes from a place on, as many as there is room for.
@@ -51,23 +51,11 @@ pub fn front_mut(room: &mut [u8], k: usize) -> &mut [u8] {
 
 // As many bytes from a place on; none where there are not as many.
 pub fn part(all: &[u8], start: usize, count: usize) -> &[u8] {
-    if all.len() < start {
-        return &all[..0];
-    }
-    if all.len() - start < count {
-        return &all[..0];
-    }
-    let end = start + count;
-    &all[start..end]
+    let end = start.saturating_add(count);
+    all.get(start..end).unwrap_or(&[])
 }
 
 pub fn part_mut(all: &mut [u8], start: usize, count: usize) -> &mut [u8] {
-    if all.len() < start {
-        return &mut all[..0];
-    }
-    if all.len() - start < count {
-        return &mut all[..0];
-    }
-    let end = start + count;
-    &mut all[start..end]
+    let end = start.saturating_add(count);
+    all.get_mut(start..end).unwrap_or(&mut [])
 }
