@@ -7,13 +7,14 @@ use native.Mathlib.Omega.{arith}
 use lib.Dec.{leb, ltb, eqb}
 use borrow.Author.Tests.{lt-ltb, lt-leb, eq-eqb, ne_eqb}
 use Rattle.numbers.specs.Num.{num_at}
-use Rattle.codec.specs.Parts.{op_of, command_at, vote_at}
+use Rattle.codec.specs.Parts.{op_of, command_at, deps_at, vote_at}
 use Rattle.paper.specs.Command.{op_number, command_ok}
 use Rattle.paper.specs.Logic.{implies, all_below}
 use Rattle.paper.specs.Deps.{deps_ok}
 use Rattle.paper.specs.Vote.{none_is_blank}
+use Rattle.sound.specs.Asked.{ballots_ok, marked_ok}
 use Rattle.sound.proofs.Laws.{and_one}
-use Rattle.record.specs.Part.{command_fits}
+use Rattle.record.specs.Part.{command_fits, front_ok}
 
 -- no op has a number above 3
 above : (k : ℕ) → leb (suc (suc (suc (suc k)))) 3 ≡ false
@@ -66,3 +67,27 @@ pub deps-seven : (n s : ℕ) (d : List ℕ) → 7 ≤ n → deps_ok 7 s d ≡ de
 unfolding deps_ok all_below
 deps-seven n s d h =
     rw (lt-ltb 0 n (omega arith), lt-ltb 1 n (omega arith), lt-ltb 2 n (omega arith), lt-ltb 3 n (omega arith), lt-ltb 4 n (omega arith), lt-ltb 5 n (omega arith), lt-ltb 6 n (omega arith))
+
+module _ (n s : ℕ) (b : List ℕ) where
+  pub front-ballots : ballots_ok n (num_at 4 b 0) (num_at 4 b 4) ≡ false → false ≡ front_ok n s b
+  unfolding front_ok
+  front-ballots p = rw p
+
+  module _ (p : ballots_ok n (num_at 4 b 0) (num_at 4 b 4) ≡ true) where
+    pub front-command : command_fits b ≡ false → false ≡ front_ok n s b
+    unfolding front_ok
+    front-command q = rw (p, q)
+
+    module _ (q : command_fits b ≡ true) where
+      pub front-mark : marked_ok (num_at 1 b 8) (num_at 1 b 40) ≡ false → false ≡ front_ok n s b
+      unfolding front_ok
+      front-mark r = rw (p, q, r)
+
+      module _ (r : marked_ok (num_at 1 b 8) (num_at 1 b 40) ≡ true) where
+        pub front-none : none_is_blank (vote_at b 4) ≡ false → false ≡ front_ok n s b
+        unfolding front_ok
+        front-none u = rw (p, q, r, u)
+
+        pub front-deps : none_is_blank (vote_at b 4) ≡ true → deps_ok n s (deps_at b 26) ≡ front_ok n s b
+        unfolding front_ok
+        front-deps u = rw (p, q, r, u)
