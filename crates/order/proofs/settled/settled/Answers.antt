@@ -1,4 +1,3 @@
-use borrow.Author.Rules.{rules}
 use mathlib.Core.Path.{sym, ◌∙◌}
 use Rattle.order.proofs.Judged.{passed}
 use Rattle.order.proofs.Asked.{settled-refused, settled-past}
