@@ -22,7 +22,7 @@ use Rattle.reach.proofs.Same.{reaches_same, settled_same}
 use Rattle.rows.specs.Rows.{slot_of}
 use Rattle.sweep.specs.Sweeping.{Charted}
 use Rattle.next.specs.declared.Stage.{Stage}
-use Rattle.next.specs.declared.Stage.TheVariants.{Waits, Settled, HandedOut}
+use Rattle.next.specs.declared.Stage.TheVariants.{Waits, HandedOut}
 use Rattle.next.specs.Slots.{Going}
 use Rattle.next.proofs.Still.{going-still}
 use Rattle.order.specs.Calls.{marked_in}

@@ -1,6 +1,6 @@
 -- What a hand-out works out once, and what each of its parts rests on. Assumes nothing.
 -- n, s: the setup; t: the table's bytes; u: the records; h, st, know, past: the lists of `next`.
-use Rattle.std.specs.Prelude.{ℕ, ◌+◌, ◌*◌, ◌≤◌, ◌<◌, ◌≡◌, Bool, true, false, ◌&&◌, not, List, leb, eqb, length, get_or}
+use Rattle.std.specs.Prelude.{ℕ, ◌+◌, ◌*◌, ◌≤◌, ◌<◌, ◌≡◌, Bool, true, false, ◌&&◌, not, List, leb, length, get_or}
 use Rattle.paper.specs.Logic.{all_below}
 use Rattle.table.specs.Place.{table_length}
 use Rattle.table.specs.Sizes.{Has}

@@ -1,6 +1,5 @@
 use mathlib.Core.Path.{refl}
 use Rattle.order.proofs.Handed.{charting, stating, handed-gives, listing}
-use borrow.Author.Rules.{rules}
 use native.Mathlib.Omega.{arith}
 use Rattle.order.proofs.hand_out.hand_out_open.Goals as goal
 

@@ -1,9 +1,6 @@
 use mathlib.Core.Path.{sym, ◌∙◌}
-use Prim.Native.Nat.{◌-◌}
 use native.Mathlib.Omega.{arith}
-use Rattle.order.proofs.Listed.{listed_start, listed-full, Listed, found-inst, listed-on, listed-none}
-use borrow.Author.Rules.{rules}
-use lib.ListN.{length}
+use Rattle.order.proofs.Listed.{listed_start, listed-full, found-inst, listed-on, listed-none}
 use Rattle.order.proofs.hand_out.list_all.Goals as goal
 
 pub returns-in_default : goal.returns-in_default

@@ -1,9 +1,7 @@
 use mathlib.Core.Path.{sym, ◌∙◌}
-use borrow.Author.Tests.{not-true, not-false}
 use Rattle.table.proofs.Laws.{names}
 use Rattle.order.proofs.Judged.{passed-long}
 use Rattle.order.proofs.Asked.{searching, searched, settled-6, settled-waits, settled-gives}
-use borrow.Author.Rules.{rules}
 use Rattle.order.proofs.settled.settled_open.Goals as goal
 
 pub returns-in-Some : goal.returns-in-Some

@@ -1,6 +1,4 @@
-use Prim.Native.Nat.{◌-◌, ◌≤◌, ◌<◌}
 use native.Mathlib.Omega.{arith}
-use Rattle.rows.specs.Rows.{mark_at}
 use Rattle.order.proofs.Stated.{within_more, behind-no, behind-none}
 use Rattle.order.proofs.states.behind_none.Goals as goal
 

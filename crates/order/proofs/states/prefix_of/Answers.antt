@@ -1,8 +1,5 @@
 use mathlib.Core.Path.{◌≡◌, sym, ◌∙◌}
-use mathlib.Core.Bool.{true}
-use Prim.Native.Nat.{◌-◌, ◌≤◌}
 use native.Mathlib.Omega.{arith}
-use borrow.Author.Tests.{not-true, not-false}
 use Rattle.seen.specs.Records.{records_in}
 use Rattle.order.proofs.Stated.{sized-has, all_more, prefix_here, prefix-whole}
 use Rattle.order.proofs.states.prefix_of.Goals as goal

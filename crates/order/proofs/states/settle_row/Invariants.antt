@@ -1,4 +1,3 @@
-use mathlib.Core.Path.{◌∙◌}
 use Prim.Native.Nat.{◌+◌, ◌*◌, ◌-◌, ◌≤◌}
 use Rattle.seen.specs.Records.{records_in}
 use Rattle.order.specs.States.{States}

@@ -1,5 +1,4 @@
 use mathlib.Core.Path.{sym, ◌∙◌}
-use Prim.Native.Nat.{◌*◌, ◌-◌}
 use native.Mathlib.Omega.{arith}
 use Rattle.order.proofs.Stated.{states-start, states-all}
 use Rattle.order.proofs.states.settle_rows.Goals as goal

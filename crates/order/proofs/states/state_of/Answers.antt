@@ -1,5 +1,4 @@
 use mathlib.Core.Path.{sym, ◌∙◌}
-use borrow.Author.Tests.{not-true, not-false}
 use Rattle.order.proofs.Stated.{state-out, state-open, state-settled, state-behind}
 use Rattle.order.proofs.states.state_of.Goals as goal
 
