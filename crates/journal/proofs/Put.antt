@@ -7,7 +7,7 @@ use native.Mathlib.Omega.{arith}
 use native.Mathlib.Decide.{ℕ_discrete}
 use lib.Dec.{eqb}
 use lib.ListN.{length, get_or, set, take, drop, length-set, length-drop}
-use lib.Seq.{get_or-set_same, get_or-set_other, get_or-drop, drop-drop}
+use lib.Seq.{get_or-set_same, get_or-set_other, get_or-drop}
 use Rattle.std.specs.Prelude.{Result, Ok, Err}
 use Rattle.numbers.specs.Num.{Bytes}
 use Rattle.paper.specs.declared.Record.{Record}
@@ -30,9 +30,9 @@ use Rattle.entries.specs.Entry.{record_kind, entry_head, entry_length, kind_in, 
 use Rattle.entries.specs.Replay.{committed_in, entry_ok, front_of, applied, behind, or_on, end_of, puts}
 use Rattle.entries.specs.Entry.{Fit}
 use Rattle.journal.specs.Judging.{told, noted, end_by, Tells, Held, Ready, Puts}
-use Rattle.entries.proofs.Lengths.{range-names, part-size, fit-names}
+use Rattle.entries.proofs.Lengths.{length-least, range-names, part-size, fit-names}
 use Rattle.entries.proofs.Fronts.{front-fit, front_same}
-use Rattle.journal.proofs.Judged.{rest-is, rest-room}
+use Rattle.journal.proofs.Judged.{rest-is}
 
 -- a judged table holds
 pub held_in : (n s c : ℕ) (t : List ℕ) → Judged n s c t → Bytes t → Held n s t
@@ -228,48 +228,50 @@ end-past (suc k) n s c t b at e p l =
     let i : suc k - 1 ≡ k = omega arith in
     record { some = omega arith; whole = q.0; on = rw i q.1 }
 
--- after the entries before `at`
-pub record Putting (n s : ℕ) (t₀ b t : List ℕ) (at : ℕ) : Type 0 where
-  pub few : at ≤ length b
+-- after some entries: what is left of them, from `at` on
+pub record Putting (n s : ℕ) (t₀ b t rest : List ℕ) : Type 0 where
+  pub bytes : Bytes rest
   pub held : Held n s t
   pub copy : ℕ
   pub left : ℕ
-  pub ends : end_of left n s copy t (drop at b) at ≡ Ok (length b)
-  pub so : puts (length b) s t₀ b ≡ puts left s t (drop at b)
+  pub at : ℕ
+  pub ends : end_of left n s copy t rest at ≡ Ok (at + length rest)
+  pub so : puts (length b) s t₀ b ≡ puts left s t rest
 
-pub put-start : (n s : ℕ) (t b : List ℕ) → Ready n s t b → Putting n s t b t 0
-put-start n s t b r = record { few = omega arith; held = r.held; copy = r.copy; left = length b; ends = r.ends; so = refl }
+pub put-start : (n s : ℕ) (t b : List ℕ) → Bytes b → Ready n s t b → Putting n s t b t b
+put-start n s t b y r = record { bytes = y; held = r.held; copy = r.copy; left = length b; at = 0; ends = r.ends ∙ ap (λ (x : ℕ). Ok x) (omega arith); so = refl }
 
--- the offset after them: at the end, and before a further entry
-module _ (n s : ℕ) (t₀ b t : List ℕ) (at : ℕ) (w : Putting n s t₀ b t at) where
-  pub put-end : length b ≤ at → t ≡ puts (length b) s t₀ b
-  put-end l = sym (w.so ∙ puts_none w.left s t (drop at b) (simp length-drop (omega arith)))
+-- nothing left, and a further entry
+module _ (n s : ℕ) (t₀ b t rest : List ℕ) (w : Putting n s t₀ b t rest) where
+  pub put-end : length rest ≡ 0 → t ≡ puts (length b) s t₀ b
+  put-end l = sym (w.so ∙ puts_none w.left s t rest l)
 
-  module _ (l : at < length b) where
-    past : Past w.left n s w.copy t (drop at b) at (length b)
-    past = end-past w.left n s w.copy t (drop at b) at (length b) w.ends l
+  module _ (l : 0 < length rest) where
+    past : Past w.left n s w.copy t rest w.at (w.at + length rest)
+    past = end-past w.left n s w.copy t rest w.at (w.at + length rest) w.ends (omega arith)
 
-    taken : Fit n s (drop at b) × (entry_ok n s w.copy (committed_in s t) (drop at b) ≡ true)
-    taken = front-fit n s w.copy (committed_in s t) (drop at b) w.held.copies w.held.numbers past.whole
+    taken : Fit n s rest × (entry_ok n s w.copy (committed_in s t) rest ≡ true)
+    taken = front-fit n s w.copy (committed_in s t) rest w.held.copies w.held.numbers past.whole
 
-    pub put_fit : Fit n s (take (length b - at) (drop at b))
-    put_fit = rw rest-is taken.0
+    pub put_fit : Fit n s rest
+    put_fit = taken.0
 
-    pub put-room : {x : ℕ} → x ≡ entry_length (kind_in (take (length b - at) (drop at b))) → (0 < x) × (at + x ≤ length b)
-    put-room ex = rest-room n s b at l put_fit ex
+    pub put-room : {x : ℕ} → x ≡ entry_length (kind_in rest) → (0 < x) × (x ≤ length rest)
+    put-room ex = (omega (arith, length-least (kind_in rest) taken.0.known), omega (arith, taken.0.whole))
 
-    pub put_on : Bytes b → {t₁ : List ℕ} {x : ℕ} → t₁ ≡ applied s t (take (length b - at) (drop at b))
-        → x ≡ entry_length (kind_in (take (length b - at) (drop at b))) → Putting n s t₀ b t₁ (at + x)
-    put_on y {t₁} {x} et ex =
+    pub put_on : {t₁ : List ℕ} {x : ℕ} → t₁ ≡ applied s t rest → x ≡ entry_length (kind_in rest)
+        → Putting n s t₀ b t₁ (take (length rest - x) (drop x rest))
+    put_on {t₁} {x} et ex =
         let room = put-room ex in
-        let v : t₁ ≡ applied s t (drop at b) = et ∙ ap (applied s t) (rest-is b at) in
-        let u : x ≡ entry_length (kind_in (drop at b)) = ex ∙ ap (λ (r : List ℕ). entry_length (kind_in r)) (rest-is b at) in
-        let d : behind (drop at b) ≡ drop (at + x) b = ap (λ (k : ℕ). drop k (drop at b)) (sym u) ∙ drop-drop x at b in
-        record {
-          few = room.1;
-          held = rw v (applied-held n s w.copy (committed_in s t) t (drop at b) w.held taken.0 (drop-bytes at b y) taken.1);
+        let d : take (length rest - x) (drop x rest) ≡ behind rest = rest-is rest x ∙ ap (λ (k : ℕ). drop k rest) ex in
+        let long : w.at + length rest ≡ w.at + entry_length (kind_in rest) + length (behind rest) = omega (arith, room.1, length-drop (entry_length (kind_in rest)) rest) in
+        rw d
+        (record {
+          bytes = drop-bytes (entry_length (kind_in rest)) rest w.bytes;
+          held = rw et (applied-held n s w.copy (committed_in s t) t rest w.held taken.0 w.bytes taken.1);
           copy = w.copy;
           left = w.left - 1;
-          ends = rw (← d, v, u) past.on;
-          so = w.so ∙ puts-step w.left s t (drop at b) past.some (simp length-drop (omega arith)) ∙ rw (v, d);
-        }
+          at = w.at + entry_length (kind_in rest);
+          ends = rw et (past.on ∙ ap (λ (k : ℕ). Ok k) long);
+          so = w.so ∙ puts-step w.left s t rest past.some l ∙ rw et refl;
+        })

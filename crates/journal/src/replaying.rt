@@ -29,11 +29,10 @@ fn put_entries(t: &mut [u8], n: usize, s: usize, b: &[u8])
     requires { Ready n s t.old b.now }
     ensures { t.new ≡ puts (length b.now) s t.old b.now }
 {
-    let mut at = 0;
-    while at < b.len() {
-        let rest = &b[at..];
+    let mut rest = b;
+    while !rest.is_empty() {
         put_entry(&mut *t, n, s, rest);
-        at += entry_length(kind_in(rest));
+        rest = &rest[entry_length(kind_in(rest))..];
     }
 }
 

@@ -1,5 +1,4 @@
 use mathlib.Core.Path.{sym, ◌∙◌}
-use native.Mathlib.Omega.{arith}
 use Rattle.entries.proofs.Written.{enters-has, enters-small, mark-unsound, mark-put}
 use Rattle.journal.proofs.writing.mark_open.Goals as goal
 
