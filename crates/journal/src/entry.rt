@@ -6,7 +6,6 @@ ghost use Rattle.table.specs.Calls.{part_size};
 ghost use Rattle.entries.specs.Entry.{record_kind, kind_number, kind_length, entry_head, entry_length, kind_in, owner_in, number_in, part_in, head_bytes};
 
 use entries::Kind;
-use nouns::logic::{wide8, wide16};
 use record::places::LENGTH;
 use record::{idle_ok, sound_part};
 
@@ -38,7 +37,7 @@ pub fn kind_in(b: &[u8]) -> usize
     requires { 1 ≤ length b.now }
     ensures { result ≡ kind_in b.now }
 {
-    wide8(numbers::get::<u8>(b, KIND))
+    numbers::get::<u8>(b, KIND) as usize
 }
 
 // The entry is a record's.
@@ -53,14 +52,14 @@ pub fn owner_in(b: &[u8]) -> usize
     requires { entry_head ≤ length b.now }
     ensures { result ≡ owner_in b.now }
 {
-    wide8(numbers::get::<u8>(b, OWNER))
+    numbers::get::<u8>(b, OWNER) as usize
 }
 
 pub fn number_in(b: &[u8]) -> usize
     requires { entry_head ≤ length b.now }
     ensures { result ≡ number_in b.now }
 {
-    wide16(numbers::get::<u16>(b, NUMBER))
+    numbers::get::<u16>(b, NUMBER) as usize
 }
 
 // The record's bytes in an entry that has one.

@@ -2,10 +2,15 @@
 use mathlib.Core.Path.{◌≡◌, refl, sym, ap, ◌∙◌}
 use mathlib.Core.Bool.{Bool, true, false, cond}
 use mathlib.Core.List.{List, [], ◌∷◌}
-use Prim.Native.Nat.{ℕ, suc, ◌+◌, ◌-◌, ◌≤◌, ◌<◌}
+use Prim.Native.Nat.{ℕ, zero, suc, ◌+◌, ◌-◌, ◌≤◌, ◌<◌}
 use native.Mathlib.Omega.{arith}
 use lib.Dec.{leb, eqb}
-use borrow.Author.Tests.{lt-ltb, le-ltb, ne_eqb}
+use lib.Pointwise.{pointwise, bytes_decides}
+use lib.Seq.{ext_get_or}
+use borrow.Author.Tests.{lt-ltb, le-ltb, ne_eqb, eq-eqb, eqb-true}
+use Rattle.std.proofs.lemmas.Bool.Decides.{same_from_decides}
+use Rattle.paper.specs.Logic.{all_below}
+use Rattle.paper.proofs.Laws.{all_below-at}
 use lib.ListN.{length, get_or}
 use Rattle.std.specs.Prelude.{Result}
 use Rattle.paper.specs.Setup.{setup_ok}
@@ -21,6 +26,19 @@ use Rattle.paper.specs.declared.Refusal.{Refusal}
 use Rattle.paper.specs.declared.Refusal.TheVariants.{Setup, Room, UnknownKind, WrongLength}
 use Rattle.wire.specs.Calls.{refusal_of, unwritten, reading_number, reading_offset, Wrote, wrote, writing_number, writing_count, writing_offset}
 use Rattle.pumxaqert.specs.Fields.{other_ballot, fields_of, read_values, message_from, same_fields, field_of, most, can_hold, carried_only, first_unheld, misfit, wrote_misfit, wrote_fields}
+
+-- derived equality of nineteen numbers is that of each
+same-self : (n : ℕ) (f : List ℕ) → all_below n (λ i. eqb (get_or f i 0) (get_or f i 0)) ≡ true
+unfolding all_below
+same-self zero f = refl
+same-self (suc n) f = rw (eq-eqb (get_or f n 0) _ refl) (same-self n f)
+
+pub same_fields_is : (f g : List ℕ) → length f ≡ 19 → length g ≡ 19 → pointwise eqb f g ≡ same_fields f g
+unfolding same_fields
+same_fields_is f g p q =
+    same_from_decides (pointwise eqb f g) (same_fields f g) (bytes_decides f g)
+    ((λ h. ext_get_or 0 f g (p ∙ sym q) (λ i l. eqb-true _ _ (all_below-at 19 (λ j. eqb (get_or f j 0) (get_or g j 0)) h i (omega (arith, p, l))))),
+    λ (h : f ≡ g). rw h (same-self 19 g))
 
 pub other-joined : (b : Body) → (parts_in b).joined ≡ true → joined_in b ≡ other_ballot b
 unfolding other_ballot

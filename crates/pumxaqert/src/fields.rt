@@ -119,17 +119,11 @@ pub fn message_from(f: &[u64; 19]) -> Message
     }
 }
 
+#[tactic(auto, using(crate::proofs::Laws::same_fields_is))]
 pub fn same_fields(f: &[u64; 19], g: &[u64; 19]) -> bool
     ensures { result ≡ same_fields f.now g.now }
 {
-    let mut left = 19;
-    while 0 < left {
-        left -= 1;
-        if f[left] != g[left] {
-            return false;
-        }
-    }
-    true
+    f == g
 }
 
 fn other_field(p: Parts) -> Field

@@ -17,7 +17,6 @@ use follow::prepare::prepare;
 use lead::accept_ok::on_accept_ok;
 use lead::nack::nack;
 use lead::pre_accept_ok::on_pre_accept_ok;
-use nouns::logic::{both, wide8, wide16};
 use nouns::message::{command_in, is_commit, vote_in};
 use paper::{Body, Command, Message, Record};
 use rules::Step;
@@ -29,7 +28,7 @@ pub fn refused10(r: Record, m: Message) -> bool
     ensures { result ≡ refused10 r m }
 {
     let body = m.body;
-    both(is_commit(body), differs(r, m, command_in(body)))
+    is_commit(body) && differs(r, m, command_in(body))
 }
 
 // Seen of a command for the message's instance.
@@ -37,7 +36,7 @@ fn seen_for(t: &[u8], n: usize, s: usize, c: usize, m: Message, k: Command) -> [
     requires { Sizes n s c t.now }
     ensures { result ≡ seen interfere n s (records_in s t.now) m.owner m.number k }
 {
-    seen(t, n, s, c, wide8(m.owner), wide16(m.number), k)
+    seen(t, n, s, c, m.owner as usize, m.number as usize, k)
 }
 
 fn on_proposal(t: &[u8], n: usize, s: usize, c: usize, r: Record, m: Message, k: Command) -> Step

@@ -8,7 +8,6 @@ use crate::by_kind::{receive, refused10};
 use gate::Event;
 use gate::act::act;
 use gate::entrance::gate_of;
-use nouns::logic::{wide8, wide16};
 use paper::{Message, Refusal};
 use table::records::load;
 use wire::read_message;
@@ -27,8 +26,8 @@ fn hear(
     ensures table { t.new ≡ (heard interfere n s c t.old out.old m).table }
     ensures room { out.new ≡ (heard interfere n s c t.old out.old m).out }
 {
-    let o = wide8(m.owner);
-    let j = wide16(m.number);
+    let o = m.owner as usize;
+    let j = m.number as usize;
     let r = load(&*t, n, s, o, j);
     if refused10(r, m) {
         return Err(Refusal::OtherCommit);

@@ -15,7 +15,6 @@ use crate::places::{
     COMMAND, DEPS, EDIT, JOINED, KEY, LENGTH, MARK, PHASE, REPLIES, SECOND, SET, STATUS, VOTE,
 };
 use nouns::deps::deps_ok;
-use nouns::logic::{at_most, wide8};
 use nouns::vote::{member, no_vote, none_is_blank, same_vote};
 use paper::{Record, Vote};
 use sound::{ballots_ok, collected_ok, marked_ok, phased_ok, phases_ok};
@@ -78,7 +77,7 @@ fn op_fits(b: &[u8], at: usize) -> bool
     requires { at + vote_length ≤ length b.now }
     ensures { result ≡ op_fits b.now at }
 {
-    at_most(wide8(numbers::get::<u8>(b, at + codec::COMMAND_AT)), 3)
+    numbers::get::<u8>(b, at + codec::COMMAND_AT) <= 3
 }
 
 // The op byte, and the command: a rewire has two keys that rise, a no-op has zero key and edit.

@@ -4,7 +4,6 @@
 ghost use Rattle.std.specs.Prelude.{◌≡◌, ◌≤◌, ◌<◌};
 ghost use Rattle.rows.specs.Rows.{slot_of, marks_at, mark_at, put_row, Within};
 
-use nouns::logic::wide16;
 
 // The place of o.j: 64 to an owner.
 pub fn slot_of(o: usize, j: usize) -> usize
@@ -26,7 +25,7 @@ pub fn mark_at(h: &[u8], x: usize, o: usize) -> usize
     requires { Within h.now x × (o < 7) }
     ensures { result ≡ mark_at h.now x o }
 {
-    wide16(numbers::get::<u16>(h, 14 * x + 2 * o))
+    numbers::get::<u16>(h, 14 * x + 2 * o) as usize
 }
 
 pub fn put_row(h: &mut [u8], x: usize, d: [u16; 7])

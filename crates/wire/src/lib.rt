@@ -11,7 +11,6 @@ ghost use Rattle.wire.specs.Wire.{head_size, command_start, deps_start, joined_s
 ghost use Rattle.wire.specs.Calls.{refusal_of, read_message, wrote};
 
 use nouns::deps::no_deps;
-use nouns::logic::wide8;
 use nouns::message::{body_of, carried_in, kind_of, op_in, row_in, row_of};
 use nouns::setup::setup_ok;
 use nouns::vote::noop;
@@ -94,7 +93,7 @@ pub fn kind_at(b: &[u8]) -> usize
     if b.len() == 0 {
         return 0;
     }
-    wide8(numbers::get::<u8>(b, 0))
+    numbers::get::<u8>(b, 0) as usize
 }
 
 // The op byte, or 0 where there is none.
@@ -106,7 +105,7 @@ fn op_at(p: Parts, b: &[u8]) -> usize
         return 0;
     }
     let at = command_start(p, HEAD);
-    wide8(numbers::get::<u8>(b, at))
+    numbers::get::<u8>(b, at) as usize
 }
 
 fn read_voted(p: Parts, b: &[u8]) -> u32

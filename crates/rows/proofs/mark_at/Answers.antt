@@ -5,4 +5,4 @@ use Rattle.rows.proofs.mark_at.Goals as goal
 pub returns : goal.returns
 returns c =
     let a = c.args in
-    c.wide16.ensures ∙ c.get.ensures ∙ sym (mark-is a.h.now a.x a.o c.requires.1)
+    c.get.ensures ∙ sym (mark-is a.h.now a.x a.o c.requires.1)

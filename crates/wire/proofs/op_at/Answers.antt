@@ -15,4 +15,4 @@ get-requires c = let s = c in omega (arith, s.requires, c.command_start-at.ensur
 
 pub returns : goal.returns
 unfolding op_at
-returns c = rw (not-false c.args.p.command c.if-not-p.false) (c.wide8.ensures ∙ c.get.ensures ∙ ap (num_at 1 c.args.b.now) c.command_start-at.ensures)
+returns c = rw (not-false c.args.p.command c.if-not-p.false) (c.get.ensures ∙ ap (num_at 1 c.args.b.now) c.command_start-at.ensures)

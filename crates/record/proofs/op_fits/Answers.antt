@@ -1,4 +1,0 @@
-use Rattle.record.proofs.op_fits.Goals as goal
-
-pub returns : goal.returns
-returns c = cc
