@@ -20,8 +20,7 @@ fn answer_of(got: &Read, w: Setup, t: &mut [u8]) -> Text {
         2 => messages::write(got, w),
         3 => tables::judge(got, w, t),
         4 => tables::blank(got, w, t),
-        5 => tables::part(got, w, t),
-        _ => bad_line(),
+        _ => tables::part(got, w, t),
     }
 }
 
