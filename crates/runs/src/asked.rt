@@ -24,7 +24,7 @@ fn put_settling(answer: Result<Settling, Refusal>) -> Text {
         Ok(Settling::Waits(first)) => put_form(
             empty(),
             b"= waits # #",
-            [first.owner, first.number, 0, 0],
+            [first.owner, first.number],
         ),
         Err(why) => put_no(why),
     }

@@ -15,7 +15,7 @@ fn put_answer(answer: Result<Event, Refusal>, room: &[u8]) -> Text {
     match answer {
         Err(why) => put_no(why),
         Ok(event) => put_hex(
-            put_form(empty(), b"= event # #", [event.owner, event.number, 0, 0]),
+            put_form(empty(), b"= event # #", [event.owner, event.number]),
             room,
             event.written,
         ),

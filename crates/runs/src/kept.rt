@@ -48,13 +48,10 @@ fn restarted(w: Told, d: &[u8], answer: Result<usize, Unreplayed>) -> Outcome {
     match answer {
         Ok(at) => {
             let kept = walk(journal_in(d, at), w.before, usize::MAX);
-            let text = put_form(empty(), b"= kept #", [kept.count, 0, 0, 0]);
+            let text = put_form(empty(), b"= kept #", [kept.count]);
             said(text, torn(ended(w, w.last, Some(at))))
         }
-        Err(Unreplayed::Bad(bad)) => said(
-            put_form(empty(), b"= bad entry #", [bad.offset, 0, 0, 0]),
-            w,
-        ),
+        Err(Unreplayed::Bad(bad)) => said(put_form(empty(), b"= bad entry #", [bad.offset]), w),
         Err(Unreplayed::Refused(why)) => said(put_no(why), w),
     }
 }

@@ -24,7 +24,7 @@ pub fn stream_line(w: Told, buf: &[u8]) -> Told {
 
 fn put_took(answer: Result<Taken, Halt>) -> Text {
     match answer {
-        Ok(taken) => put_form(empty(), b"= took # messages", [taken.count, 0, 0, 0]),
+        Ok(taken) => put_form(empty(), b"= took # messages", [taken.count]),
         Err(Halt::Stopped(_)) => put_bytes(empty(), b"= took 0 messages"),
         Err(Halt::Refused(why)) => put_no(why),
     }
@@ -41,7 +41,7 @@ fn put_messages(out: Text, buf: &[u8], w: Told) -> Told {
                 place = y.place;
             }
             Err(Halt::Stopped(o)) => {
-                told = put_form(told, b" stop #", [o, 0, 0, 0]);
+                told = put_form(told, b" stop #", [o]);
                 break;
             }
             _ => break,
