@@ -6,7 +6,7 @@ pub mod entrance;
 pub mod send;
 
 // An event that took place: its instance, and how many bytes of messages were written.
-#[derive(Clone, Copy)]
+#[derive(Clone, Copy, Debug, PartialEq, Eq)]
 pub struct Event {
     pub owner: usize,
     pub number: usize,

@@ -13,7 +13,7 @@ use rows::{mark_at, slot_of};
 use rules::Instance;
 
 // How far an instance is: it waits, or is settled and not handed out, or was handed out.
-#[derive(Clone, Copy)]
+#[derive(Clone, Copy, Debug, PartialEq, Eq)]
 pub enum Stage {
     Waits,
     Settled,

@@ -10,7 +10,7 @@ pub mod settled;
 pub mod states;
 
 // What the settled question answers: the command, or the uncommitted instance that comes first.
-#[derive(Clone, Copy)]
+#[derive(Clone, Copy, Debug, PartialEq, Eq)]
 pub enum Settling {
     Settled(Command),
     Waits(Instance),

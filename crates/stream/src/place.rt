@@ -20,7 +20,7 @@ pub struct Place {
 }
 
 // Why a call takes and yields nothing: the stream stands still at this offset, or place or buffer is refused.
-#[derive(Clone, Copy)]
+#[derive(Clone, Copy, Debug, PartialEq, Eq)]
 pub enum Halt {
     Stopped(usize),
     Refused(Refusal),
