@@ -31,11 +31,23 @@ const FORMS: [(Line, &[u8]); 12] = [
     (Line::IsLost, b"  message # is lost:*"),
     (Line::At(AtCopy::HandsOut), b"  copy # hands out #.#:*"),
     (Line::At(AtCopy::Commits), b"  copy # saves #.#: committed*"),
-    (Line::At(AtCopy::GoesOn), b"  copy # goes on with what it saved"),
+    (
+        Line::At(AtCopy::GoesOn),
+        b"  copy # goes on with what it saved",
+    ),
     (Line::At(AtCopy::Stops), b"  copy # stops"),
-    (Line::At(AtCopy::Stops), b"  copy # is cut off before it saves #.#"),
-    (Line::At(AtCopy::Stops), b"  copy # is cut off before it sends"),
-    (Line::At(AtCopy::Stops), b"  copy # is cut off after # of # marks are saved"),
+    (
+        Line::At(AtCopy::Stops),
+        b"  copy # is cut off before it saves #.#",
+    ),
+    (
+        Line::At(AtCopy::Stops),
+        b"  copy # is cut off before it sends",
+    ),
+    (
+        Line::At(AtCopy::Stops),
+        b"  copy # is cut off after # of # marks are saved",
+    ),
 ];
 
 fn commit(p: Picture, c: usize, o: usize, j: usize) -> Picture {

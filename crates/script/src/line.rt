@@ -54,9 +54,15 @@ enum Line {
 }
 
 const FORMS: [(Line, &[u8]); 28] = [
-    (Line::At(AtCopy::Write), b"copy # requests write key # edit #"),
+    (
+        Line::At(AtCopy::Write),
+        b"copy # requests write key # edit #",
+    ),
     (Line::At(AtCopy::Read), b"copy # requests read key #"),
-    (Line::At(AtCopy::Rewire), b"copy # requests rewire key # to key # edit #"),
+    (
+        Line::At(AtCopy::Rewire),
+        b"copy # requests rewire key # to key # edit #",
+    ),
     (Line::At(AtCopy::Recover), b"copy # recovers #.#"),
     (Line::At(AtCopy::Nudge), b"copy # nudges #.#"),
     (Line::At(AtCopy::Ask), b"copy # is asked about #.#"),
@@ -75,7 +81,10 @@ const FORMS: [(Line, &[u8]); 28] = [
     (Line::Cut(CutAt::Sending), b"cut copy # before sending"),
     (Line::Cut(CutAt::BehindMarks), b"cut copy # after # marks"),
     (Line::Cut(CutAt::BehindMarks), b"cut copy # after # mark"),
-    (Line::Cut(CutAt::InEntry), b"cut copy # at byte # of its entry"),
+    (
+        Line::Cut(CutAt::InEntry),
+        b"cut copy # at byte # of its entry",
+    ),
     (Line::Cut(CutAt::InMark), b"cut copy # at byte # of mark #"),
     (Line::Stop, b"stop copy #"),
     (Line::Restart, b"restart copy #"),

@@ -125,5 +125,7 @@ fn read_by<'a, K: Copy>(line: &'a [u8], form: K, text: &[u8]) -> Option<Read<'a,
 
 // Which of these forms the line is, the first where it is several.
 pub fn which_form<'a, K: Copy>(line: &'a [u8], forms: &[(K, &[u8])]) -> Option<Read<'a, K>> {
-    forms.iter().find_map(|&(form, text)| read_by(line, form, text))
+    forms
+        .iter()
+        .find_map(|&(form, text)| read_by(line, form, text))
 }
