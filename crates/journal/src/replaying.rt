@@ -48,7 +48,7 @@ fn replay_open(t: &mut [u8], n: usize, s: usize, c: usize, b: &[u8]) -> Result<u
 }
 
 // The table after the last whole entry, and where a shorter rest begins.
-#[tactic(auto, unfolding(entries::specs::Replay::replayed), using(order::proofs::Judged::passed))]
+#[tactic(auto, unfolding(entries::specs::Replay::replayed))]
 pub fn replay(t: &mut [u8], n: usize, s: usize, c: usize, b: &[u8]) -> Result<usize, Unreplayed>
     ensures answers { result ≡ (replayed n s c t.old b.now).answer }
     ensures table { t.new ≡ (replayed n s c t.old b.now).table }

@@ -75,7 +75,7 @@ fn hand_out_open(
     Ok(count)
 }
 
-#[tactic(auto, unfolding(crate::specs::Calls::handed), using(crate::proofs::Judged::passed))]
+#[tactic(auto, unfolding(crate::specs::Calls::handed))]
 pub fn hand_out(
     t: &mut [u8],
     n: usize,

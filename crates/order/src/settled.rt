@@ -35,7 +35,7 @@ fn settled_open(
     Ok(Settling::Settled(r.vote.command))
 }
 
-#[tactic(auto, unfolding(crate::specs::Calls::settled), using(crate::proofs::Judged::passed))]
+#[tactic(auto, unfolding(crate::specs::Calls::settled))]
 pub fn settled(
     t: &[u8],
     n: usize,

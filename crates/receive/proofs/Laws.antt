@@ -45,11 +45,6 @@ use Rattle.wire.proofs.Fits.{message_at-fits}
 use Rattle.gate.proofs.Calls.{setup-of, three, receive-open}
 use Rattle.receive.specs.Message as specs
 
--- only a Commit can be refused 10
-pub conflict-is : (r : Record) (m : Message) (b : Body) → (is_commit b && differs r m (command_in b)) ≡ conflict r m b
-unfolding conflict
-conflict-is r m b = refl
-
 -- a PrepareOK
 module _ (n c o j : ℕ) (r : Record) (seen : Command → List ℕ) where
   pub prepared-few : quorum n r ≡ false → silent r ≡ prepared_by n c o j r seen

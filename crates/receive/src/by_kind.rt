@@ -24,6 +24,7 @@ use seen::seen;
 use step::made::{awaited, collect, silent};
 
 // A Commit that differs from the stored one: refusal 10.
+#[tactic(auto, unfolding(rules::specs::Received::conflict))]
 pub fn refused10(r: Record, m: Message) -> bool
     ensures { result ≡ refused10 r m }
 {

@@ -12,7 +12,7 @@ pub receive-x-requires : goal.receive-x-requires
 receive-x-requires c = let z = c in
     let a = z.args in
     let t = a.t.now in
-    let bt : Bytes t = λ i. omega (arith, c.slice_known-1.given i) in
+    let bt : Bytes t = search rules in
     (ready _ _ _ _ _ _ z.requires, small-set _ _ _ _ _ _ z.requires bt c.load-r.ensures)
 
 pub act-requires : goal.act-requires
@@ -20,7 +20,7 @@ act-requires c = let z = c in
     let a = z.args in
     let t = a.t.now in
     let sz = sizes _ _ _ _ z.requires.passed.setup in
-    let bt : Bytes t = λ i. omega (arith, c.slice_known-1.given i) in
+    let bt : Bytes t = search rules in
     let x = message-step a.n a.s a.c t a.out.now a.m refl refl c.load-r.ensures c.receive-x.ensures in
     (record { names = named _ _ _ _ _ _ z.requires; long = sz.long }, z.requires.passed.long, rw x (message-room _ _ _ _ _ _ z.requires bt))
 

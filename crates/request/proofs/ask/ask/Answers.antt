@@ -2,6 +2,7 @@ use Rattle.paper.specs.declared.Refusal.TheVariants as why
 use Rattle.table.proofs.Laws.{sizes}
 use Rattle.gate.proofs.Calls.{met, refused, acted-is}
 use Rattle.gate.proofs.Outcomes.{asked-5, asked-ok}
+use borrow.Author.Rules.{rules}
 use native.Mathlib.Omega.{arith}
 use Rattle.numbers.specs.Num.{Bytes}
 use Rattle.request.proofs.Laws.{own-names, request-room}
@@ -12,7 +13,7 @@ act-requires c = let z = c in
     let a = z.args in
     let t = a.t.now in
     let sz = sizes _ _ _ _ z.requires.passed.setup in
-    let bt : Bytes t = λ i. omega (arith, c.slice_known-1.given i) in
+    let bt : Bytes t = search rules in
     (record { names = own-names _ _ _ _ a.out.now z.requires.passed _ c.request_number-j.ensures.1 c.if-s-j.false; long = sz.long }, z.requires.passed.long, rw c.on_request-x.ensures (request-room _ _ _ _ a.out.now a.k z.requires bt c.request_number-j.ensures.0 c.if-s-j.false))
 
 pub returns-then-s-j : goal.returns-then-s-j
