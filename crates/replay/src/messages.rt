@@ -98,7 +98,11 @@ fn carried_of(v: [usize; NUMBERS]) -> Option<Carried> {
 // The kind of the line is the one that its body has with its command.
 fn body_in(v: [usize; NUMBERS]) -> Option<Body> {
     let body = body_of(v[2], carried_of(v)?);
-    if kind_of(body) as usize == v[2] { Some(body) } else { None }
+    if kind_of(body) as usize == v[2] {
+        Some(body)
+    } else {
+        None
+    }
 }
 
 fn deps_of(v: [usize; NUMBERS]) -> Option<[u16; 7]> {

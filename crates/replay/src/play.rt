@@ -24,7 +24,10 @@ pub enum Line {
 const FORMS: [(Line, &[u8]); 6] = [
     (Line::Run, b"run # #"),
     (Line::Call(Call::Read), b"# read @"),
-    (Line::Call(Call::Write), b"# write # # # # # # # # # # # # # # # # # # # # #"),
+    (
+        Line::Call(Call::Write),
+        b"# write # # # # # # # # # # # # # # # # # # # # #",
+    ),
     (Line::Call(Call::Judge), b"# judge # # # # @"),
     (Line::Call(Call::Blank), b"# blank #"),
     (Line::Call(Call::Part), b"# part # # #"),

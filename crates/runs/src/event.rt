@@ -34,31 +34,6 @@ fn told(w: Told, answer: Result<Event, Refusal>, t: &[u8], d: &mut [u8], room: &
     said(put_answer(answer, room), kept(w, answer, t, d))
 }
 
-// A request with these keys.
-fn ask(
-    v: [usize; NUMBERS],
-    key: u32,
-    second: u32,
-    w: Told,
-    t: &mut [u8],
-    d: &mut [u8],
-    room: &mut [u8],
-) -> Outcome {
-    let edit = v[4] as u64;
-    let answer = request::ask::request(
-        &mut *t,
-        w.n,
-        w.s,
-        w.c,
-        &mut *room,
-        v[1],
-        key,
-        second,
-        edit,
-    );
-    told(w, answer, &*t, d, &*room)
-}
-
 // C request OP KEY SECOND EDIT
 pub fn request(
     v: [usize; NUMBERS],
@@ -67,10 +42,12 @@ pub fn request(
     d: &mut [u8],
     room: &mut [u8],
 ) -> Outcome {
-    match (u32::try_from(v[2]), u32::try_from(v[3])) {
-        (Ok(key), Ok(second)) => ask(v, key, second, w, t, d, room),
-        _ => said(bad_line(), w),
-    }
+    let (Ok(key), Ok(second)) = (u32::try_from(v[2]), u32::try_from(v[3])) else {
+        return said(bad_line(), w);
+    };
+    let edit = v[4] as u64;
+    let answer = request::ask::request(&mut *t, w.n, w.s, w.c, &mut *room, v[1], key, second, edit);
+    told(w, answer, &*t, d, &*room)
 }
 
 // C message BYTES
@@ -93,14 +70,7 @@ pub fn recover(
 }
 
 // C nudge OWNER NUMBER
-pub fn nudge(
-    o: usize,
-    j: usize,
-    w: Told,
-    t: &mut [u8],
-    d: &mut [u8],
-    room: &mut [u8],
-) -> Outcome {
+pub fn nudge(o: usize, j: usize, w: Told, t: &mut [u8], d: &mut [u8], room: &mut [u8]) -> Outcome {
     let answer = nudge::nudge(&mut *t, w.n, w.s, w.c, &mut *room, o, j);
     told(w, answer, &*t, d, &*room)
 }

@@ -157,13 +157,7 @@ fn before_call(what: AtCopy, copy: usize, w: Told, all: &[u8], disks: &mut [u8])
 }
 
 // A call, or a poke, with the part of the copy's area that is lent.
-fn play_copy(
-    what: AtCopy,
-    got: &Read<Line>,
-    old: Told,
-    all: &mut [u8],
-    disks: &mut [u8],
-) -> Told {
+fn play_copy(what: AtCopy, got: &Read<Line>, old: Told, all: &mut [u8], disks: &mut [u8]) -> Told {
     let copy = got.v[0];
     let w = before_call(what, copy, old, &*all, &mut *disks);
     let t = part_mut(all, start_of(copy), w.length);
