@@ -18,7 +18,7 @@ use Rattle.rules.specs.Sets.{highest}
 use Rattle.rules.specs.Seen.{Records, met, seen_entry, seen_from, seen}
 use Rattle.rules.specs.Request.{lowest_blank}
 use Rattle.rules.specs.Events.{put, request_number, on_request, on_message, on_recover, on_nudge}
-use Rattle.rules.specs.Order.{instance, everywhere, somewhere, first_owner, first_number, covers_in, reaches_in, reaches, waits_for, first_open, is_settled, is_marked, candidate, marked, mark, next_out, code_of, found, hand_out}
+use Rattle.rules.specs.Order.{everywhere, somewhere, first_owner, first_number, covers_in, reaches_in, reaches, waits_for, first_open, is_settled, is_marked, candidate, marked, mark, next_out, code_of, found, hand_out}
 use Rattle.closed.proofs.Laws.{both}
 use Rattle.closed.proofs.Mark.{Found, next_out-found}
 

@@ -7,8 +7,8 @@ ghost use Rattle.journal.specs.Judging.{Ready, Puts};
 use crate::entry::{entry_length, has_record, kind_in, number_in, owner_in, part_in};
 use crate::judging::end_of;
 use entries::Unreplayed;
-use table::records::{put_mark, put_part};
 use table::judge_table;
+use table::records::{put_mark, put_part};
 
 // Puts the entry in front into the table.
 fn put_entry(t: &mut [u8], n: usize, s: usize, b: &[u8])

@@ -11,8 +11,8 @@ use next::{Stage, next_in};
 use paper::Refusal;
 use rows::slot_of;
 use sweep::reach_all;
-use table::records::put_mark;
 use table::judge_table;
+use table::records::put_mark;
 
 // The mark is one byte of the record: the rest of the table stays.
 fn marked_in(t: &mut [u8], n: usize, s: usize, o: usize, j: usize)

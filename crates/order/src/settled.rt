@@ -7,8 +7,8 @@ use crate::Settling;
 use nouns::setup::instance_ok;
 use paper::Refusal;
 use search::{explore, first_open};
-use table::records::load;
 use table::judge_table;
+use table::records::load;
 
 // Past 1 and 11.
 fn settled_open(

@@ -1,7 +1,7 @@
 -- Answers as numbers: one law for each outcome. Assumes nothing.
 use mathlib.Core.Path.{◌≡◌, refl, sym, ap, ◌∙◌}
 use mathlib.Core.Bool.{Bool, true, false, cond}
-use mathlib.Core.List.{List, [], ◌∷◌}
+use mathlib.Core.List.{List}
 use Prim.Native.Nat.{ℕ, zero, suc, ◌+◌, ◌-◌, ◌≤◌, ◌<◌}
 use native.Mathlib.Omega.{arith}
 use lib.Dec.{leb, eqb}
@@ -36,9 +36,10 @@ same-self (suc n) f = rw (eq-eqb (get_or f n 0) _ refl) (same-self n f)
 pub same_fields_is : (f g : List ℕ) → length f ≡ 19 → length g ≡ 19 → pointwise eqb f g ≡ same_fields f g
 unfolding same_fields
 same_fields_is f g p q =
-    same_from_decides (pointwise eqb f g) (same_fields f g) (bytes_decides f g)
-    ((λ h. ext_get_or 0 f g (p ∙ sym q) (λ i l. eqb-true _ _ (all_below-at 19 (λ j. eqb (get_or f j 0) (get_or g j 0)) h i (omega (arith, p, l))))),
-    λ (h : f ≡ g). rw h (same-self 19 g))
+    same_from_decides (pointwise eqb f g) (same_fields f g) (bytes_decides f g) (
+      (λ h. ext_get_or 0 f g (p ∙ sym q) (λ i l. eqb-true _ _ (all_below-at 19 (λ j. eqb (get_or f j 0) (get_or g j 0)) h i (omega (arith, p, l))))),
+      λ (h : f ≡ g). rw h (same-self 19 g),
+    )
 
 pub other-joined : (b : Body) → (parts_in b).joined ≡ true → joined_in b ≡ other_ballot b
 unfolding other_ballot

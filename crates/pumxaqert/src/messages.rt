@@ -36,7 +36,13 @@ pub extern "C" fn pumxaqert_read_message(
 }
 
 // Writes what these numbers say.
-fn write_fields(n: usize, s: usize, c: usize, out: &mut [u8], f: &[u64; 19]) -> Result<usize, Refusal>
+fn write_fields(
+    n: usize,
+    s: usize,
+    c: usize,
+    out: &mut [u8],
+    f: &[u64; 19],
+) -> Result<usize, Refusal>
     ensures answers { result ≡ (wrote_fields n s c out.old f.now).answer }
     ensures room { out.new ≡ (wrote_fields n s c out.old f.now).out }
 {

@@ -7,21 +7,19 @@ use native.Mathlib.Omega.{arith}
 use lib.ListN.{length}
 use Rattle.std.specs.Prelude.{Result, Ok, Err}
 use Rattle.paper.specs.Setup.{setup_ok}
-use Rattle.paper.specs.Message.{is_commit, command_in, vote_in}
+use Rattle.paper.specs.Message.{vote_in}
 use Rattle.paper.specs.Valid.{valid}
 use Rattle.paper.proofs.Laws.{and-true}
 use Rattle.paper.specs.declared.Command.{Command}
 use Rattle.paper.specs.declared.Vote.{Vote}
 use Rattle.paper.specs.declared.Record.{Record}
-use Rattle.paper.specs.declared.Body.{Body}
 use Rattle.paper.specs.declared.Message.{Message}
 use Rattle.paper.specs.declared.Refusal.{Refusal}
 use Rattle.paper.specs.declared.Refusal.TheVariants as why
 use Rattle.rules.specs.declared.Step.{Step}
 use Rattle.rules.specs.Step.{silent, collect, awaited}
-use Rattle.rules.specs.Commit.{differs}
 use Rattle.rules.specs.PrepareOk.{afresh_command, decide, quorum, prepared_by, on_prepare_ok}
-use Rattle.rules.specs.Received.{conflict, refused10, receive}
+use Rattle.rules.specs.Received.{refused10, receive}
 use Rattle.paper.specs.Command.{interfere}
 use Rattle.rules.specs.Events.{on_message}
 use Rattle.rules.specs.Seen.{seen}
@@ -42,7 +40,7 @@ use Rattle.gate.specs.Events.{refuse, acted, Passed, receive_open}
 use Rattle.gate.specs.Events as events
 use Rattle.gate.proofs.Held.{sound-records, out-short}
 use Rattle.wire.proofs.Fits.{message_at-fits}
-use Rattle.gate.proofs.Calls.{setup-of, three, receive-open}
+use Rattle.gate.proofs.Calls.{setup-of, receive-open}
 use Rattle.receive.specs.Message as specs
 
 -- a PrepareOK

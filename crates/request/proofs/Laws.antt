@@ -4,9 +4,8 @@ use mathlib.Core.Bool.{true, false}
 use mathlib.Core.List.{List}
 use Prim.Native.Nat.{ℕ, zero, suc, ◌^◌, ◌≤◌, ◌<◌}
 use native.Mathlib.Omega.{arith}
-use lib.Dec.{leb, eqb}
+use lib.Dec.{eqb}
 use lib.ListN.{length}
-use borrow.Author.Tests.{leb-true}
 use Rattle.codec.specs.Parts.{op_of}
 use Rattle.paper.specs.Command.{op_number, second_ok, command_ok, interfere}
 use Rattle.paper.specs.Vote.{blank}
@@ -22,8 +21,7 @@ use Rattle.table.proofs.Laws.{sizes}
 use Rattle.seen.specs.Records.{records_in}
 use Rattle.closed.proofs.Closed.{request-event}
 use Rattle.gate.specs.Out.{out_bytes}
-use Rattle.gate.specs.Events.{op_taken, command_taken, Passed}
-use Rattle.paper.proofs.Laws.{and-true}
+use Rattle.gate.specs.Events.{Passed}
 use Rattle.numbers.specs.Num.{Bytes}
 use Rattle.gate.proofs.Held.{sound-records, out-short}
 use Rattle.gate.proofs.Calls.{setup-of}

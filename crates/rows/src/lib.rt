@@ -4,7 +4,6 @@
 ghost use Rattle.std.specs.Prelude.{◌≡◌, ◌≤◌, ◌<◌};
 ghost use Rattle.rows.specs.Rows.{slot_of, marks_at, mark_at, put_row, Within};
 
-
 // The place of o.j: 64 to an owner.
 pub fn slot_of(o: usize, j: usize) -> usize
     requires { (o < 7) × (1 ≤ j) × (j ≤ 64) }

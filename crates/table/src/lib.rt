@@ -89,9 +89,7 @@ fn head_is(t: &[u8], n: usize, s: usize, c: usize) -> bool
     requires { head_length ≤ length t.now }
     ensures { result ≡ head_is n s c t.now }
 {
-    t[COPIES] as usize == n
-        && t[NUMBERS] as usize == s
-        && t[COPY] as usize == c
+    t[COPIES] as usize == n && t[NUMBERS] as usize == s && t[COPY] as usize == c
 }
 
 // What is left of the first k records of owner o's row when those at their end that are idle and right are passed over:

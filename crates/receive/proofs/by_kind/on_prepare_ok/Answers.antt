@@ -1,5 +1,4 @@
 use mathlib.Core.Path.{sym, ◌∙◌}
-use borrow.Author.Tests.{not-true, not-false}
 use Rattle.receive.proofs.Laws.{unawaited, awaits}
 use Rattle.receive.proofs.by_kind.on_prepare_ok.Goals as goal
 

@@ -1,5 +1,4 @@
 use mathlib.Core.Path.{refl, sym, ◌∙◌}
-use borrow.Author.Tests.{not-true, not-false}
 use Rattle.receive.proofs.Laws.{prepared-few, prepared-all}
 use Rattle.receive.proofs.by_kind.prepared_by.Goals as goal
 

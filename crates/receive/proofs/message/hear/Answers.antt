@@ -4,7 +4,6 @@ use Rattle.table.proofs.Laws.{sizes}
 use Rattle.gate.proofs.Calls.{met, refused, acted-is}
 use Rattle.receive.proofs.Laws.{named, heard-10, heard-ok, message-step, ready, small-set, message-room}
 use borrow.Author.Rules.{rules}
-use native.Mathlib.Omega.{arith}
 use Rattle.numbers.specs.Num.{Bytes}
 use Rattle.receive.proofs.message.hear.Goals as goal
 

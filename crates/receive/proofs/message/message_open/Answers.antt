@@ -1,8 +1,8 @@
 use mathlib.Core.Path.{sym, ◌∙◌}
 use native.Mathlib.Omega.{arith}
 use Rattle.numbers.specs.Num.{Bytes}
-use Rattle.gate.proofs.Calls.{met, refused, setup-of}
-use Rattle.receive.proofs.Laws.{unread, read, receive_ok, hearing}
+use Rattle.gate.proofs.Calls.{met, setup-of}
+use Rattle.receive.proofs.Laws.{read, receive_ok, hearing}
 use Rattle.receive.proofs.message.message_open.Goals as goal
 
 pub hear-requires : goal.hear-requires

@@ -3,7 +3,6 @@ use Rattle.table.proofs.Laws.{sizes}
 use Rattle.gate.proofs.Calls.{met, refused, acted-is}
 use Rattle.gate.proofs.Outcomes.{asked-5, asked-ok}
 use borrow.Author.Rules.{rules}
-use native.Mathlib.Omega.{arith}
 use Rattle.numbers.specs.Num.{Bytes}
 use Rattle.request.proofs.Laws.{own-names, request-room}
 use Rattle.request.proofs.ask.ask.Goals as goal

@@ -1,5 +1,4 @@
 use mathlib.Core.Path.{refl, ◌∙◌}
-use Prim.Native.Nat.{◌-◌}
 use Rattle.request.proofs.Laws.{request-step}
 use Rattle.request.proofs.ask.on_request.Goals as goal
 
