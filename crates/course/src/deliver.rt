@@ -49,7 +49,7 @@ fn drop_at(all: &mut [u8], w: Scene, i: usize) -> Turn {
     Ok(take_off(all, w, i))
 }
 
-fn damage_at(all: &mut [u8], w: Scene, i: usize, at: usize, byte: usize) -> Turn {
+fn damage_at(all: &mut [u8], w: Scene, i: usize, at: usize, byte: u8) -> Turn {
     let m = message_at(&*all, i);
     if m.len() <= at {
         return Err(Reason::NoByte);

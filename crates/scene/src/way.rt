@@ -130,9 +130,8 @@ pub fn take_off(all: &mut [u8], w: Scene, i: usize) -> Scene {
 }
 
 // One byte of the message at a place is another from now on.
-pub fn damage(all: &mut [u8], i: usize, at: usize, byte: usize) {
-    let new = [(byte & 0xff) as u8];
-    write(message_mut(all, i), at, &new);
+pub fn damage(all: &mut [u8], i: usize, at: usize, byte: u8) {
+    write(message_mut(all, i), at, &[byte]);
 }
 
 // Only the first bytes of the message at a place are left.

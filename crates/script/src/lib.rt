@@ -57,7 +57,7 @@ pub enum Fate {
     Stray(usize),
     Drop,
     Repeat,
-    Damage { at: usize, byte: usize },
+    Damage { at: usize, byte: u8 },
     Shorten(usize),
 }
 

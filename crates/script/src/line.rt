@@ -116,10 +116,8 @@ fn hand_out(c: usize, room: usize) -> Result<Step, Reason> {
     Ok(Step::At(c, Act::HandOut(room)))
 }
 
-fn damage(at: usize, byte: usize) -> Result<Fate, Reason> {
-    if 255 < byte {
-        return Err(Reason::ByteValue);
-    }
+fn damage(at: usize, value: usize) -> Result<Fate, Reason> {
+    let byte = u8::try_from(value).map_err(|_| Reason::ByteValue)?;
     Ok(Fate::Damage { at, byte })
 }
 
