@@ -2,7 +2,53 @@
 use crate::copies::{begin_run, mark, stop, turned};
 use crate::messages::{arrive, depart, lose};
 use crate::picture::{Picture, moved};
-use text::forms::which_form;
+use text::forms::{NUMBERS, which_form};
+
+// What happens at a copy.
+#[derive(Clone, Copy, Debug, PartialEq, Eq)]
+enum AtCopy {
+    HandsOut,
+    Commits,
+    GoesOn,
+    Stops,
+}
+
+// What a line says: a run begins, something becomes of a message, or something happens at a copy.
+#[derive(Clone, Copy, Debug, PartialEq, Eq)]
+enum Line {
+    Begins,
+    Leaves,
+    Arrives,
+    IsLost,
+    At(AtCopy),
+}
+
+const FORMS: [(Line, &[u8]); 12] = [
+    (Line::Begins, b"copies #, numbers #"),
+    (Line::Leaves, b"  message # leaves # for #:*"),
+    (Line::Arrives, b"  message # arrives at #:*"),
+    (Line::IsLost, b"  message # is lost on the way"),
+    (Line::IsLost, b"  message # is lost:*"),
+    (Line::At(AtCopy::HandsOut), b"  copy # hands out #.#:*"),
+    (Line::At(AtCopy::Commits), b"  copy # saves #.#: committed*"),
+    (
+        Line::At(AtCopy::GoesOn),
+        b"  copy # goes on with what it saved",
+    ),
+    (Line::At(AtCopy::Stops), b"  copy # stops"),
+    (
+        Line::At(AtCopy::Stops),
+        b"  copy # is cut off before it saves #.#",
+    ),
+    (
+        Line::At(AtCopy::Stops),
+        b"  copy # is cut off before it sends",
+    ),
+    (
+        Line::At(AtCopy::Stops),
+        b"  copy # is cut off after # of # marks are saved",
+    ),
+];
 
 fn commit(p: Picture, c: usize, o: usize, j: usize) -> Picture {
     mark(
@@ -24,41 +70,25 @@ fn hand_out(p: Picture, c: usize, o: usize, j: usize) -> Picture {
     )
 }
 
-// What happens at a copy, by the place of the form below.
-fn at_copy(p: Picture, form: usize, v: &mut [usize], c: usize, o: usize, j: usize) -> Picture {
-    match form {
-        5 => hand_out(p, c, o, j),
-        6 => commit(p, c, o, j),
-        7 => turned(p, c, v, 0),
-        _ => stop(p, c, v),
+fn at_copy(p: Picture, what: AtCopy, a: [usize; NUMBERS], v: &mut [usize]) -> Picture {
+    match what {
+        AtCopy::HandsOut => hand_out(p, a[0], a[1], a[2]),
+        AtCopy::Commits => commit(p, a[0], a[1], a[2]),
+        AtCopy::GoesOn => turned(p, a[0], v, 0),
+        AtCopy::Stops => stop(p, a[0], v),
     }
 }
 
 pub fn see(p: Picture, line: &[u8], v: &mut [usize]) -> Picture {
-    let read = which_form(
-        line,
-        b"copies #, numbers #\
-            |  message # leaves # for #:*\
-            |  message # arrives at #:*\
-            |  message # is lost on the way\
-            |  message # is lost:*\
-            |  copy # hands out #.#:*\
-            |  copy # saves #.#: committed*\
-            |  copy # goes on with what it saved\
-            |  copy # stops\
-            |  copy # is cut off before it saves #.#\
-            |  copy # is cut off before it sends\
-            |  copy # is cut off after # of # marks are saved",
-    );
-    let Some(got) = read else {
+    let Some(got) = which_form(line, &FORMS) else {
         return p;
     };
     let a = got.v;
     match got.form {
-        0 => begin_run(p, a[0], v),
-        1 => depart(p, a[0], a[1], a[2], v),
-        2 => arrive(p, a[0], a[1], &*v, got.rest),
-        3 | 4 => lose(p, a[0], &*v),
-        form => at_copy(p, form, v, a[0], a[1], a[2]),
+        Line::Begins => begin_run(p, a[0], v),
+        Line::Leaves => depart(p, a[0], a[1], a[2], v),
+        Line::Arrives => arrive(p, a[0], a[1], &*v, got.rest),
+        Line::IsLost => lose(p, a[0], &*v),
+        Line::At(what) => at_copy(p, what, a, v),
     }
 }

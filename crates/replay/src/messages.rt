@@ -1,10 +1,10 @@
 // The calls on messages: read and write, and every field of a message in the order of the line.
-use crate::play::Setup;
+use crate::play::{Line, Setup};
 use codec::op_of;
 use nouns::command::op_number;
 use nouns::message::{body_of, command_in, joined_in, kind_of, status_in, voted_in};
-use paper::{Body, Carried, Command, Message, Refusal};
-use text::bytes::{front_mut, low8, low32};
+use paper::{Body, Carried, Command, Message, Op, Refusal};
+use text::bytes::front_mut;
 use text::forms::{BYTES, NUMBERS, Read};
 use text::put::{Text, bad_line, empty, put_bytes, put_form, put_hex, put_number, put_refused};
 
@@ -66,71 +66,64 @@ fn read_bytes(b: &[u8], w: Setup) -> Text {
 }
 
 // C read BYTES
-pub fn read(got: &Read, w: Setup) -> Text {
+pub fn read(got: &Read<Line>, w: Setup) -> Text {
     read_bytes(&got.bytes, w)
 }
 
-fn low16(x: usize) -> u16 {
-    (x % 65536) as u16
+// The op of a number, if there is one.
+fn op_named(x: usize) -> Option<Op> {
+    let op = op_of(u8::try_from(x).ok()?);
+    if op_number(op) == x { Some(op) } else { None }
 }
 
-fn command_of(v: [usize; NUMBERS]) -> Command {
-    Command {
-        op: op_of(low8(v[11])),
-        key: low32(v[12]),
-        second: low32(v[13]),
+fn command_of(v: [usize; NUMBERS]) -> Option<Command> {
+    Some(Command {
+        op: op_named(v[11])?,
+        key: u32::try_from(v[12]).ok()?,
+        second: u32::try_from(v[13]).ok()?,
         edit: v[14] as u64,
-    }
+    })
 }
 
 // What the line gives for every part; the body takes what its kind carries.
-fn carried_of(v: [usize; NUMBERS]) -> Carried {
-    let command = command_of(v);
-    Carried {
-        voted: low32(v[8]),
-        status: low8(v[9]),
-        command,
-        joined: low32(v[10]),
+fn carried_of(v: [usize; NUMBERS]) -> Option<Carried> {
+    Some(Carried {
+        voted: u32::try_from(v[8]).ok()?,
+        status: u8::try_from(v[9]).ok()?,
+        command: command_of(v)?,
+        joined: u32::try_from(v[10]).ok()?,
+    })
+}
+
+// The kind of the line is the one that its body has with its command.
+fn body_in(v: [usize; NUMBERS]) -> Option<Body> {
+    let body = body_of(v[2], carried_of(v)?);
+    if kind_of(body) as usize == v[2] {
+        Some(body)
+    } else {
+        None
     }
 }
 
-fn deps_of(v: [usize; NUMBERS]) -> [u16; 7] {
+fn deps_of(v: [usize; NUMBERS]) -> Option<[u16; 7]> {
     let mut deps = [0u16; 7];
     for (d, &j) in deps.iter_mut().zip(&v[15..]) {
-        *d = low16(j);
+        *d = u16::try_from(j).ok()?;
     }
-    deps
+    Some(deps)
 }
 
-fn message_of(v: [usize; NUMBERS]) -> Message {
-    let body = body_of(v[2], carried_of(v));
-    let deps = deps_of(v);
-    Message {
-        from: low8(v[3]),
-        to: low8(v[4]),
-        owner: low8(v[5]),
-        number: low16(v[6]),
-        ballot: low32(v[7]),
-        body,
-        deps,
-    }
-}
-
-// The largest number that a place of the line may hold.
-fn most(i: usize) -> usize {
-    match i {
-        1 => BYTES,
-        2 => 12,
-        3 | 4 | 5 | 9 => 255,
-        7 | 8 | 10 | 12 | 13 => 4294967295,
-        11 => 3,
-        0 | 14 => usize::MAX,
-        _ => 65535,
-    }
-}
-
-fn fit(v: [usize; NUMBERS]) -> bool {
-    v.iter().enumerate().all(|(i, &x)| x <= most(i)) && v[2] > 0
+// The message of the line, if every number fits its field.
+fn message_of(v: [usize; NUMBERS]) -> Option<Message> {
+    Some(Message {
+        from: u8::try_from(v[3]).ok()?,
+        to: u8::try_from(v[4]).ok()?,
+        owner: u8::try_from(v[5]).ok()?,
+        number: u16::try_from(v[6]).ok()?,
+        ballot: u32::try_from(v[7]).ok()?,
+        body: body_in(v)?,
+        deps: deps_of(v)?,
+    })
 }
 
 fn put_writing(answer: Result<usize, Refusal>) -> Text {
@@ -146,18 +139,12 @@ fn write_to(room: &mut [u8], w: Setup, m: Message) -> Text {
     put_hex(put_writing(answer), &*room, room.len())
 }
 
-// The kind of the line is the one that its body has with its command.
-fn agree(v: [usize; NUMBERS], m: Message) -> bool {
-    v[2] == kind_of(m.body) as usize
-}
-
 // C write ROOM KIND FROM TO OWNER NUMBER BALLOT VOTED STATUS JOINED OP KEY SECOND EDIT D0 .. D6
-pub fn write(got: &Read, w: Setup) -> Text {
+pub fn write(got: &Read<Line>, w: Setup) -> Text {
     let mut room = [0xEEu8; BYTES];
-    let v = got.v;
-    let m = message_of(v);
-    if !fit(v) || !agree(v, m) {
-        return bad_line();
+    let length = got.v[1];
+    match message_of(got.v) {
+        Some(m) if length <= BYTES => write_to(front_mut(&mut room, length), w, m),
+        _ => bad_line(),
     }
-    write_to(front_mut(&mut room, v[1]), w, m)
 }

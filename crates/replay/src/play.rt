@@ -5,6 +5,34 @@ use text::forms::{Read, which_form};
 use text::lines::{Lines, is_passed_over};
 use text::put::{Text, bad_line, finish};
 
+#[derive(Clone, Copy, Debug, PartialEq, Eq)]
+pub enum Call {
+    Read,
+    Write,
+    Judge,
+    Blank,
+    Part,
+}
+
+// What a line is.
+#[derive(Clone, Copy, Debug, PartialEq, Eq)]
+pub enum Line {
+    Run,
+    Call(Call),
+}
+
+const FORMS: [(Line, &[u8]); 6] = [
+    (Line::Run, b"run # #"),
+    (Line::Call(Call::Read), b"# read @"),
+    (
+        Line::Call(Call::Write),
+        b"# write # # # # # # # # # # # # # # # # # # # # #",
+    ),
+    (Line::Call(Call::Judge), b"# judge # # # # @"),
+    (Line::Call(Call::Blank), b"# blank #"),
+    (Line::Call(Call::Part), b"# part # # #"),
+];
+
 // The setup of the calls that follow, and the copy of a call.
 #[derive(Clone, Copy)]
 pub struct Setup {
@@ -13,20 +41,30 @@ pub struct Setup {
     pub c: usize,
 }
 
-// The answer to a call, by the place of its form below.
-fn answer_of(got: &Read, w: Setup, t: &mut [u8]) -> Text {
-    match got.form {
-        1 => messages::read(got, w),
-        2 => messages::write(got, w),
-        3 => tables::judge(got, w, t),
-        4 => tables::blank(got, w, t),
-        _ => tables::part(got, w, t),
+fn answer_of(call: Call, got: &Read<Line>, w: Setup, t: &mut [u8]) -> Text {
+    match call {
+        Call::Read => messages::read(got, w),
+        Call::Write => messages::write(got, w),
+        Call::Judge => tables::judge(got, w, t),
+        Call::Blank => tables::blank(got, w, t),
+        Call::Part => tables::part(got, w, t),
     }
 }
 
-fn play_call(got: &Read, w: Setup, t: &mut [u8]) {
-    let c = got.v[0];
-    finish(answer_of(got, Setup { c, ..w }, t));
+// The setup that holds after the line.
+fn play_read(got: &Read<Line>, w: Setup, t: &mut [u8]) -> Setup {
+    let v = got.v;
+    match got.form {
+        Line::Run => Setup {
+            n: v[0],
+            s: v[1],
+            c: 0,
+        },
+        Line::Call(call) => {
+            finish(answer_of(call, got, Setup { c: v[0], ..w }, t));
+            w
+        }
+    }
 }
 
 // Plays one line; the setup that holds after it.
@@ -34,28 +72,13 @@ fn play_line(line: &[u8], w: Setup, t: &mut [u8]) -> Setup {
     if is_passed_over(line) {
         return w;
     }
-    let read = which_form(
-        line,
-        b"run # #\
-            |# read @\
-            |# write # # # # # # # # # # # # # # # # # # # # #\
-            |# judge # # # # @\
-            |# blank #\
-            |# part # # #",
-    );
-    let Some(got) = read else {
-        finish(bad_line());
-        return w;
-    };
-    if got.form == 0 {
-        return Setup {
-            n: got.v[0],
-            s: got.v[1],
-            c: 0,
-        };
+    match which_form(line, &FORMS) {
+        Some(got) => play_read(&got, w, t),
+        None => {
+            finish(bad_line());
+            w
+        }
     }
-    play_call(&got, w, t);
-    w
 }
 
 // A proved loop has to end, and nothing says that the input does: the lines are counted, up to a number that no run reaches.

@@ -1,15 +1,15 @@
 // The calls on one table: judge, blank and part. The table's bytes are lent, as many as the longest table has.
-use crate::play::Setup;
+use crate::play::{Line, Setup};
 use paper::Refusal;
 use table::part_start;
-use text::bytes::{behind, checksum, front_mut, low8, write};
+use text::bytes::{behind, checksum, front_mut, write};
 use text::forms::Read;
 use text::put::{Text, bad_line, empty, put_bytes, put_number, put_refused};
 
 // Byte i is i modulo 251.
 fn count_up(t: &mut [u8]) {
     for (i, b) in t.iter_mut().enumerate() {
-        *b = low8(i % 251);
+        *b = (i % 251) as u8;
     }
 }
 
@@ -34,7 +34,7 @@ fn put_judging(answer: Result<(), Refusal>) -> Text {
 }
 
 // The answer for a table that is blank but for the bytes of the line.
-fn judge_in(t: &mut [u8], w: Setup, got: &Read) -> Text {
+fn judge_in(t: &mut [u8], w: Setup, got: &Read<Line>) -> Text {
     let v = got.v;
     t.fill(0);
     let _ = table::blank_table(&mut *t, w.n, w.s, w.c);
@@ -48,7 +48,7 @@ fn names_place(o: usize, j: usize) -> bool {
 }
 
 // C judge LEN O J AT BYTES
-pub fn judge(got: &Read, w: Setup, t: &mut [u8]) -> Text {
+pub fn judge(got: &Read<Line>, w: Setup, t: &mut [u8]) -> Text {
     let v = got.v;
     let length = v[1];
     if t.len() < length || !names_place(v[2], v[3]) {
@@ -71,7 +71,7 @@ fn blank_in(t: &mut [u8], w: Setup) -> Text {
 }
 
 // C blank LEN
-pub fn blank(got: &Read, w: Setup, t: &mut [u8]) -> Text {
+pub fn blank(got: &Read<Line>, w: Setup, t: &mut [u8]) -> Text {
     let length = got.v[1];
     if t.len() < length {
         return bad_line();
@@ -87,7 +87,7 @@ fn part_in(t: &mut [u8], w: Setup, o: usize, j: usize) -> Text {
 }
 
 // C part LEN O J
-pub fn part(got: &Read, w: Setup, t: &mut [u8]) -> Text {
+pub fn part(got: &Read<Line>, w: Setup, t: &mut [u8]) -> Text {
     let v = got.v;
     let length = v[1];
     if t.len() < length {

@@ -3,8 +3,7 @@ use crate::kept::keep_record;
 use crate::told::{Outcome, Told, said};
 use gate::Event;
 use paper::Refusal;
-use text::bytes::low32;
-use text::forms::{NUMBERS, Read};
+use text::forms::NUMBERS;
 use text::put::{Text, bad_line, empty, put_bytes, put_form, put_hex, put_refused};
 
 pub fn put_no(why: Refusal) -> Text {
@@ -30,37 +29,48 @@ fn kept(w: Told, answer: Result<Event, Refusal>, t: &[u8], d: &mut [u8]) -> Told
     }
 }
 
-// The numbers of a request: op, key, second key, edit.
-fn ask(v: [usize; NUMBERS], w: Told, t: &mut [u8], room: &mut [u8]) -> Result<Event, Refusal> {
-    let key = low32(v[2]);
-    let second = low32(v[3]);
-    let edit = v[4] as u64;
-    request::ask::request(t, w.n, w.s, w.c, room, v[1], key, second, edit)
+// The answer of a call, and what has come of it.
+fn told(w: Told, answer: Result<Event, Refusal>, t: &[u8], d: &mut [u8], room: &[u8]) -> Outcome {
+    said(put_answer(answer, room), kept(w, answer, t, d))
 }
 
-// The library's answer, by the place of the call's form.
-fn answer_of(got: &Read, w: Told, t: &mut [u8], room: &mut [u8]) -> Result<Event, Refusal> {
-    let v = got.v;
-    match got.form {
-        6 => ask(v, w, t, room),
-        7 => receive::message::message(t, w.n, w.s, w.c, room, &got.bytes),
-        8 => recover::recover(t, w.n, w.s, w.c, room, v[1], v[2]),
-        _ => nudge::nudge(t, w.n, w.s, w.c, room, v[1], v[2]),
-    }
-}
-
-// Keys are u32.
-fn keys_fit(key: usize, second: usize) -> bool {
-    key <= 4294967295 && second <= 4294967295
-}
-
-// C request OP KEY SECOND EDIT, C message BYTES, C recover OWNER NUMBER, C nudge OWNER NUMBER
-pub fn event(got: &Read, w: Told, t: &mut [u8], d: &mut [u8], room: &mut [u8]) -> Outcome {
-    let v = got.v;
-    if got.form == 6 && !keys_fit(v[2], v[3]) {
+// C request OP KEY SECOND EDIT
+pub fn request(
+    v: [usize; NUMBERS],
+    w: Told,
+    t: &mut [u8],
+    d: &mut [u8],
+    room: &mut [u8],
+) -> Outcome {
+    let (Ok(key), Ok(second)) = (u32::try_from(v[2]), u32::try_from(v[3])) else {
         return said(bad_line(), w);
-    }
-    let answer = answer_of(got, w, &mut *t, &mut *room);
-    let text = put_answer(answer, &*room);
-    said(text, kept(w, answer, &*t, d))
+    };
+    let edit = v[4] as u64;
+    let answer = request::ask::request(&mut *t, w.n, w.s, w.c, &mut *room, v[1], key, second, edit);
+    told(w, answer, &*t, d, &*room)
+}
+
+// C message BYTES
+pub fn message(b: &[u8], w: Told, t: &mut [u8], d: &mut [u8], room: &mut [u8]) -> Outcome {
+    let answer = receive::message::message(&mut *t, w.n, w.s, w.c, &mut *room, b);
+    told(w, answer, &*t, d, &*room)
+}
+
+// C recover OWNER NUMBER
+pub fn recover(
+    o: usize,
+    j: usize,
+    w: Told,
+    t: &mut [u8],
+    d: &mut [u8],
+    room: &mut [u8],
+) -> Outcome {
+    let answer = recover::recover(&mut *t, w.n, w.s, w.c, &mut *room, o, j);
+    told(w, answer, &*t, d, &*room)
+}
+
+// C nudge OWNER NUMBER
+pub fn nudge(o: usize, j: usize, w: Told, t: &mut [u8], d: &mut [u8], room: &mut [u8]) -> Outcome {
+    let answer = nudge::nudge(&mut *t, w.n, w.s, w.c, &mut *room, o, j);
+    told(w, answer, &*t, d, &*room)
 }

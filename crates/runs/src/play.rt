@@ -1,7 +1,7 @@
 // Plays the lines of the input: a run, how calls are made, or a call and its answer.
 use crate::kept::{cut, ready};
 use crate::streamed::{stream_line, take_line};
-use crate::told::{Outcome, Told, at_copy, begun, poked, said, way};
+use crate::told::{Outcome, Told, Way, at_copy, begun, changed, poked, said};
 use crate::{asked, event};
 use storage::DISK;
 use table::LONGEST;
@@ -9,6 +9,52 @@ use text::bytes::{checksum, front_mut, part, part_mut, write};
 use text::forms::{BYTES, Read, which_form};
 use text::lines::{Lines, is_passed_over};
 use text::put::{Text, bad_line, finish, put_number};
+
+// A call at a copy that is answered.
+#[derive(Clone, Copy, Debug, PartialEq, Eq)]
+enum Call {
+    Request,
+    Message,
+    Recover,
+    Nudge,
+    Settled,
+    HandOut,
+    Cut,
+}
+
+#[derive(Clone, Copy, Debug, PartialEq, Eq)]
+enum AtCopy {
+    Poke,
+    Call(Call),
+}
+
+// What a line is.
+#[derive(Clone, Copy, Debug, PartialEq, Eq)]
+enum Line {
+    Run,
+    Way(Way),
+    At(AtCopy),
+    Stream,
+    Take,
+}
+
+const FORMS: [(Line, &[u8]); 15] = [
+    (Line::Run, b"run # #"),
+    (Line::Way(Way::As), b"as # # #"),
+    (Line::Way(Way::Length), b"length #"),
+    (Line::Way(Way::Room), b"room #"),
+    (Line::Way(Way::Watch), b"watch"),
+    (Line::At(AtCopy::Poke), b"# poke # @"),
+    (Line::At(AtCopy::Call(Call::Request)), b"# request # # # #"),
+    (Line::At(AtCopy::Call(Call::Message)), b"# message @"),
+    (Line::At(AtCopy::Call(Call::Recover)), b"# recover # #"),
+    (Line::At(AtCopy::Call(Call::Nudge)), b"# nudge # #"),
+    (Line::At(AtCopy::Call(Call::Settled)), b"# settled # #"),
+    (Line::At(AtCopy::Call(Call::HandOut)), b"# handout #"),
+    (Line::At(AtCopy::Call(Call::Cut)), b"# cut #"),
+    (Line::Stream, b"stream #"),
+    (Line::Take, b"take @"),
+];
 
 // Seven areas, one for each copy's table, and one for the stream's buffer.
 const TABLES: usize = 7 * LONGEST;
@@ -38,21 +84,30 @@ fn blank_all(all: &mut [u8], w: Told) {
     }
 }
 
-fn play_run(got: &Read, all: &mut [u8]) -> Told {
-    let w = begun(got.v[0], got.v[1]);
+fn play_run(n: usize, s: usize, all: &mut [u8]) -> Told {
+    let w = begun(n, s);
     all.fill(0);
     blank_all(all, w);
     w
 }
 
-// The answer to a call, by the place of its form.
-fn answer_of(got: &Read, w: Told, t: &mut [u8], d: &mut [u8], room: &mut [u8]) -> Outcome {
+fn answer_of(
+    call: Call,
+    got: &Read<Line>,
+    w: Told,
+    t: &mut [u8],
+    d: &mut [u8],
+    room: &mut [u8],
+) -> Outcome {
     let v = got.v;
-    match got.form {
-        6 | 7 | 8 | 9 => event::event(got, w, t, d, room),
-        10 => said(asked::settled(&*t, w, v[1], v[2]), w),
-        11 => asked::hand_out(t, w, d, v[1]),
-        _ => cut(w, v[0], v[1], t, &*d),
+    match call {
+        Call::Request => event::request(v, w, t, d, room),
+        Call::Message => event::message(&got.bytes, w, t, d, room),
+        Call::Recover => event::recover(v[1], v[2], w, t, d, room),
+        Call::Nudge => event::nudge(v[1], v[2], w, t, d, room),
+        Call::Settled => said(asked::settled(&*t, w, v[1], v[2]), w),
+        Call::HandOut => asked::hand_out(t, w, d, v[1]),
+        Call::Cut => cut(w, v[0], v[1], t, &*d),
     }
 }
 
@@ -64,58 +119,61 @@ fn put_watched(out: Text, w: Told, t: &[u8], room: &[u8]) -> Text {
     put_number(put_number(out, checksum(t)), checksum(room))
 }
 
-fn play_in(got: &Read, w: Told, t: &mut [u8], d: &mut [u8], room: &mut [u8]) -> Told {
-    let answer = answer_of(got, w, &mut *t, d, &mut *room);
+fn play_in(
+    call: Call,
+    got: &Read<Line>,
+    w: Told,
+    t: &mut [u8],
+    d: &mut [u8],
+    room: &mut [u8],
+) -> Told {
+    let answer = answer_of(call, got, w, &mut *t, d, &mut *room);
     finish(put_watched(answer.text, w, &*t, &*room));
     answer.told
 }
 
 // C poke AT BYTES
-fn poke(got: &Read, w: Told, t: &mut [u8]) -> Told {
+fn poke(got: &Read<Line>, w: Told, t: &mut [u8]) -> Told {
     write(t, got.v[1], &got.bytes);
     poked(w, got.v[0])
 }
 
-// A call with the part of the copy's area that is lent.
-fn play_call(got: &Read, w: Told, t: &mut [u8], d: &mut [u8]) -> Told {
+fn play_call(call: Call, got: &Read<Line>, w: Told, t: &mut [u8], d: &mut [u8]) -> Told {
     let mut room = [0xEEu8; BYTES];
-    if got.form == 5 {
-        return poke(got, w, t);
-    }
     if BYTES < w.room {
         finish(bad_line());
         return w;
     }
-    play_in(got, w, t, d, front_mut(&mut room, w.room))
+    play_in(call, got, w, t, d, front_mut(&mut room, w.room))
 }
 
 // A call is about to be made; a cut is none.
-fn before_call(got: &Read, w: Told, all: &[u8], disks: &mut [u8]) -> Told {
-    let copy = got.v[0];
-    if got.form == 12 {
+fn before_call(what: AtCopy, copy: usize, w: Told, all: &[u8], disks: &mut [u8]) -> Told {
+    if what == AtCopy::Call(Call::Cut) {
         return w;
     }
     let t = part(all, start_of(copy), LONGEST);
     ready(w, copy, t, disk_of(disks, copy))
 }
 
-fn play_copy(got: &Read, old: Told, all: &mut [u8], disks: &mut [u8]) -> Told {
+// A call, or a poke, with the part of the copy's area that is lent.
+fn play_copy(what: AtCopy, got: &Read<Line>, old: Told, all: &mut [u8], disks: &mut [u8]) -> Told {
     let copy = got.v[0];
-    let w = before_call(got, old, &*all, &mut *disks);
+    let w = before_call(what, copy, old, &*all, &mut *disks);
     let t = part_mut(all, start_of(copy), w.length);
     if t.len() != w.length {
         finish(bad_line());
         return w;
     }
-    play_call(got, at_copy(w, copy), t, disk_of(disks, copy))
+    let named = at_copy(w, copy);
+    match what {
+        AtCopy::Poke => poke(got, named, t),
+        AtCopy::Call(call) => play_call(call, got, named, t, disk_of(disks, copy)),
+    }
 }
 
-// stream ROOM, or take BYTES
-fn play_stream(got: &Read, w: Told, all: &mut [u8]) -> Told {
-    if got.form == 14 {
-        return take_line(got, w, part_mut(all, TABLES, w.buffer));
-    }
-    let room = got.v[0];
+// stream ROOM
+fn play_stream(room: usize, w: Told, all: &mut [u8]) -> Told {
     if BUFFER < room {
         finish(bad_line());
         return w;
@@ -124,13 +182,15 @@ fn play_stream(got: &Read, w: Told, all: &mut [u8]) -> Told {
     stream_line(w, &*buf)
 }
 
-// Plays one line that is read, by the place of its form; how the calls after it are made.
-fn play_read(got: &Read, w: Told, all: &mut [u8], disks: &mut [u8]) -> Told {
+// Plays one line that is read; how the calls after it are made.
+fn play_read(got: &Read<Line>, w: Told, all: &mut [u8], disks: &mut [u8]) -> Told {
+    let v = got.v;
     match got.form {
-        0 => play_run(got, all),
-        1 | 2 | 3 | 4 => way(got, w),
-        5 | 6 | 7 | 8 | 9 | 10 | 11 | 12 => play_copy(got, w, all, disks),
-        _ => play_stream(got, w, all),
+        Line::Run => play_run(v[0], v[1], all),
+        Line::Way(what) => changed(w, what, v),
+        Line::At(what) => play_copy(what, got, w, all, disks),
+        Line::Stream => play_stream(v[0], w, all),
+        Line::Take => take_line(&got.bytes, w, part_mut(all, TABLES, w.buffer)),
     }
 }
 
@@ -138,25 +198,7 @@ fn play_line(line: &[u8], w: Told, all: &mut [u8], disks: &mut [u8]) -> Told {
     if is_passed_over(line) {
         return w;
     }
-    let read = which_form(
-        line,
-        b"run # #\
-            |as # # #\
-            |length #\
-            |room #\
-            |watch\
-            |# poke # @\
-            |# request # # # #\
-            |# message @\
-            |# recover # #\
-            |# nudge # #\
-            |# settled # #\
-            |# handout #\
-            |# cut #\
-            |stream #\
-            |take @",
-    );
-    match read {
+    match which_form(line, &FORMS) {
         Some(got) => play_read(&got, w, all, disks),
         None => {
             finish(bad_line());

@@ -5,7 +5,6 @@ use stream::place::{Halt, begin};
 use stream::reader::read;
 use stream::taking::{Taken, take};
 use stream::yielding::next;
-use text::forms::Read;
 use text::put::{Text, empty, finish, put_bytes, put_form, put_hex};
 
 // stream ROOM
@@ -52,8 +51,8 @@ fn put_messages(out: Text, buf: &[u8], w: Told) -> Told {
 }
 
 // take BYTES
-pub fn take_line(got: &Read, w: Told, buf: &mut [u8]) -> Told {
-    let answer = take(&mut *buf, w.place, &got.bytes);
+pub fn take_line(bytes: &[u8], w: Told, buf: &mut [u8]) -> Told {
+    let answer = take(&mut *buf, w.place, bytes);
     let place = answer.map_or(w.place, |taken| taken.place);
     put_messages(put_took(answer), &*buf, opened(w, w.buffer, place))
 }

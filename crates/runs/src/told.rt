@@ -1,7 +1,7 @@
 // How the calls that follow are made.
 use stream::place::Place;
 use table::length_of;
-use text::forms::Read;
+use text::forms::NUMBERS;
 use text::put::Text;
 
 // The setup, the copy number that calls name if it is not their copy's, and the copy number of the call; the length that is
@@ -23,6 +23,15 @@ pub struct Told {
     pub last: usize,
     pub before: usize,
     pub torn: usize,
+}
+
+// What a line says of how the calls that follow are made.
+#[derive(Clone, Copy, Debug, PartialEq, Eq)]
+pub enum Way {
+    As,
+    Length,
+    Room,
+    Watch,
 }
 
 // An answer, and how the calls after it are made.
@@ -81,14 +90,12 @@ fn watched(old: Told) -> Told {
     Told { watch: true, ..old }
 }
 
-// A line that says how the calls that follow are made, by the place of its form: as, length, room or watch.
-pub fn way(got: &Read, old: Told) -> Told {
-    let v = got.v;
-    match got.form {
-        1 => named(old, v[0], v[1], v[2]),
-        2 => lent(old, v[0]),
-        3 => roomy(old, v[0]),
-        _ => watched(old),
+pub fn changed(old: Told, what: Way, v: [usize; NUMBERS]) -> Told {
+    match what {
+        Way::As => named(old, v[0], v[1], v[2]),
+        Way::Length => lent(old, v[0]),
+        Way::Room => roomy(old, v[0]),
+        Way::Watch => watched(old),
     }
 }
 

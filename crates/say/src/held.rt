@@ -5,6 +5,19 @@ use paper::{Record, Vote};
 use record::places::LENGTH;
 use text::put::{Text, put_bytes, put_form, put_number, put_text};
 
+// The texts of a status, a phase and a mark, in the order of the paper's numbers.
+const STATUSES: [&[u8]; 5] = [
+    b"no vote",
+    b"pre-accepted with dependencies added here",
+    b"pre-accepted as received",
+    b"accepted",
+    b"committed",
+];
+
+const PHASES: [&[u8]; 4] = [b"", b", preparing", b", pre-accepting", b", accepting"];
+
+const MARKS: [&[u8]; 2] = [b"", b", handed out"];
+
 // The copies that have replied.
 fn put_members(mut out: Text, set: u8) -> Text {
     for q in 0..7 {
@@ -24,11 +37,7 @@ fn put_replies(out: Text, set: u8) -> Text {
 
 // A vote, with these bytes before what was voted for.
 pub fn put_vote(out: Text, n: usize, vote: Vote, between: &[u8]) -> Text {
-    let told = put_text(
-        out,
-        b"no vote|pre-accepted with dependencies added here|pre-accepted as received|accepted|committed",
-        vote.status as usize,
-    );
+    let told = put_text(out, &STATUSES, vote.status as usize);
     if vote.status == 0 {
         return told;
     }
@@ -37,12 +46,8 @@ pub fn put_vote(out: Text, n: usize, vote: Vote, between: &[u8]) -> Text {
 
 // What a copy does with its record: what it leads, who has replied, whether the instance is handed out.
 fn put_state(out: Text, phase: u8, set: u8, mark: u8) -> Text {
-    let leads = put_text(
-        out,
-        b"|, preparing|, pre-accepting|, accepting",
-        phase as usize,
-    );
-    put_text(put_replies(leads, set), b"|, handed out", mark as usize)
+    let leads = put_text(out, &PHASES, phase as usize);
+    put_text(put_replies(leads, set), &MARKS, mark as usize)
 }
 
 fn put_record(out: Text, n: usize, r: Record) -> Text {

@@ -39,13 +39,25 @@ fn put_body(out: Text, n: usize, body: Body, deps: [u16; 7]) -> Text {
     }
 }
 
-// The kinds' names stand in the order of the paper's numbers; those of a rewire are named as the others.
+// The kinds' names, in the order of the paper's numbers; those of a rewire are named as the others.
+const KINDS: [&[u8]; 13] = [
+    b"",
+    b"PreAccept",
+    b"PreAcceptOK",
+    b"Accept",
+    b"AcceptOK",
+    b"Commit",
+    b"Prepare",
+    b"PrepareOK",
+    b"Nack",
+    b"PreAccept",
+    b"Accept",
+    b"Commit",
+    b"PrepareOK",
+];
+
 pub fn put_kind(out: Text, k: usize) -> Text {
-    put_text(
-        out,
-        b"|PreAccept|PreAcceptOK|Accept|AcceptOK|Commit|Prepare|PrepareOK|Nack|PreAccept|Accept|Commit|PrepareOK",
-        k,
-    )
+    put_text(out, &KINDS, k)
 }
 
 fn put_fields(out: Text, n: usize, m: Message) -> Text {

@@ -7,7 +7,6 @@ use nouns::ballot::lead;
 use nouns::message::is_word;
 use paper::{Field, Refusal};
 use scene::Scene;
-use text::bytes::low32;
 use text::put::{Text, put_bytes, put_form, put_refused};
 use wire::{kind_at, length_of};
 
@@ -49,7 +48,7 @@ fn put_wrong_way(out: Text, c: usize, b: &[u8]) -> Text {
 fn put_wrong_lead(out: Text, b: &[u8]) -> Text {
     let owner = value_in(b, Field::Owner);
     let ballot = value_in(b, Field::Ballot);
-    let leads = lead(owner, low32(ballot));
+    let leads = lead(owner, (ballot & 0xffffffff) as u32);
     let v = [leads, owner, value_in(b, Field::Number), ballot];
     let told = put_form(out, b": copy # leads #.# at ballot #", v);
     if is_word(row_at(b).role) {

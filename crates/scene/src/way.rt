@@ -4,7 +4,7 @@ ghost use Rattle.std.specs.Prelude.{◌≤◌};
 
 use crate::Scene;
 use arrayvec::ArrayVec;
-use text::bytes::{byte_at, front, low8, part, part_mut, write};
+use text::bytes::{byte_at, front, part, part_mut, write};
 
 // How many messages can be on the way.
 const MOST: usize = 512;
@@ -97,11 +97,11 @@ pub fn put_on(all: &mut [u8], w: Scene, from: usize, to: usize, b: &[u8]) -> Sce
     let at = place(w.waiting);
     let number = w.sent;
     let head = [
-        low8(b.len()),
-        low8(number),
-        low8(number / 256),
-        low8(from),
-        low8(to),
+        (b.len() & 0xff) as u8,
+        (number & 0xff) as u8,
+        (number / 256 & 0xff) as u8,
+        (from & 0xff) as u8,
+        (to & 0xff) as u8,
     ];
     write(&mut *all, at, &head);
     write(part_mut(all, at + FRONT, PLACE - FRONT), 0, b);
@@ -131,12 +131,12 @@ pub fn take_off(all: &mut [u8], w: Scene, i: usize) -> Scene {
 
 // One byte of the message at a place is another from now on.
 pub fn damage(all: &mut [u8], i: usize, at: usize, byte: usize) {
-    let new = [low8(byte)];
+    let new = [(byte & 0xff) as u8];
     write(message_mut(all, i), at, &new);
 }
 
 // Only the first bytes of the message at a place are left.
 pub fn shorten(all: &mut [u8], i: usize, length: usize) {
-    let new = [low8(length)];
+    let new = [(length & 0xff) as u8];
     write(all, place(i), &new);
 }

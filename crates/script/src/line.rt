@@ -2,18 +2,108 @@
 use crate::{Act, Event, Fate, Moment, Reason, Step};
 use nouns::setup::INSTANCES;
 use paper::Op;
-use text::bytes::low32;
-use text::forms::which_form;
+use text::forms::{NUMBERS, which_form};
 
-// Keys are u32; the second is 0 where the op has one alone.
+// What a copy is told to do.
+#[derive(Clone, Copy, Debug, PartialEq, Eq)]
+enum AtCopy {
+    Write,
+    Read,
+    Rewire,
+    Recover,
+    Nudge,
+    Ask,
+    HandOut,
+    HandOutUpTo,
+    Anew,
+}
+
+// What becomes of the oldest message between two copies.
+#[derive(Clone, Copy, Debug, PartialEq, Eq)]
+enum OnWay {
+    Deliver,
+    Stray,
+    Drop,
+    Repeat,
+    Damage,
+    Shorten,
+}
+
+// Where a copy's next step is cut.
+#[derive(Clone, Copy, Debug, PartialEq, Eq)]
+enum CutAt {
+    Saving,
+    Sending,
+    BehindMarks,
+    InEntry,
+    InMark,
+}
+
+// What a line is.
+#[derive(Clone, Copy, Debug, PartialEq, Eq)]
+enum Line {
+    At(AtCopy),
+    All,
+    Way(OnWay),
+    Cut(CutAt),
+    Stop,
+    Restart,
+    Show,
+    ShowCopy,
+    Copies,
+}
+
+const FORMS: [(Line, &[u8]); 28] = [
+    (
+        Line::At(AtCopy::Write),
+        b"copy # requests write key # edit #",
+    ),
+    (Line::At(AtCopy::Read), b"copy # requests read key #"),
+    (
+        Line::At(AtCopy::Rewire),
+        b"copy # requests rewire key # to key # edit #",
+    ),
+    (Line::At(AtCopy::Recover), b"copy # recovers #.#"),
+    (Line::At(AtCopy::Nudge), b"copy # nudges #.#"),
+    (Line::At(AtCopy::Ask), b"copy # is asked about #.#"),
+    (Line::At(AtCopy::HandOut), b"copy # hands out"),
+    (Line::At(AtCopy::HandOutUpTo), b"copy # hands out up to #"),
+    (Line::At(AtCopy::Anew), b"copy # begins its journal anew"),
+    (Line::All, b"deliver all"),
+    (Line::Way(OnWay::Deliver), b"deliver # to #"),
+    (Line::Way(OnWay::Stray), b"deliver # to # at #"),
+    (Line::Way(OnWay::Drop), b"drop # to #"),
+    (Line::Way(OnWay::Repeat), b"repeat # to #"),
+    (Line::Way(OnWay::Damage), b"damage # to # byte # as #"),
+    (Line::Way(OnWay::Shorten), b"shorten # to # to # bytes"),
+    (Line::Way(OnWay::Shorten), b"shorten # to # to # byte"),
+    (Line::Cut(CutAt::Saving), b"cut copy # before saving"),
+    (Line::Cut(CutAt::Sending), b"cut copy # before sending"),
+    (Line::Cut(CutAt::BehindMarks), b"cut copy # after # marks"),
+    (Line::Cut(CutAt::BehindMarks), b"cut copy # after # mark"),
+    (
+        Line::Cut(CutAt::InEntry),
+        b"cut copy # at byte # of its entry",
+    ),
+    (Line::Cut(CutAt::InMark), b"cut copy # at byte # of mark #"),
+    (Line::Stop, b"stop copy #"),
+    (Line::Restart, b"restart copy #"),
+    (Line::Show, b"show"),
+    (Line::ShowCopy, b"show copy #"),
+    (Line::Copies, b"copies #, numbers #"),
+];
+
+// Keys are u32.
+fn key_of(x: usize) -> Result<u32, Reason> {
+    u32::try_from(x).map_err(|_| Reason::Copy)
+}
+
+// The second key is 0 where the op has one alone.
 fn request(c: usize, op: Op, key: usize, second: usize, edit: usize) -> Result<Step, Reason> {
-    if 4294967295 < key || 4294967295 < second {
-        return Err(Reason::Copy);
-    }
     let what = Event::Request {
         op,
-        key: low32(key),
-        second: low32(second),
+        key: key_of(key)?,
+        second: key_of(second)?,
         edit: edit as u64,
     };
     Ok(Step::At(c, Act::Event(what)))
@@ -33,80 +123,85 @@ fn damage(at: usize, byte: usize) -> Result<Fate, Reason> {
     Ok(Fate::Damage { at, byte })
 }
 
-// What becomes of the oldest message between two copies, by the place of the form below.
-fn between(form: usize, from: usize, to: usize, a: usize, b: usize) -> Result<Step, Reason> {
-    let fate = match form {
-        8 => Fate::Deliver,
-        9 => Fate::Stray(a),
-        10 => Fate::Drop,
-        11 => Fate::Repeat,
-        12 => damage(a, b)?,
-        _ => Fate::Shorten(a),
+fn between(what: OnWay, v: [usize; NUMBERS]) -> Result<Step, Reason> {
+    let fate = match what {
+        OnWay::Deliver => Fate::Deliver,
+        OnWay::Stray => Fate::Stray(v[2]),
+        OnWay::Drop => Fate::Drop,
+        OnWay::Repeat => Fate::Repeat,
+        OnWay::Damage => damage(v[2], v[3])?,
+        OnWay::Shorten => Fate::Shorten(v[2]),
     };
-    Ok(Step::Way { from, to, fate })
+    Ok(Step::Way {
+        from: v[0],
+        to: v[1],
+        fate,
+    })
 }
 
-// A copy is told to do something, by the place of the form below.
-fn at_copy(form: usize, c: usize, a: usize, b: usize) -> Result<Step, Reason> {
-    match form {
-        0 => request(c, Op::Write, a, 0, b),
-        1 => request(c, Op::Read, a, 0, 0),
-        2 => Ok(Step::At(c, Act::Event(Event::Recover { o: a, j: b }))),
-        3 => Ok(Step::At(c, Act::Event(Event::Nudge { o: a, j: b }))),
-        4 => Ok(Step::At(c, Act::Ask { o: a, j: b })),
-        5 => hand_out(c, INSTANCES),
-        _ => hand_out(c, a),
+fn at_copy(what: AtCopy, v: [usize; NUMBERS]) -> Result<Step, Reason> {
+    let [c, a, b, edit, ..] = v;
+    match what {
+        AtCopy::Write => request(c, Op::Write, a, 0, b),
+        AtCopy::Read => request(c, Op::Read, a, 0, 0),
+        AtCopy::Rewire => request(c, Op::Rewire, a, b, edit),
+        AtCopy::Recover => Ok(Step::At(c, Act::Event(Event::Recover { o: a, j: b }))),
+        AtCopy::Nudge => Ok(Step::At(c, Act::Event(Event::Nudge { o: a, j: b }))),
+        AtCopy::Ask => Ok(Step::At(c, Act::Ask { o: a, j: b })),
+        AtCopy::HandOut => hand_out(c, INSTANCES),
+        AtCopy::HandOutUpTo => hand_out(c, a),
+        AtCopy::Anew => Ok(Step::At(c, Act::Anew)),
     }
 }
 
-// The copy's next step is cut, by the place of the form below. Marks are counted from 1.
-fn cut(form: usize, c: usize, a: usize, b: usize) -> Result<Step, Reason> {
-    let when = match form {
-        15 => Moment::Saving,
-        16 => Moment::Sending,
-        17 | 18 => Moment::Marks { whole: a, bytes: 0 },
-        19 => Moment::Entry(a),
-        _ => Moment::Marks {
-            whole: b.checked_sub(1).ok_or(Reason::Cut)?,
-            bytes: a,
+// The copy's next step is cut. Marks are counted from 1.
+fn cut(at: CutAt, v: [usize; NUMBERS]) -> Result<Step, Reason> {
+    let when = match at {
+        CutAt::Saving => Moment::Saving,
+        CutAt::Sending => Moment::Sending,
+        CutAt::BehindMarks => Moment::Marks {
+            whole: v[1],
+            bytes: 0,
+        },
+        CutAt::InEntry => Moment::Entry(v[1]),
+        CutAt::InMark => Moment::Marks {
+            whole: v[2].checked_sub(1).ok_or(Reason::Cut)?,
+            bytes: v[1],
         },
     };
-    Ok(Step::Cut(c, when))
+    Ok(Step::Cut(v[0], when))
 }
 
-// A step by the place of its form below.
-fn step(form: usize, a: usize, b: usize, c: usize, d: usize) -> Result<Step, Reason> {
-    match form {
-        0..=6 => at_copy(form, a, b, c),
-        7 => Ok(Step::All),
-        8..=14 => between(form, a, b, c, d),
-        15..=20 => cut(form, a, b, c),
-        21 => Ok(Step::Stop(a)),
-        22 => Ok(Step::Restart(a)),
-        23 => Ok(Step::Show),
-        24 => Ok(Step::ShowCopy(a)),
-        25 => Ok(Step::Copies { n: a, s: b }),
-        26 => Ok(Step::At(a, Act::Anew)),
-        _ => request(a, Op::Rewire, b, c, d),
+fn step(line: Line, v: [usize; NUMBERS]) -> Result<Step, Reason> {
+    match line {
+        Line::At(what) => at_copy(what, v),
+        Line::All => Ok(Step::All),
+        Line::Way(what) => between(what, v),
+        Line::Cut(at) => cut(at, v),
+        Line::Stop => Ok(Step::Stop(v[0])),
+        Line::Restart => Ok(Step::Restart(v[0])),
+        Line::Show => Ok(Step::Show),
+        Line::ShowCopy => Ok(Step::ShowCopy(v[0])),
+        Line::Copies => Ok(Step::Copies { n: v[0], s: v[1] }),
     }
 }
 
 // Why a line is no step, by its first word.
 fn reason_of(line: &[u8]) -> Reason {
-    let read = which_form(
-        line,
-        b"copies*|copy*|deliver*|drop*|repeat*|damage*|shorten*|cut*|stop*|restart*|show*",
-    );
-    match read.map(|got| got.form) {
-        Some(0) => Reason::Copies,
-        Some(1) => Reason::Copy,
-        Some(2..=4) => Reason::Way,
-        Some(5 | 6) => Reason::Damage,
-        Some(7) => Reason::Cut,
-        Some(8 | 9) => Reason::Restart,
-        Some(_) => Reason::Show,
-        None => Reason::Word,
-    }
+    let words: [(Reason, &[u8]); 11] = [
+        (Reason::Copies, b"copies*"),
+        (Reason::Copy, b"copy*"),
+        (Reason::Way, b"deliver*"),
+        (Reason::Way, b"drop*"),
+        (Reason::Way, b"repeat*"),
+        (Reason::Damage, b"damage*"),
+        (Reason::Damage, b"shorten*"),
+        (Reason::Cut, b"cut*"),
+        (Reason::Restart, b"stop*"),
+        (Reason::Restart, b"restart*"),
+        (Reason::Show, b"show*"),
+    ];
+    which_form(line, &words).map_or(Reason::Word, |got| got.form)
 }
 
 fn is_text(line: &[u8]) -> bool {
@@ -118,40 +213,6 @@ pub fn step_of(line: &[u8]) -> Result<Step, Reason> {
     if is_text(line) {
         return Ok(Step::Text);
     }
-    let read = which_form(
-        line,
-        b"copy # requests write key # edit #\
-            |copy # requests read key #\
-            |copy # recovers #.#\
-            |copy # nudges #.#\
-            |copy # is asked about #.#\
-            |copy # hands out\
-            |copy # hands out up to #\
-            |deliver all\
-            |deliver # to #\
-            |deliver # to # at #\
-            |drop # to #\
-            |repeat # to #\
-            |damage # to # byte # as #\
-            |shorten # to # to # bytes\
-            |shorten # to # to # byte\
-            |cut copy # before saving\
-            |cut copy # before sending\
-            |cut copy # after # marks\
-            |cut copy # after # mark\
-            |cut copy # at byte # of its entry\
-            |cut copy # at byte # of mark #\
-            |stop copy #\
-            |restart copy #\
-            |show\
-            |show copy #\
-            |copies #, numbers #\
-            |copy # begins its journal anew\
-            |copy # requests rewire key # to key # edit #",
-    );
-    let Some(got) = read else {
-        return Err(reason_of(line));
-    };
-    let v = got.v;
-    step(got.form, v[0], v[1], v[2], v[3])
+    let got = which_form(line, &FORMS).ok_or_else(|| reason_of(line))?;
+    step(got.form, got.v)
 }

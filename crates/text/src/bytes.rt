@@ -1,14 +1,6 @@
 // Lent bytes: written to, summed up in one number, and their first ones.
 ghost use Rattle.std.specs.Prelude.{◌≤◌};
 
-pub fn low8(x: usize) -> u8 {
-    (x % 256) as u8
-}
-
-pub fn low32(x: usize) -> u32 {
-    (x % 4294967296) as u32
-}
-
 // The byte at a place, 0 past the end.
 pub fn byte_at(b: &[u8], i: usize) -> usize
     ensures { result ≤ 255 }

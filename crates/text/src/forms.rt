@@ -1,5 +1,5 @@
 // Lines read by forms. A form is a text with marks: '#' stands for a number, '@' for bytes in hex or '-' for none, and '*'
-// for the end of a word and all that follows it. Several forms stand in one text, with a bar between two of them.
+// for the end of a word and all that follows it. Each form stands in a table beside what it is called.
 ghost use Rattle.std.specs.Prelude.{◌≤◌, IfSome};
 
 use arrayvec::ArrayVec;
@@ -13,8 +13,8 @@ pub const BYTES: usize = 300;
 // Which of the forms a line is; what it has for the marks, 0 for a number that the form does not ask for; and what follows
 // the space that a '*' begins with.
 #[derive(Drop)]
-pub struct Read<'a> {
-    pub form: usize,
+pub struct Read<'a, K> {
+    pub form: K,
     pub v: [usize; NUMBERS],
     pub bytes: ArrayVec<u8, BYTES>,
     pub rest: &'a [u8],
@@ -47,10 +47,10 @@ fn byte_of(pair: &[u8]) -> Option<u8> {
     Some(hex_digit(high)? * 16 + hex_digit(low)?)
 }
 
-impl<'a> Read<'a> {
-    fn of(line: &'a [u8]) -> Self {
+impl<'a, K: Copy> Read<'a, K> {
+    fn of(line: &'a [u8], form: K) -> Self {
         Read {
-            form: 0,
+            form,
             v: [0; NUMBERS],
             bytes: ArrayVec::new(),
             rest: &[],
@@ -115,21 +115,17 @@ impl<'a> Read<'a> {
     }
 }
 
-fn read_by<'a>(line: &'a [u8], form: &[u8]) -> Option<Read<'a>> {
-    let mut r = Read::of(line);
-    for &b in form {
+fn read_by<'a, K: Copy>(line: &'a [u8], form: K, text: &[u8]) -> Option<Read<'a, K>> {
+    let mut r = Read::of(line, form);
+    for &b in text {
         r.read_on(b)?;
     }
     if r.left.is_empty() { Some(r) } else { None }
 }
 
 // Which of these forms the line is, the first where it is several.
-pub fn which_form<'a>(line: &'a [u8], forms: &[u8]) -> Option<Read<'a>> {
-    for (form, text) in forms.split(|&b| b == b'|').enumerate() {
-        if let Some(mut r) = read_by(line, text) {
-            r.form = form;
-            return Some(r);
-        }
-    }
-    None
+pub fn which_form<'a, K: Copy>(line: &'a [u8], forms: &[(K, &[u8])]) -> Option<Read<'a, K>> {
+    forms
+        .iter()
+        .find_map(|&(form, text)| read_by(line, form, text))
 }

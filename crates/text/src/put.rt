@@ -47,9 +47,9 @@ pub fn put_form<const K: usize>(mut out: Text, form: &[u8], v: [usize; K]) -> Te
     out
 }
 
-// Puts text k, from 0 on, of several with a bar between two of them.
-pub fn put_text(out: Text, texts: &[u8], k: usize) -> Text {
-    match texts.split(|&b| b == b'|').nth(k) {
+// Puts text k of these, counted from 0.
+pub fn put_text(out: Text, texts: &[&[u8]], k: usize) -> Text {
+    match texts.get(k) {
         Some(text) => put_bytes(out, text),
         None => out,
     }
