@@ -95,7 +95,7 @@ pub fn read_sent(s: &[u8], at: usize, second: bool) -> Command
     }
 }
 
-// Written out: by a closure for each entry, a record read and written took an eighth longer.
+// Written out: by a closure for each entry, a record read and written takes an eighth longer.
 pub fn read_deps(s: &[u8], at: usize) -> [u16; 7]
     requires { at + 14 ≤ length s.now }
     ensures { result ≡ deps_at s.now at }

@@ -3,7 +3,7 @@ ghost use Rattle.std.specs.Prelude.{◌≡◌, ◌+◌, ◌≤◌, ◌<◌, eqb,
 ghost use Rattle.numbers.specs.Num.{splice};
 ghost use Rattle.record.specs.Part.{sound_part};
 ghost use Rattle.table.specs.Calls.{part_size};
-ghost use Rattle.entries.specs.Entry.{record_kind, kind_number, kind_length, entry_head, entry_length, kind_in, owner_in, number_in, part_in, head_bytes};
+ghost use Rattle.entries.specs.Entry.{record_kind, kind_length, entry_head, entry_length, kind_in, owner_in, number_in, part_in, head_bytes};
 
 use entries::Kind;
 use record::places::LENGTH;
@@ -84,11 +84,11 @@ pub fn part_sound(part: &[u8], n: usize, s: usize, c: usize, o: usize) -> bool
 }
 
 // Kind, owner and number at the front.
-pub fn write_head(out: &mut [u8], kind: Kind, o: usize, j: usize)
-    requires { (entry_head ≤ length out.old) × (o < 256) × (j < 65536) }
-    ensures { out.new ≡ splice out.old 0 (head_bytes (kind_number kind) o j) }
+pub fn write_head(out: &mut [u8], kind: usize, o: usize, j: usize)
+    requires { (entry_head ≤ length out.old) × (kind < 256) × (o < 256) × (j < 65536) }
+    ensures { out.new ≡ splice out.old 0 (head_bytes kind o j) }
 {
-    numbers::put(&mut *out, KIND, kind.number());
+    numbers::put(&mut *out, KIND, kind as u8);
     numbers::put(&mut *out, OWNER, o as u8);
     numbers::put(&mut *out, NUMBER, j as u16);
 }

@@ -57,7 +57,7 @@ fn record_open(
     if !part_sound(part, n, s, c, o) {
         return Err(Unwritten::Unsound);
     }
-    write_head(&mut *out, Kind::Record, o, j);
+    write_head(&mut *out, usize::from(Kind::Record.number()), o, j);
     numbers::put_bytes(out, HEAD, part);
     Ok(HEAD + LENGTH)
 }
@@ -103,7 +103,7 @@ fn mark_open(
     if !handed_out(t, n, s, o, j) {
         return Err(Unwritten::Unsound);
     }
-    write_head(out, Kind::Mark, o, j);
+    write_head(out, usize::from(Kind::Mark.number()), o, j);
     Ok(HEAD)
 }
 

@@ -8,31 +8,28 @@ use mathlib.Core.List.{List, []}
 use native.Mathlib.Omega.{arith}
 use native.Mathlib.Nat.{eq-or-lt_of_le}
 use native.Mathlib.Decide.{dec_lt, ℕ_discrete}
-use lib.Dec.{leb}
+use lib.Dec.{leb, eqb}
 use lib.ListN.{length, get_or, set, length-set}
 use lib.Seq.{get_or-set_same, get_or-set_other}
 use Rattle.rules.specs.Order.{everywhere}
 use Rattle.reach.specs.High.{Inst}
-use Rattle.reach.proofs.Tests.{tf, and_l, and_r, or_cases, not-true, not-not, leb-le, leb-in}
+use Rattle.reach.proofs.Tests.{tf, and_l, and_r, or_cases, not-true, not-not, eqb-eq, eqb_same, eqb-ne, eqb-false, leb-le, leb-in}
 use Rattle.reach.proofs.Instances.{every-at, every_in}
 use Rattle.rows.specs.Rows.{slot_of, mark_at}
-use Rattle.next.specs.declared.Stage.{Stage}
-use Rattle.next.specs.declared.Stage.TheVariants.{Waits, Settled, HandedOut}
-use Rattle.next.proofs.Stages.{out-same, out-is, out-not, out-no, out-or-not, due-same, due-not}
-use Rattle.next.specs.Slots.{is_out, lets, ready_in, passes_at, Lists, Ahead, Below, Known, Going, Seeking, Span, Stops, Sought, Held, Waiting, Freed}
+use Rattle.next.specs.Slots.{lets, ready_in, passes_at, Lists, Ahead, Below, Known, Going, Seeking, Span, Stops, Sought, Held, Waiting, Freed}
 
 leb-not : (a b : ℕ) → b < a → leb a b ≡ false
 leb-not a b l = not-true (leb a b) (λ e. absurd (omega (arith, leb-le a b e)))
 
 -- what is not reached lets out
-lets-out : (h : List ℕ) (st : List Stage) (p k o j : ℕ) → mark_at h (slot_of p k) o < j → lets h st p k o j ≡ true
+lets-out : (h st : List ℕ) (p k o j : ℕ) → mark_at h (slot_of p k) o < j → lets h st p k o j ≡ true
 unfolding lets
 lets-out h st p k o j l = rw (leb-not j (mark_at h (slot_of p k) o) l)
 
 -- what is reached lets out where it passes
-lets-in : (h : List ℕ) (st : List Stage) (p k o j : ℕ) → j ≤ mark_at h (slot_of p k) o → lets h st p k o j ≡ passes_at h st p k (slot_of o j)
+lets-in : (h st : List ℕ) (p k o j : ℕ) → j ≤ mark_at h (slot_of p k) o → lets h st p k o j ≡ passes_at h st p k (slot_of o j)
 unfolding lets passes_at
-lets-in h st p k o j l = rw (leb-in j (mark_at h (slot_of p k) o) l) (turn (leb k (mark_at h (slot_of o j) p)) (is_out (get_or st (slot_of o j) Waits)))
+lets-in h st p k o j l = rw (leb-in j (mark_at h (slot_of p k) o) l) (turn (leb k (mark_at h (slot_of o j) p)) (eqb (get_or st (slot_of o j) 0) 2))
   where
     turn : (a b : Bool) → (not (not a) || b) ≡ (b || a)
     turn true true = refl
@@ -40,31 +37,31 @@ lets-in h st p k o j l = rw (leb-in j (mark_at h (slot_of p k) o) l) (turn (leb 
     turn false true = refl
     turn false false = refl
 
-passes-two : (h : List ℕ) (st : List Stage) (p k y : ℕ) → get_or st y Waits ≡ HandedOut → passes_at h st p k y ≡ true
+passes-two : (h st : List ℕ) (p k y : ℕ) → get_or st y 0 ≡ 2 → passes_at h st p k y ≡ true
 unfolding passes_at
-passes-two h st p k y e = rw (out-same (get_or st y Waits) e)
+passes-two h st p k y e = rw (eqb_same (get_or st y 0) 2 e)
 
-passes-back : (h : List ℕ) (st : List Stage) (p k y : ℕ) → k ≤ mark_at h y p → passes_at h st p k y ≡ true
+passes-back : (h st : List ℕ) (p k y : ℕ) → k ≤ mark_at h y p → passes_at h st p k y ≡ true
 unfolding passes_at
-passes-back h st p k y e = rw (leb-in k (mark_at h y p) e) (last (is_out (get_or st y Waits)))
+passes-back h st p k y e = rw (leb-in k (mark_at h y p) e) (last (eqb (get_or st y 0) 2))
   where
     last : (a : Bool) → (a || true) ≡ true
     last true = refl
     last false = refl
 
-passes-or : (h : List ℕ) (st : List Stage) (p k y : ℕ) → passes_at h st p k y ≡ true → (get_or st y Waits ≡ HandedOut → ⊥) → k ≤ mark_at h y p
+passes-or : (h st : List ℕ) (p k y : ℕ) → passes_at h st p k y ≡ true → (get_or st y 0 ≡ 2 → ⊥) → k ≤ mark_at h y p
 unfolding passes_at
 passes-or h st p k y e d = ⊎_elim
-    (λ a. absurd (d (out-is (get_or st y Waits) a)))
+    (λ a. absurd (d (eqb-eq (get_or st y 0) 2 a)))
     (λ b. leb-le k (mark_at h y p) b)
-    (or_cases (is_out (get_or st y Waits)) (leb k (mark_at h y p)) e)
+    (or_cases (eqb (get_or st y 0) 2) (leb k (mark_at h y p)) e)
 
 -- what does not pass was not handed out, and does not reach back
-passes-not : (h : List ℕ) (st : List Stage) (p k y : ℕ) → (get_or st y Waits ≡ HandedOut → ⊥) → mark_at h y p < k → passes_at h st p k y ≡ false
+passes-not : (h st : List ℕ) (p k y : ℕ) → (get_or st y 0 ≡ 2 → ⊥) → mark_at h y p < k → passes_at h st p k y ≡ false
 unfolding passes_at
-passes-not h st p k y d l = rw (out-not (get_or st y Waits) d, leb-not k (mark_at h y p) l)
+passes-not h st p k y d l = rw (eqb-false (get_or st y 0) 2 d, leb-not k (mark_at h y p) l)
 
-not-passes : (h : List ℕ) (st : List Stage) (p k y : ℕ) → passes_at h st p k y ≡ false → mark_at h y p < k
+not-passes : (h st : List ℕ) (p k y : ℕ) → passes_at h st p k y ≡ false → mark_at h y p < k
 not-passes h st p k y e = go (dec_lt (mark_at h y p) k)
   where
     go : Dec (mark_at h y p < k) → mark_at h y p < k
@@ -75,10 +72,10 @@ clash : {A : Type 0} {y : ℕ} → Some y ≡ None → A
 clash e = cc
 
 -- part of a row
-abbrev Pass : List ℕ → List Stage → ℕ → ℕ → ℕ → ℕ → ℕ → Type 0
+abbrev Pass : List ℕ → List ℕ → ℕ → ℕ → ℕ → ℕ → ℕ → Type 0
 Pass h st p k q from i = (j : ℕ) → from < j → j ≤ i → passes_at h st p k (slot_of q j) ≡ true
 
-module _ (h : List ℕ) (st : List Stage) (p k q from : ℕ) where
+module _ (h st : List ℕ) (p k q from : ℕ) where
   pub pass-more : (i y : ℕ) → Pass h st p k q from i → y ≡ 64 * q + i → passes_at h st p k y ≡ true → Pass h st p k q from (i + 1)
   pass-more i y c e t j a b = ⊎_elim
       (λ (z : j ≡ i + 1). let w : slot_of q j ≡ y = omega arith in rw w t)
@@ -105,7 +102,7 @@ module _ (h : List ℕ) (st : List Stage) (p k q from : ℕ) where
   sought-none top i c l = record { none = λ u j a b. c j a (omega arith); some = λ y u. clash (sym u) }
 
 -- the mark that is asked, as it is read
-module _ (h : List ℕ) (st : List Stage) (past : List ℕ) (p k q : ℕ) {x top : ℕ} (ex : x ≡ slot_of p k) (et : top ≡ mark_at h x q) where
+module _ (h st past : List ℕ) (p k q : ℕ) {x top : ℕ} (ex : x ≡ slot_of p k) (et : top ≡ mark_at h x q) where
   pub top-is : mark_at h (slot_of p k) q ≡ top
   top-is = sym (et ∙ ap (λ (z : ℕ). mark_at h z q) ex)
 
@@ -113,7 +110,7 @@ module _ (h : List ℕ) (st : List Stage) (past : List ℕ) (p k q : ℕ) {x top
       → Freed st q (get_or past q 0) (mark_at h (slot_of p k) q) know know₁
   freed-at ef w = rw (← ef, top-is) w
 
-pub row-span : (n s : ℕ) (h : List ℕ) (st : List Stage) (p k : ℕ) → Lists n s h st → Inst n s p k → (q : ℕ) → q < n → {x top : ℕ}
+pub row-span : (n s : ℕ) (h st : List ℕ) (p k : ℕ) → Lists n s h st → Inst n s p k → (q : ℕ) → q < n → {x top : ℕ}
     → x ≡ slot_of p k
     → top ≡ mark_at h x q → Span h st p q top
 row-span n s h st p k g i q l ex et = record {
@@ -125,10 +122,10 @@ row-span n s h st p k g i q l ex et = record {
 }
 
 -- all rows
-abbrev Lets : ℕ → ℕ → List ℕ → List Stage → ℕ → ℕ → ℕ → Type 0
+abbrev Lets : ℕ → ℕ → List ℕ → List ℕ → ℕ → ℕ → ℕ → Type 0
 Lets n s h st p k q = (o j : ℕ) → Inst n s o j → o < q → lets h st p k o j ≡ true
 
-module _ (n s : ℕ) (h : List ℕ) (st : List Stage) (past : List ℕ) (p k from : ℕ) (g : Seeking n s h st past p k from) where
+module _ (n s : ℕ) (h st past : List ℕ) (p k from : ℕ) (g : Seeking n s h st past p k from) where
   pub lets-start : Lets n s h st p k (from / 64)
   lets-start o j i l = g.below o j i (omega (arith, i.first, i.last, g.lists.numbers))
 
@@ -203,12 +200,12 @@ module _ (n s : ℕ) (h : List ℕ) (st : List Stage) (past : List ℕ) (p k fro
   }
 
 -- what is known, step by step
-module _ (st : List Stage) (q from top : ℕ) (know : List ℕ) where
+module _ (st : List ℕ) (q from top : ℕ) (know : List ℕ) where
   pub freed-start : Freed st q from top know know
   freed-start = record { long = refl; each = λ x. inl refl }
 
   pub freed-more : (know₁ : List ℕ) (i y : ℕ) → Freed st q from top know know₁ → from ≤ i → i < top → y ≡ 64 * q + i
-      → (get_or st y Waits ≡ HandedOut → ⊥) → y < length know
+      → (get_or st y 0 ≡ 2 → ⊥) → y < length know
       → Freed st q from top know (set know₁ y 1)
   freed-more know₁ i y f a b e d l = record { long = length-set know₁ y 1 ∙ f.long; each = each }
     where
@@ -226,7 +223,7 @@ module _ (st : List Stage) (q from top : ℕ) (know : List ℕ) where
 slot_same : (n s p k o j : ℕ) → s ≤ 64 → Inst n s p k → Inst n s o j → slot_of o j ≡ slot_of p k → (o ≡ p) × (j ≡ k)
 slot_same n s p k o j l i w e = (omega (arith, i.first, i.last, w.first, w.last), omega (arith, i.first, i.last, w.first, w.last))
 
-module _ (n s : ℕ) (h : List ℕ) (st : List Stage) (know past : List ℕ) (g : Going n s h st know past) where
+module _ (n s : ℕ) (h st know past : List ℕ) (g : Going n s h st know past) where
   pub slot-in : (p k : ℕ) → Inst n s p k → {x : ℕ} → x ≡ slot_of p k → x < length know
   slot-in p k i e = omega (arith, i.owner, i.first, i.last, g.long, g.lists.copies, g.lists.numbers)
 
@@ -265,19 +262,19 @@ module _ (n s : ℕ) (h : List ℕ) (st : List Stage) (know past : List ℕ) (g 
         go (no l) = let a = u.held (omega arith) in omega (arith, a.place, a.inst.owner, a.inst.first, a.inst.last, g.lists.copies, g.lists.numbers)
 
     -- one ahead that was not handed out holds it back
-    pub known-held : (x : ℕ) → Known n s h st p k x → (leb 2 x && not (is_out (get_or st (x - 2) Waits))) ≡ true
+    pub known-held : (x : ℕ) → Known n s h st p k x → (leb 2 x && not (eqb (get_or st (x - 2) 0) 2)) ≡ true
         → everywhere n s (lets h st p k) ≡ false
     known-held x u t =
         let a = u.held (leb-le 2 x (and_l (leb 2 x) _ t)) in
-        let d = not-not (is_out (get_or st (x - 2) Waits)) (and_r (leb 2 x) _ t) in
+        let d = not-not (eqb (get_or st (x - 2) 0) 2) (and_r (leb 2 x) _ t) in
         not-true (everywhere n s (lets h st p k))
         (λ v. tf (lets h st p k a.owner a.number)
         (every-at n s (lets h st p k) v a.owner a.number a.inst.owner a.inst.first a.inst.last)
-        (lets-in h st p k a.owner a.number a.reached ∙ rw (← a.place) (passes-not h st p k (x - 2) (out-no (get_or st (x - 2) Waits) d) a.apart)))
+        (lets-in h st p k a.owner a.number a.reached ∙ rw (← a.place) (passes-not h st p k (x - 2) (eqb-ne (get_or st (x - 2) 0) 2 d) a.apart)))
 
     module _ (r : everywhere n s (lets h st p k) ≡ true) where
       -- what is reached and was not handed out reaches back: so whoever it waits for, p.k waits for
-      ready-too : (q i : ℕ) → Inst n s q i → i ≤ mark_at h (slot_of p k) q → (get_or st (slot_of q i) Waits ≡ HandedOut → ⊥)
+      ready-too : (q i : ℕ) → Inst n s q i → i ≤ mark_at h (slot_of p k) q → (get_or st (slot_of q i) 0 ≡ 2 → ⊥)
           → everywhere n s (lets h st q i) ≡ true
       ready-too q i iq m d = every_in n s (lets h st q i) (λ o j a b c. one o j (record { owner = a; first = b; last = c }))
         where
@@ -288,9 +285,9 @@ module _ (n s : ℕ) (h : List ℕ) (st : List Stage) (know past : List ℕ) (g 
           back = passes-or h st p k (slot_of q i) (sym (lets-in h st p k q i m) ∙ let_by q i iq) d
 
           one : (o j : ℕ) → Inst n s o j → lets h st q i o j ≡ true
-          one o j io = go (dec_lt (mark_at h (slot_of q i) o) j) (dec_lt (mark_at h (slot_of o j) p) k) (out-or-not (get_or st (slot_of o j) Waits))
+          one o j io = go (dec_lt (mark_at h (slot_of q i) o) j) (dec_lt (mark_at h (slot_of o j) p) k) (ℕ_discrete (get_or st (slot_of o j) 0) 2)
             where
-              go : Dec (mark_at h (slot_of q i) o < j) → Dec (mark_at h (slot_of o j) p < k) → Dec (get_or st (slot_of o j) Waits ≡ HandedOut)
+              go : Dec (mark_at h (slot_of q i) o < j) → Dec (mark_at h (slot_of o j) p < k) → Dec (get_or st (slot_of o j) 0 ≡ 2)
                   → lets h st q i o j ≡ true
               go (yes a) b e = lets-out h st q i o j a
               go (no a) b (yes e) = lets-in h st q i o j (omega arith) ∙ passes-two h st q i (slot_of o j) e
@@ -319,11 +316,11 @@ module _ (n s : ℕ) (h : List ℕ) (st : List Stage) (know past : List ℕ) (g 
               }))
               (f.each (slot_of o j))
 
-pub ready-not : (n s : ℕ) (h : List ℕ) (st : List Stage) (p k x : ℕ) → x ≡ slot_of p k → (get_or st x Waits ≡ Settled → ⊥) → false ≡ ready_in n s h st p k
+pub ready-not : (n s : ℕ) (h st : List ℕ) (p k x : ℕ) → x ≡ slot_of p k → (get_or st x 0 ≡ 1 → ⊥) → false ≡ ready_in n s h st p k
 unfolding ready_in
-ready-not n s h st p k x e d = rw (← e, due-not (get_or st x Waits) d)
+ready-not n s h st p k x e d = rw (← e, eqb-false (get_or st x 0) 1 d)
 
-pub ready-is : (n s : ℕ) (h : List ℕ) (st : List Stage) (p k x : ℕ) → x ≡ slot_of p k → get_or st x Waits ≡ Settled → {b : Bool}
+pub ready-is : (n s : ℕ) (h st : List ℕ) (p k x : ℕ) → x ≡ slot_of p k → get_or st x 0 ≡ 1 → {b : Bool}
     → b ≡ everywhere n s (lets h st p k) → b ≡ ready_in n s h st p k
 unfolding ready_in
-ready-is n s h st p k x e d eb = eb ∙ rw (← e, due-same (get_or st x Waits) d)
+ready-is n s h st p k x e d eb = eb ∙ rw (← e, eqb_same (get_or st x 0) 1 d)

@@ -1,45 +1,24 @@
-// Which instance is handed out next. Lists hold a place for each instance: what it reaches, as seven marks, and how far it is.
-// Marks and dependencies stay, and what was handed out stays so: what is known of an instance, and how much of each row is
-// past, is kept from one call to the next.
+// Which instance is handed out next. Lists hold a place for each instance: what it reaches, as seven marks, and whether it
+// waits (0), is settled (1) or was handed out (2). Marks and dependencies stay, and what was handed out stays so: what is
+// known of an instance, and how much of each row is past, is kept from one call to the next.
 #![tactic(auto)]
 
 ghost use Rattle.std.specs.Prelude.{◌≡◌, ◌&&◌, not, ◌*◌, ◌-◌, ◌≤◌, ◌<◌, max, leb, eqb, length, get_or};
 ghost use Rattle.rules.specs.Order.{everywhere};
-ghost use Rattle.next.specs.declared.Stage.TheVariants.{Waits};
-ghost use Rattle.next.specs.Slots.{is_out, is_due, lets, ready_in, next_in, none_at, passes_at, Out, Low, Past, Going, Asking};
+ghost use Rattle.next.specs.Slots.{lets, ready_in, next_in, none_at, passes_at, Out, Low, Past, Going, Asking};
 ghost use Rattle.next.specs.Slots.{Seeking, Span, Sought, Held, Freed, Resuming, Freeing};
 
 use rows::{mark_at, slot_of};
 use rules::Instance;
 
-// How far an instance is: it waits, or is settled and not handed out, or was handed out.
-#[derive(Clone, Copy, Debug, PartialEq, Eq)]
-pub enum Stage {
-    Waits,
-    Settled,
-    HandedOut,
-}
-
-fn is_out(x: Stage) -> bool
-    ensures { result ≡ is_out x }
-{
-    matches!(x, Stage::HandedOut)
-}
-
-fn is_due(x: Stage) -> bool
-    ensures { result ≡ is_due x }
-{
-    matches!(x, Stage::Settled)
-}
-
 // How much of owner q's row was handed out, where so much was before.
-fn row_past(s: usize, st: &[Stage], q: usize, from: usize) -> usize
+fn row_past(s: usize, st: &[u8], q: usize, from: usize) -> usize
     requires { (s ≤ 64) × (q < 7) × (length st.now ≡ 448) × Out s st.now q from }
     ensures { Out s st.now q result }
 {
     let base = 64 * q;
     for i in from..s {
-        if !is_out(st[base + i]) {
+        if st[base + i] != 2 {
             return i;
         }
     }
@@ -47,13 +26,13 @@ fn row_past(s: usize, st: &[Stage], q: usize, from: usize) -> usize
 }
 
 // None of number j is settled and was not handed out.
-fn none_at(n: usize, st: &[Stage], j: usize) -> bool
+fn none_at(n: usize, st: &[u8], j: usize) -> bool
     requires { (n ≤ 7) × (1 ≤ j) × (j ≤ 64) × (length st.now ≡ 448) }
     ensures { result ≡ none_at n st.now j }
 {
     for o in 0..n {
         let y = slot_of(o, j);
-        if is_due(st[y]) {
+        if st[y] == 1 {
             return false;
         }
     }
@@ -61,7 +40,7 @@ fn none_at(n: usize, st: &[Stage], j: usize) -> bool
 }
 
 // Of how many numbers, where of so many before.
-fn low_past(n: usize, s: usize, st: &[Stage], from: usize) -> usize
+fn low_past(n: usize, s: usize, st: &[u8], from: usize) -> usize
     requires { (n ≤ 7) × (s ≤ 64) × (length st.now ≡ 448) × Low n s st.now from }
     ensures { Low n s st.now result }
 {
@@ -73,7 +52,7 @@ fn low_past(n: usize, s: usize, st: &[Stage], from: usize) -> usize
     s
 }
 
-fn pass_rows(n: usize, s: usize, st: &[Stage], past: &mut [u8])
+fn pass_rows(n: usize, s: usize, st: &[u8], past: &mut [u8])
     requires { Past n s st.now past.old }
     ensures { Past n s st.now past.new }
 {
@@ -84,7 +63,7 @@ fn pass_rows(n: usize, s: usize, st: &[Stage], past: &mut [u8])
 }
 
 // Passes what need not be looked at again; gives the first number that is left.
-fn pass_all(n: usize, s: usize, st: &[Stage], past: &mut [u8]) -> usize
+fn pass_all(n: usize, s: usize, st: &[u8], past: &mut [u8]) -> usize
     requires { Past n s st.now past.old }
     ensures kept { Past n s st.now past.new }
     ensures low { Low n s st.now result }
@@ -97,17 +76,17 @@ fn pass_all(n: usize, s: usize, st: &[Stage], past: &mut [u8]) -> usize
 
 // The one at a place was handed out, or reaches p.k.
 #[tactic(auto, unfolding(crate::specs::Slots::passes_at))]
-fn passes_at(h: &[u8], st: &[Stage], p: usize, k: usize, y: usize) -> bool
+fn passes_at(h: &[u8], st: &[u8], p: usize, k: usize, y: usize) -> bool
     requires { (length h.now ≡ 6272) × (length st.now ≡ 448) × (p < 7) × (y < 448) }
     ensures { result ≡ passes_at h.now st.now p k y }
 {
-    is_out(st[y]) || k <= mark_at(h, y, p)
+    st[y] == 2 || k <= mark_at(h, y, p)
 }
 
 // The place of the first in owner q's row, past `from` and up to `top`, that does not.
 fn row_holder(
     h: &[u8],
-    st: &[Stage],
+    st: &[u8],
     p: usize,
     k: usize,
     q: usize,
@@ -140,7 +119,7 @@ fn holder(
     n: usize,
     s: usize,
     h: &[u8],
-    st: &[Stage],
+    st: &[u8],
     past: &[u8],
     p: usize,
     k: usize,
@@ -161,30 +140,21 @@ fn holder(
     None
 }
 
-fn free_row(st: &[Stage], know: &mut [u16], q: usize, from: usize, top: usize)
+fn free_row(st: &[u8], know: &mut [u16], q: usize, from: usize, top: usize)
     requires { (length st.now ≡ 448) × (length know.old ≡ 448) × (q < 7) × (top ≤ 64) }
     ensures { Freed st.now q from top know.old know.new }
 {
     let base = 64 * q;
     for i in from..top {
         let y = base + i;
-        if !is_out(st[y]) {
+        if st[y] != 2 {
             know[y] = 1;
         }
     }
 }
 
 // All let p.k out. What it reaches and was not handed out reaches it back, so all let that out too.
-fn free(
-    n: usize,
-    s: usize,
-    h: &[u8],
-    st: &[Stage],
-    know: &mut [u16],
-    past: &[u8],
-    p: usize,
-    k: usize,
-)
+fn free(n: usize, s: usize, h: &[u8], st: &[u8], know: &mut [u16], past: &[u8], p: usize, k: usize)
     requires { Freeing n s h.now st.now know.old past.now p k }
     ensures { Going n s h.now st.now know.new past.now }
 {
@@ -200,7 +170,7 @@ fn ask(
     n: usize,
     s: usize,
     h: &[u8],
-    st: &[Stage],
+    st: &[u8],
     know: &mut [u16],
     past: &[u8],
     p: usize,
@@ -229,11 +199,11 @@ fn place_in(seen: usize) -> usize
 }
 
 // What is known names a place, and the one there was not handed out.
-fn is_held(st: &[Stage], seen: usize) -> bool
+fn is_held(st: &[u8], seen: usize) -> bool
     requires { (length st.now ≡ 448) × (seen < 450) }
-    ensures { result ≡ (leb 2 seen && not (is_out (get_or st.now (seen - 2) Waits))) }
+    ensures { result ≡ (leb 2 seen && not (eqb (get_or st.now (seen - 2) 0) 2)) }
 {
-    2 <= seen && !is_out(st[seen - 2])
+    2 <= seen && st[seen - 2] != 2
 }
 
 // p.k is settled, was not handed out, and all let it out. One that was held back is asked again where it was, once that one was
@@ -242,7 +212,7 @@ fn ready_in(
     n: usize,
     s: usize,
     h: &[u8],
-    st: &[Stage],
+    st: &[u8],
     know: &mut [u16],
     past: &[u8],
     p: usize,
@@ -253,7 +223,7 @@ fn ready_in(
     ensures kept { Going n s h.now st.now know.new past.now }
 {
     let x = slot_of(p, k);
-    if !is_due(st[x]) {
+    if st[x] != 1 {
         return false;
     }
     let seen = usize::from(know[x]);
@@ -271,7 +241,7 @@ pub fn next_in(
     n: usize,
     s: usize,
     h: &[u8],
-    st: &[Stage],
+    st: &[u8],
     know: &mut [u16],
     past: &mut [u8],
 ) -> Option<Instance>

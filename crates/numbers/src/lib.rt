@@ -1,4 +1,4 @@
-// Little-endian numbers, and bytes as they are, in lent bytes at an offset. A number is read as one sum over its bytes: the compiler makes one load of it.
+// Little-endian numbers, and bytes as they are, in lent bytes at an offset. A number is read from its bytes at once: the compiler makes one load of it.
 #![tactic(auto)]
 
 ghost use Rattle.std.specs.Prelude.{ℕ, ◌≡◌, ◌+◌, ◌≤◌, length};

@@ -17,8 +17,6 @@ use Rattle.seen.specs.Records.{records_in}
 use Rattle.reach.specs.High.{Inst}
 use Rattle.rows.specs.Rows.{marks_at, mark_at}
 use Rattle.sweep.specs.Sweeping.{Sized, Charting, Charted}
-use Rattle.next.specs.declared.Stage.{Stage}
-use Rattle.next.specs.declared.Stage.TheVariants.{Waits}
 use Rattle.next.specs.Slots.{Past, Known}
 use Rattle.table.specs.Table.{Judged}
 use Rattle.order.specs.States.{Stating, Stated, Listing}
@@ -34,7 +32,7 @@ no-marks k x i = ap (λ (r : List ℕ). get_or r i 0) row ∙ no-mark 7 i
     row : marks_at (replicate k 0) x ≡ replicate 7 0
     row = simp no-mark
 
-no-past : (n s k : ℕ) (st : List Stage) → n ≤ 7 → s ≤ 64 → length st ≡ 448 → k ≡ 8 → Past n s st (replicate k 0)
+no-past : (n s k : ℕ) (st : List ℕ) → n ≤ 7 → s ≤ 64 → length st ≡ 448 → k ≡ 8 → Past n s st (replicate k 0)
 no-past n s k st ln ls lt e = record {
   copies = ln;
   numbers = ls;
@@ -44,7 +42,7 @@ no-past n s k st ln ls lt e = record {
   low = rw (no-mark k 7) (record { few = omega arith; each = λ j a b. absurd (omega arith) });
 }
 
-none-known : (n s k : ℕ) (h : List ℕ) (st : List Stage) (p j x : ℕ) → Known n s h st p j (get_or (replicate k 0) x 0)
+none-known : (n s k : ℕ) (h st : List ℕ) (p j x : ℕ) → Known n s h st p j (get_or (replicate k 0) x 0)
 none-known n s k h st p j x = rw (no-mark k x) (record { ready = λ e. absurd (omega arith); held = λ l. absurd (omega arith); below = λ o i a l. absurd (omega arith) })
 
 module _ (n s c : ℕ) (t : List ℕ) (g : Judged n s c t) where
@@ -56,13 +54,13 @@ module _ (n s c : ℕ) (t : List ℕ) (g : Judged n s c t) where
   pub charting : (k m : ℕ) → k ≡ 6272 → m ≡ 6272 → Charting n s t (replicate k 0) (replicate m 0)
   charting k m e f = record { sized = sized; rows = length-replicate k 0 ∙ e; long = length-replicate m 0 ∙ f; blank = no-marks k }
 
-  pub stating : (k : ℕ) → k ≡ 448 → (h : List ℕ) → Charted n s (records_in s t) h → Stating n s t h (replicate k Waits)
-  stating k e h a = record { sized = sized; charted = a; long = length-replicate k Waits ∙ e }
+  pub stating : (k : ℕ) → k ≡ 448 → (h : List ℕ) → Charted n s (records_in s t) h → Stating n s t h (replicate k 0)
+  stating k e h a = record { sized = sized; charted = a; long = length-replicate k 0 ∙ e }
 
   whole : Bytes t → (o j : ℕ) → Inst n s o j → Whole s t o j
   whole byte o j i = record-whole n s c t (record { bytes = byte; setup = g.setup; sound = g.sound }) o j (passed-names n s c t g o j i)
 
-  pub listing : Bytes t → (k m : ℕ) → k ≡ 448 → m ≡ 8 → (h : List ℕ) (st : List Stage) → Charted n s (records_in s t) h
+  pub listing : Bytes t → (k m : ℕ) → k ≡ 448 → m ≡ 8 → (h st : List ℕ) → Charted n s (records_in s t) h
       → Stated n s (records_in s t) st
       → Listing n s t h st (replicate k 0) (replicate m 0)
   listing byte k m e f h st a d = record {

@@ -21,15 +21,13 @@ use Rattle.reach.proofs.First.{first-same, every-same, first_passes}
 use Rattle.reach.proofs.Same.{hand_out-same}
 use Rattle.rows.specs.Rows.{slot_of, mark_at}
 use Rattle.sweep.specs.Sweeping.{Charted}
-use Rattle.next.specs.declared.Stage.{Stage}
-use Rattle.next.specs.declared.Stage.TheVariants.{HandedOut}
 use Rattle.next.specs.Slots.{lets, ready_in, next_in, Going}
 use Rattle.order.specs.Calls.{marked_in, handed_table, handed_codes}
 use Rattle.order.specs.States.{Stated, Listing}
 use Rattle.order.proofs.Marked.{alike, listing-on}
 
 -- the lists' next one out is the rules'
-module _ (n s : ℕ) (u : Records) (h : List ℕ) (st : List Stage) (c : Charted n s u h) (d : Stated n s u st) where
+module _ (n s : ℕ) (u : Records) (h st : List ℕ) (c : Charted n s u h) (d : Stated n s u st) where
   -- neither side asks where an instance meets itself
   unasked : (a b : Bool) → implies (a && not a) b ≡ true
   unasked true b = refl
@@ -92,14 +90,14 @@ table-one : (room room' n s : ℕ) (t : List ℕ) (o j : ℕ) → room ≡ suc r
 unfolding handed_table
 table-one room room' n s t o j e f = rw (e, f)
 
-codes-one : (room room' n s : ℕ) (t h : List ℕ) (st : List Stage) (know past : List ℕ) (o j : ℕ) → Listing n s t h st know past → Inst n s o j → room ≡ suc room' → next_out n s (records_in s t) ≡ Some (instance o j)
+codes-one : (room room' n s : ℕ) (t h st know past : List ℕ) (o j : ℕ) → Listing n s t h st know past → Inst n s o j → room ≡ suc room' → next_out n s (records_in s t) ≡ Some (instance o j)
     → handed_codes room n s t ≡ code_of o j ∷ handed_codes room' n s (marked_in s t o j)
 unfolding handed_codes hand_out
 codes-one room room' n s t h st know past o j g i e f =
     rw (e, f, hand_out-same room' n s (mark (records_in s t) o j) (records_in s (marked_in s t o j)) (alike n s t h st know past g o j i))
 
 -- `count` codes are listed, and their instances are marked in t
-pub record Listed (n s : ℕ) (t₀ list₀ h t : List ℕ) (st : List Stage) (know past list : List ℕ) (count : ℕ) : Type 0 where
+pub record Listed (n s : ℕ) (t₀ list₀ h t st know past list : List ℕ) (count : ℕ) : Type 0 where
   pub listing : Listing n s t h st know past
   pub long : length list ≡ length list₀
   pub within : count ≤ length list₀
@@ -113,12 +111,12 @@ Left n s t₀ list₀ count t list =
     (count ≡ length (handed_codes (length list₀) n s t₀))
     × ((t ≡ handed_table (length list₀) n s t₀) × (list ≡ splice list₀ 0 (handed_codes (length list₀) n s t₀)))
 
-pub listed_start : (n s : ℕ) (t h : List ℕ) (st : List Stage) (know past list : List ℕ) → Listing n s t h st know past → Listed n s t list h t st know past list 0
+pub listed_start : (n s : ℕ) (t h st know past list : List ℕ) → Listing n s t h st know past → Listed n s t list h t st know past list 0
 listed_start n s t h st know past list g =
     let e : length list - 0 ≡ length list = omega arith in
     record { listing = g; long = refl; within = omega arith; codes = rw e; table = rw e; rest = refl }
 
-module _ (n s : ℕ) (t₀ list₀ h t : List ℕ) (st : List Stage) (know past list : List ℕ) (count : ℕ) (l : Listed n s t₀ list₀ h t st know past list count) where
+module _ (n s : ℕ) (t₀ list₀ h t st know past list : List ℕ) (count : ℕ) (l : Listed n s t₀ list₀ h t st know past list count) where
   found-is : next_in n s h st ≡ next_out n s (records_in s t)
   found-is = next-is n s (records_in s t) h st l.listing.charted l.listing.stated
 
@@ -128,7 +126,7 @@ module _ (n s : ℕ) (t₀ list₀ h t : List ℕ) (st : List Stage) (know past 
   found-inst o j e = (first_passes n s (candidate n s (records_in s t)) o j (sym (e ∙ found-is))).0
 
   pub listed-on : (o j x code : ℕ) (t₁ know₁ past₁ : List ℕ) → Some (instance o j) ≡ next_in n s h st → count < length list₀ → x ≡ slot_of o j → Going n s h st know₁ past₁ → t₁ ≡ marked_in s t o j
-      → code ≡ code_of o j → Listed n s t₀ list₀ h t₁ (set st x HandedOut) know₁ past₁ (set list count code) (count + 1)
+      → code ≡ code_of o j → Listed n s t₀ list₀ h t₁ (set st x 2) know₁ past₁ (set list count code) (count + 1)
   listed-on o j x code t₁ know₁ past₁ e r₀ ex f et ec =
       let i = found-inst o j e in
       let z : next_out n s (records_in s t) ≡ Some (instance o j) = sym (e ∙ found-is) in

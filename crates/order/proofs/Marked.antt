@@ -21,14 +21,12 @@ use Rattle.reach.proofs.Tests.{and_l, and_r, eqb-eq, eqb_same, not-true}
 use Rattle.reach.proofs.Same.{reaches_same, settled_same}
 use Rattle.rows.specs.Rows.{slot_of}
 use Rattle.sweep.specs.Sweeping.{Charted}
-use Rattle.next.specs.declared.Stage.{Stage}
-use Rattle.next.specs.declared.Stage.TheVariants.{Waits, HandedOut}
 use Rattle.next.specs.Slots.{Going}
 use Rattle.next.proofs.Still.{going-still}
 use Rattle.order.specs.Calls.{marked_in}
 use Rattle.order.specs.States.{State, Listing}
 
-module _ (n s : ℕ) (t h : List ℕ) (st : List Stage) (know past : List ℕ) (g : Listing n s t h st know past) (o j : ℕ) (io : Inst n s o j) where
+module _ (n s : ℕ) (t h st know past : List ℕ) (g : Listing n s t h st know past) (o j : ℕ) (io : Inst n s o j) where
   names : (p k : ℕ) → Inst n s p k → Names n s p k
   names p k i = record { copies = g.going.lists.copies; numbers = g.going.lists.numbers; owner = i.owner; first = i.first; last = i.last }
 
@@ -85,17 +83,17 @@ module _ (n s : ℕ) (t h : List ℕ) (st : List Stage) (know past : List ℕ) (
     inside : x < length st
     inside = omega (arith, g.stated.long, io.owner, io.first, io.last, g.going.lists.copies, g.going.lists.numbers)
 
-    at_own : (p k : ℕ) → (o ≡ p) × (j ≡ k) → get_or (set st x HandedOut) (slot_of p k) Waits ≡ HandedOut
-    at_own p k w = rw (← w.0, ← w.1, ← ex) (get_or-set_same st x HandedOut Waits inside)
+    at_own : (p k : ℕ) → (o ≡ p) × (j ≡ k) → get_or (set st x 2) (slot_of p k) 0 ≡ 2
+    at_own p k w = rw (← w.0, ← w.1, ← ex) (get_or-set_same st x 2 0 inside)
 
-    at_other : (p k : ℕ) → Inst n s p k → ((o ≡ p) × (j ≡ k) → ⊥) → get_or (set st x HandedOut) (slot_of p k) Waits ≡ get_or st (slot_of p k) Waits
-    at_other p k i d = get_or-set_other st x (slot_of p k) HandedOut Waits
+    at_other : (p k : ℕ) → Inst n s p k → ((o ≡ p) × (j ≡ k) → ⊥) → get_or (set st x 2) (slot_of p k) 0 ≡ get_or st (slot_of p k) 0
+    at_other p k i d = get_or-set_other st x (slot_of p k) 2 0
         (λ e.
         let a : o ≡ p = omega (arith, io.first, io.last, i.first, i.last, g.going.lists.numbers) in
         let b : j ≡ k = omega (arith, io.first, io.last, i.first, i.last, g.going.lists.numbers) in
         d (a, b))
 
-    state : (p k : ℕ) → Inst n s p k → State n s (records_in s (marked_in s t o j)) p k (get_or (set st x HandedOut) (slot_of p k) Waits)
+    state : (p k : ℕ) → Inst n s p k → State n s (records_in s (marked_in s t o j)) p k (get_or (set st x 2) (slot_of p k) 0)
     state p k i = by p k
         (λ w. let m : is_marked (records_in s (marked_in s t o j) p k) ≡ true = rw (← w.0, ← w.1, own) in
         rw (at_own p k w) (record { out = sym m; ready = rw m (none (is_settled n s (records_in s (marked_in s t o j)) p k)) }))
@@ -115,12 +113,12 @@ module _ (n s : ℕ) (t h : List ℕ) (st : List Stage) (know past : List ℕ) (
         (λ w. rw (← w.0, ← w.1) (whole-mark n s t o j has (g.whole o j io)))
         (λ d. whole-other n s t o j has (g.whole o j io) p k (names p k i) d (g.whole p k i))
 
-    pub listing-on : (know₁ past₁ : List ℕ) → Going n s h st know₁ past₁ → Listing n s (marked_in s t o j) h (set st x HandedOut) know₁ past₁
+    pub listing-on : (know₁ past₁ : List ℕ) → Going n s h st know₁ past₁ → Listing n s (marked_in s t o j) h (set st x 2) know₁ past₁
     unfolding marked_in
     listing-on know₁ past₁ f = record {
       long = put-long n s t g.long o j (names o j io) (marked (record_in s t o j)) seven ∙ g.long;
       charted = charted;
-      stated = record { long = length-set st x HandedOut ∙ g.stated.long; each = state };
+      stated = record { long = length-set st x 2 ∙ g.stated.long; each = state };
       going = going-still st x inside n s h know₁ past₁ f;
       whole = whole;
     }

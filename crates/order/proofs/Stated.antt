@@ -21,8 +21,6 @@ use Rattle.reach.proofs.Tests.{tf, bool, and_l, and_r, not-true, not-not, eqb-eq
 use Rattle.reach.proofs.Instances.{all_in, every-at, every_in}
 use Rattle.rows.specs.Rows.{slot_of, mark_at, Within}
 use Rattle.sweep.specs.Sweeping.{Sized, Row}
-use Rattle.next.specs.declared.Stage.{Stage}
-use Rattle.next.specs.declared.Stage.TheVariants.{Waits, Settled, HandedOut}
 use Rattle.order.specs.States.{Prefix, Prefixes, behind_none, State, States, Stated, Asking}
 
 sized-names : (n s : ℕ) (t : List ℕ) → Sized n s t → (o j : ℕ) → Inst n s o j → Names n s o j
@@ -154,14 +152,14 @@ module _ (n s : ℕ) (t h lead : List ℕ) (p k : ℕ) (a : Asking n s t h lead 
   row : Row n s (records_in s t) h p k
   row = a.seen.charted.each p k a.inst
 
-  pub state-out : is_marked (records_in s t p k) ≡ true → State n s (records_in s t) p k HandedOut
+  pub state-out : is_marked (records_in s t p k) ≡ true → State n s (records_in s t) p k 2
   state-out m = record { out = sym m; ready = rw m (none (is_settled n s (records_in s t) p k)) }
 
-  state-waits : is_marked (records_in s t p k) ≡ false → is_settled n s (records_in s t) p k ≡ false → State n s (records_in s t) p k Waits
+  state-waits : is_marked (records_in s t p k) ≡ false → is_settled n s (records_in s t) p k ≡ false → State n s (records_in s t) p k 0
   state-waits m e = record { out = sym m; ready = rw (m, e) }
 
   pub state-open : is_marked (records_in s t p k) ≡ false → is_committed (records_in s t p k) ≡ false
-      → State n s (records_in s t) p k Waits
+      → State n s (records_in s t) p k 0
   state-open m c = state-waits m (open-itself n s (records_in s t) h p k a.inst row c)
 
   module _ (x : ℕ) (ex : x ≡ slot_of p k) where
@@ -169,17 +167,17 @@ module _ (n s : ℕ) (t h lead : List ℕ) (p k : ℕ) (a : Asking n s t h lead 
     state-place l = record { long = a.seen.charted.long; place = l }
 
     pub state-settled : is_marked (records_in s t p k) ≡ false → is_committed (records_in s t p k) ≡ true
-        → behind_none n h x lead ≡ true → State n s (records_in s t) p k Settled
+        → behind_none n h x lead ≡ true → State n s (records_in s t) p k 1
     state-settled m c e = record { out = sym m; ready = rw (m, settled-all n s (records_in s t) h p k a.inst row lead a.seen.prefixes c (rw ex at e)) }
 
-    pub state-behind : is_marked (records_in s t p k) ≡ false → behind_none n h x lead ≡ false → State n s (records_in s t) p k Waits
+    pub state-behind : is_marked (records_in s t p k) ≡ false → behind_none n h x lead ≡ false → State n s (records_in s t) p k 0
     state-behind m e = state-waits m (open-behind n s (records_in s t) h p k a.inst row lead a.seen.prefixes (rw ex at e))
 
 -- place by place
-pub states-start : (n s : ℕ) (u : Records) (st : List Stage) → length st ≡ 448 → States n s u (64 * 0) st
+pub states-start : (n s : ℕ) (u : Records) (st : List ℕ) → length st ≡ 448 → States n s u (64 * 0) st
 states-start n s u st l = record { long = l; done = λ p k i e. absurd (omega arith) }
 
-module _ (n s : ℕ) (u : Records) (st : List Stage) where
+module _ (n s : ℕ) (u : Records) (st : List ℕ) where
   pub states-first : (o : ℕ) → States n s u (64 * o) st → States n s u (64 * o + (1 - 1)) st
   states-first o c = record { long = c.long; done = λ p k i e. c.done p k i (omega arith) }
 
@@ -187,21 +185,21 @@ module _ (n s : ℕ) (u : Records) (st : List Stage) where
   pub states-row : (o j : ℕ) → s ≤ 64 → States n s u (64 * o + (j - 1)) st → s < j → States n s u (64 * (o + 1)) st
   states-row o j l c m = record { long = c.long; done = λ p k i e. c.done p k i (omega (arith, i.first, i.last)) }
 
-  pub states-more : (o j x : ℕ) (v : Stage) → n ≤ 7 → s ≤ 64 → Inst n s o j → x ≡ slot_of o j → States n s u (64 * o + (j - 1)) st
+  pub states-more : (o j x v : ℕ) → n ≤ 7 → s ≤ 64 → Inst n s o j → x ≡ slot_of o j → States n s u (64 * o + (j - 1)) st
       → State n s u o j v
       → States n s u (64 * o + (j + 1 - 1)) (set st x v)
   states-more o j x v ln ls io ex c w = record { long = length-set st x v ∙ c.long; done = done }
     where
-      done : (p k : ℕ) → Inst n s p k → slot_of p k < 64 * o + (j + 1 - 1) → State n s u p k (get_or (set st x v) (slot_of p k) Waits)
+      done : (p k : ℕ) → Inst n s p k → slot_of p k < 64 * o + (j + 1 - 1) → State n s u p k (get_or (set st x v) (slot_of p k) 0)
       done p k i e = go (ℕ_discrete (slot_of p k) x)
         where
-          go : Dec (slot_of p k ≡ x) → State n s u p k (get_or (set st x v) (slot_of p k) Waits)
+          go : Dec (slot_of p k ≡ x) → State n s u p k (get_or (set st x v) (slot_of p k) 0)
           go (yes y) =
               let a : p ≡ o = omega (arith, i.first, i.last, io.first, io.last) in
               let b : k ≡ j = omega (arith, i.first, i.last, io.first, io.last) in
-              let q : get_or (set st x v) (slot_of p k) Waits ≡ v = rw y (get_or-set_same st x v Waits (omega (arith, c.long, io.owner, io.first, io.last))) in
+              let q : get_or (set st x v) (slot_of p k) 0 ≡ v = rw y (get_or-set_same st x v 0 (omega (arith, c.long, io.owner, io.first, io.last))) in
               rw (q, a, b) w
-          go (no y) = rw (get_or-set_other st x (slot_of p k) v Waits y) (c.done p k i (omega (arith, io.first)))
+          go (no y) = rw (get_or-set_other st x (slot_of p k) v 0 y) (c.done p k i (omega (arith, io.first)))
 
   pub states-all : (o : ℕ) → s ≤ 64 → States n s u (64 * o) st → n ≤ o → Stated n s u st
   states-all o l c e = record { long = c.long; each = λ p k i. c.done p k i (omega (arith, i.owner, i.last, i.first)) }

@@ -7,7 +7,7 @@ ghost use Rattle.order.specs.Calls.{marked_in, handed_table, handed_codes, hande
 
 use crate::codes::code_of;
 use crate::states::settle_all;
-use next::{Stage, next_in};
+use next::next_in;
 use paper::Refusal;
 use rows::slot_of;
 use sweep::reach_all;
@@ -28,7 +28,7 @@ fn list_all(
     n: usize,
     s: usize,
     h: &[u8],
-    st: &mut [Stage],
+    st: &mut [u8],
     know: &mut [u16],
     past: &mut [u8],
     list: &mut [u16],
@@ -44,7 +44,7 @@ fn list_all(
             return count;
         };
         let x = slot_of(next.owner, next.number);
-        st[x] = Stage::HandedOut;
+        st[x] = 2;
         marked_in(&mut *t, n, s, next.owner, next.number);
         list[count] = code_of(next.owner, next.number);
     }
@@ -67,7 +67,7 @@ fn hand_out_open(
     let mut g = [0u8; 6272];
     let mut h = [0u8; 6272];
     reach_all(&*t, n, s, &mut g, &mut h);
-    let mut st = [Stage::Waits; 448];
+    let mut st = [0u8; 448];
     settle_all(&*t, n, s, &h, &mut st);
     let mut know = [0u16; 448];
     let mut past = [0u8; 8];

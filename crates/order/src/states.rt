@@ -7,7 +7,6 @@ ghost use Rattle.rows.specs.Rows.{Within};
 ghost use Rattle.sweep.specs.Sweeping.{Sized};
 ghost use Rattle.order.specs.States.{Prefix, Prefixes, behind_none, Asking, Stating, RowStating, State, States, Stated};
 
-use next::Stage;
 use rows::{mark_at, slot_of};
 use search::committed_of;
 use table::records::mark_of;
@@ -56,24 +55,24 @@ fn marked_of(t: &[u8], n: usize, s: usize, p: usize, k: usize) -> bool
     mark_of(t, n, s, p, k) == 1
 }
 
-// How far p.k is.
-fn state_of(t: &[u8], n: usize, s: usize, h: &[u8], lead: &[u8], p: usize, k: usize) -> Stage
+// 0 waits, 1 settled, 2 handed out.
+fn state_of(t: &[u8], n: usize, s: usize, h: &[u8], lead: &[u8], p: usize, k: usize) -> u8
     requires { Asking n s t.now h.now lead.now p k }
     ensures { State n s (records_in s t.now) p k result }
 {
     if marked_of(t, n, s, p, k) {
-        return Stage::HandedOut;
+        return 2;
     }
     if !committed_of(t, n, s, p, k) {
-        return Stage::Waits;
+        return 0;
     }
     if behind_none(n, h, slot_of(p, k), lead) {
-        return Stage::Settled;
+        return 1;
     }
-    Stage::Waits
+    0
 }
 
-fn settle_row(t: &[u8], n: usize, s: usize, h: &[u8], lead: &[u8], st: &mut [Stage], o: usize)
+fn settle_row(t: &[u8], n: usize, s: usize, h: &[u8], lead: &[u8], st: &mut [u8], o: usize)
     requires { RowStating n s t.now h.now lead.now st.old o }
     ensures { States n s (records_in s t.now) (64 * (o + 1)) st.new }
 {
@@ -83,7 +82,7 @@ fn settle_row(t: &[u8], n: usize, s: usize, h: &[u8], lead: &[u8], st: &mut [Sta
     }
 }
 
-fn settle_rows(t: &[u8], n: usize, s: usize, h: &[u8], lead: &[u8], st: &mut [Stage])
+fn settle_rows(t: &[u8], n: usize, s: usize, h: &[u8], lead: &[u8], st: &mut [u8])
     requires { Stating n s t.now h.now st.old × Prefixes n s (records_in s t.now) lead.now }
     ensures { Stated n s (records_in s t.now) st.new }
 {
@@ -92,7 +91,7 @@ fn settle_rows(t: &[u8], n: usize, s: usize, h: &[u8], lead: &[u8], st: &mut [St
     }
 }
 
-pub fn settle_all(t: &[u8], n: usize, s: usize, h: &[u8], st: &mut [Stage])
+pub fn settle_all(t: &[u8], n: usize, s: usize, h: &[u8], st: &mut [u8])
     requires { Stating n s t.now h.now st.old }
     ensures { Stated n s (records_in s t.now) st.new }
 {

@@ -122,7 +122,7 @@ fn deps_ok_in(b: &[u8], n: usize, s: usize) -> bool
     deps_ok(n, s, d)
 }
 
-// What holds in any phase of all that stands before the phase. Each field is read where it is asked. With `&&` for the returns a busy record was judged slower.
+// What holds in any phase of all that stands before the phase. Each field is read where it is asked. With `&&` for the returns a busy record is judged slower.
 fn front_ok(b: &[u8], n: usize, s: usize) -> bool
     requires { record_length ≤ length b.now }
     ensures { result ≡ front_ok n s b.now }

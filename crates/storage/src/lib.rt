@@ -111,7 +111,8 @@ pub struct Walked {
 
 // As many whole entries as are asked for, or there are.
 pub fn walk(b: &[u8], from: usize, most: usize) -> Walked
-    ensures { IfSome result.next (λ k. result.at + k ≤ length b.now) }
+    ensures within { result.at ≤ length b.now }
+    ensures next { IfSome result.next (λ k. result.at + k ≤ length b.now) }
 {
     let mut at = from.min(b.len());
     for count in 0..most {

@@ -159,12 +159,13 @@ pub whole-fits : (h : List ℕ) {o : Option ℕ} {n : ℕ} → o ≡ whole_lengt
 whole-fits h {o = None} e f = omega arith
 whole-fits h {o = Some k} e f = omega (arith, (whole-front h (sym e)).fits)
 
--- that message is a part of the buffer
-pub message-part : (b : List ℕ) (p : Place) {n : ℕ} → Ok tt ≡ gate_of (length b) p → whole_length (held b p) ≡ Some n → take n (drop p.at b) ≡ message_in b p
+-- that message is a part of the buffer, the empty one where none is whole
+pub message-part : (b : List ℕ) (p : Place) {n : ℕ} → Ok tt ≡ gate_of (length b) p → n ≡ unwrap_or (whole_length (held b p)) 0 → take n (drop p.at b) ≡ message_in b p
 unfolding message_in held
 message-part b p {n} g e =
-    let f = front-within b p (open-within (length b) p g) e in
-    rw (← g, e) (sym (take-take n (p.end - p.at) (drop p.at b) (omega arith)))
+    let f : n ≤ length (held b p) = whole-fits (held b p) refl e in
+    let l : length (held b p) ≡ p.end - p.at = held-length b p (open-within (length b) p g) in
+    rw (← g, ← e) (sym (take-take n (p.end - p.at) (drop p.at b) (omega arith)))
 
 pub message-front : (b : List ℕ) (p : Place) → Ok tt ≡ gate_of (length b) p → is_whole (held b p) ≡ true → message_in b p ≡ take (length_of (kind_at (held b p))) (held b p)
 unfolding message_in whole_length

@@ -12,7 +12,7 @@ use Rattle.wire.specs.Wire.{length_of, past}
 use Rattle.stream.specs.declared.place.Place.{Place}
 use Rattle.stream.specs.declared.place.Halt.TheVariants.{Stopped, Refused}
 use Rattle.stream.specs.Place.{sums, is_sum, place_ok, held, begun, gate_of}
-use Rattle.stream.specs.Stream.{is_stopped, is_whole, whole_length, room_for, unchanged, taken_open, taken, behind, yielded_open, yielded, message_in}
+use Rattle.stream.specs.Stream.{is_stopped, is_whole, whole_length, room_for, unchanged, taken_open, taken, place_after, behind, yielded_open, yielded, passed, message_in}
 use Rattle.stream.specs.Cutting.{whole_in, rest_in, uncut}
 
 abbrev at : ℕ → ℕ → ℕ → Place
@@ -69,18 +69,23 @@ rooms = (refl, refl, refl, refl, refl, refl)
 -- where the stream stands still nothing is taken, and the offset is the stream's
 pub standing : (taken buffer (at 14 20 34) (5 ∷ []) ≡ record { told = Ok (record { count = 1; place = at 0 7 34 }); buffer = replicate 6 6 ++ 5 ∷ (7 ∷ 7 ∷ 7 ∷ 1 ∷ 2 ∷ 3 ∷ 4 ∷ []) ++ replicate 50 6 })
     × (taken (0 ∷ replicate 63 1) (at 0 1 10) (1 ∷ []) ≡ unchanged (0 ∷ replicate 63 1) (Stopped 10))
+    × (place_after (at 0 1 10) (taken (0 ∷ replicate 63 1) (at 0 1 10) (1 ∷ [])).told ≡ at 0 1 10)
     × (yielded (message 4 10 7 ++ replicate 54 13) (at 10 12 34) ≡ Err (Stopped 34))
+    × (passed (message 4 10 7 ++ replicate 54 13) (at 10 12 34) ≡ at 10 12 34)
 unfolding taken taken_open yielded yielded_open gate_of place_ok is_sum sums row_of length_of past held is_stopped is_whole room_for splice
-standing = (refl, refl, refl)
+standing = (refl, refl, refl, refl, refl)
 
 -- a message that is whole to its last byte, one that is a byte short, and nothing at all
 pub yields : (yielded buffer (at 0 10 0) ≡ Ok (Some (record { length = 10; place = at 10 10 10 })))
     × (message_in buffer (at 0 10 0) ≡ message 4 10 7)
+    × (passed buffer (at 0 10 0) ≡ at 10 10 10)
     × (yielded buffer (at 0 9 0) ≡ Ok None)
+    × (passed buffer (at 0 9 0) ≡ at 0 9 0)
     × (message_in buffer (at 0 9 0) ≡ [])
     × (yielded buffer (at 10 10 20) ≡ Ok None)
+    × (passed buffer (at 10 10 20) ≡ at 10 10 20)
 unfolding yielded yielded_open message_in whole_length gate_of place_ok is_sum sums row_of length_of past held is_stopped is_whole behind
-yields = (refl, refl, refl, refl, refl)
+yields = (refl, refl, refl, refl, refl, refl, refl, refl)
 
 -- a place out of order, past the buffer, before its own offset, past all offsets, or not at a message's end; then the buffer
 pub refusals : (yielded buffer (at 10 9 20) ≡ Err (Refused Unsound))
@@ -92,9 +97,11 @@ pub refusals : (yielded buffer (at 10 9 20) ≡ Err (Refused Unsound))
     × (yielded (replicate 63 4) (at 0 64 0) ≡ Err (Refused Unsound))
     × (yielded (replicate 63 4) (at 0 63 0) ≡ Err (Refused Room))
     × (taken (replicate 63 4) (at 0 63 0) (1 ∷ []) ≡ unchanged (replicate 63 4) (Refused Room))
+    × (place_after (at 0 63 0) (taken (replicate 63 4) (at 0 63 0) (1 ∷ [])).told ≡ at 0 63 0)
     × (taken buffer (at 9 14 19) (1 ∷ []) ≡ unchanged buffer (Refused Unsound))
+    × (place_after (at 9 14 19) (taken buffer (at 9 14 19) (1 ∷ [])).told ≡ at 9 14 19)
 unfolding yielded taken gate_of place_ok is_sum sums row_of length_of past held
-refusals = (refl, refl, refl, refl, refl, refl, refl, refl, refl, refl)
+refusals = (refl, refl, refl, refl, refl, refl, refl, refl, refl, refl, refl, refl)
 
 -- the small numbers that whole messages can have together, and the last that they cannot
 pub small-sums : (is_sum 9 ≡ false) × (is_sum 10 ≡ true) × (is_sum 24 ≡ true) × (is_sum 27 ≡ false) × (is_sum 37 ≡ true) × (is_sum 41 ≡ true) × (is_sum 42 ≡ true) × (is_sum 46 ≡ true) × (is_sum 51 ≡ true) × (is_sum 73 ≡ false)

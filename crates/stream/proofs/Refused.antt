@@ -9,12 +9,12 @@ use Rattle.paper.specs.declared.Refusal.{Refusal}
 use Rattle.stream.specs.declared.place.Place.{Place}
 use Rattle.stream.specs.declared.place.Halt.{Halt}
 use Rattle.stream.specs.Place.{held, gate_of}
-use Rattle.stream.specs.Stream.{is_stopped, Filled, unchanged, taken, yielded, passed}
+use Rattle.stream.specs.Stream.{is_stopped, Filled, unchanged, taken, place_after, yielded, passed}
 use Rattle.stream.proofs.Laws.{taken-shut, taken-stopped, taken-fills}
 
 module _ (b : List ℕ) (p : Place) (r : Halt) where
-  pub take-refused : (x : List ℕ) → (taken b p x).told ≡ Err r → taken b p x ≡ unchanged b r
-  take-refused x e = go (gate_of (length b) p) (is_stopped (held b p)) refl refl
+  pub take-refused : (x : List ℕ) → (taken b p x).told ≡ Err r → (taken b p x ≡ unchanged b r) × (place_after p (taken b p x).told ≡ p)
+  take-refused x e = (go (gate_of (length b) p) (is_stopped (held b p)) refl refl, rw e)
     where
       other : {y : Filled} → taken b p x ≡ y → y.told ≡ Err r
       other q = ap (λ (z : Filled). z.told) (sym q) ∙ e

@@ -2,13 +2,12 @@ use Prim.Native.Nat.{ℕ, ◌<◌}
 use mathlib.Core.Path.{sym}
 use mathlib.Core.List.{List}
 use native.Mathlib.Omega.{arith}
-use Rattle.next.specs.declared.Stage.{Stage}
 use Rattle.next.specs.Slots.{Lists, Ahead}
 use Rattle.next.proofs.Held.{known_more, known-ahead}
 use Rattle.next.proofs.ask.Goals as goal
 
 -- the place of one ahead is a place of the lists
-ahead_small : (n s : ℕ) (h : List ℕ) (st : List Stage) (p k y : ℕ) → Lists n s h st → Ahead n s h p k y → y < 448
+ahead_small : (n s : ℕ) (h st : List ℕ) (p k y : ℕ) → Lists n s h st → Ahead n s h p k y → y < 448
 ahead_small n s h st p k y g a = omega (arith, a.place, a.inst.owner, a.inst.first, a.inst.last, g.copies, g.numbers)
 
 pub overflow_add-know : goal.overflow_add-know

@@ -1,10 +1,8 @@
-use mathlib.Core.Path.{sym, ◌∙◌}
 use mathlib.Core.Path.{refl}
 use native.Mathlib.Omega.{arith}
-use Rattle.next.proofs.Stages.{out-no}
 use Rattle.next.proofs.Held.{freed-start, freed-more}
 use Rattle.next.proofs.free_row.Goals as goal
-use Rattle.next.proofs.free_row.Goals.{then-not-is_out, else-not-is_out}
+use Rattle.next.proofs.free_row.Goals.{then-st-y-ne2, else-st-y-ne2}
 
 pub loop-i-init : goal.loop-i-init
 loop-i-init c = (omega arith, refl, freed-start _ _ _ _ _)
@@ -18,9 +16,9 @@ bounds-know-y c = omega (arith, c.loop-i.invariant.2.long)
 pub loop-i-preserved : goal.loop-i-preserved
 loop-i-preserved c =
     let l = c.loop-i.invariant in
-    elim c.if-not-is_out.branch [
-      | then-not-is_out w ↦ (omega (arith, l.0), l.1, rw w.know-is (freed-more _ _ _ _ _ _ _ _ l.2 l.0 c.loop-i-test.true (omega (arith, l.1)) (out-no _ (sym c.is_out.ensures ∙ w.if-not-is_out.true)) (omega arith)))
-      | else-not-is_out w ↦ (omega (arith, l.0), l.1, rw w.know-is l.2)
+    elim c.if-st-y-ne2.branch [
+      | then-st-y-ne2 w ↦ (omega (arith, l.0), l.1, rw w.know-is (freed-more _ _ _ _ _ _ _ _ l.2 l.0 c.loop-i-test.true (omega (arith, l.1)) w.if-st-y-ne2.true (omega arith)))
+      | else-st-y-ne2 w ↦ (omega (arith, l.0), l.1, rw w.know-is l.2)
     ]
 
 pub shape_of-know : goal.shape_of-know

@@ -1,5 +1,4 @@
 use mathlib.Core.Path.{sym, ◌∙◌}
-use Rattle.next.proofs.Stages.{due-is, due-no}
 use Rattle.next.proofs.Held.{known_at, known_small, ready-not, ready-is, known-held}
 use Rattle.next.proofs.ready_in.Goals as goal
 
@@ -11,7 +10,7 @@ returns-then-is_held c =
     let u = known_at _ _ _ _ _ _ g.going _ _ g.inst f.slot_of-x.ensures.0 w.from-seen.ensures in
     let d = sym c.is_held.ensures ∙ c.if-is_held.true in
     let e = sym (known-held _ _ _ _ _ _ g.going _ _ g.inst _ u d) in
-    record { says = ready-is _ _ _ _ _ _ _ f.slot_of-x.ensures.0 (due-is _ (sym w.is_due.ensures ∙ w.if-not-is_due.false)) e; kept = g.going }
+    record { says = ready-is _ _ _ _ _ _ _ f.slot_of-x.ensures.0 w.if-st-x-ne1.false e; kept = g.going }
 
 pub ask-requires : goal.ask-requires
 ask-requires c =
@@ -21,10 +20,10 @@ ask-requires c =
     let u = known_at _ _ _ _ _ _ g.going _ _ g.inst f.slot_of-x.ensures.0 w.from-seen.ensures in
     record { asking = g; below = rw c.place_in.ensures u.below }
 
-pub returns-then-not-is_due : goal.returns-then-not-is_due
-returns-then-not-is_due c =
+pub returns-then-st-x-ne1 : goal.returns-then-st-x-ne1
+returns-then-st-x-ne1 c =
     let f = c in
-    record { says = ready-not _ _ _ _ _ _ _ f.slot_of-x.ensures.0 (due-no _ (sym c.is_due.ensures ∙ c.if-not-is_due.true)); kept = f.requires.going }
+    record { says = ready-not _ _ _ _ _ _ _ f.slot_of-x.ensures.0 c.if-st-x-ne1.true; kept = f.requires.going }
 
 pub returns-then-seen-eq1 : goal.returns-then-seen-eq1
 returns-then-seen-eq1 c =
@@ -32,7 +31,7 @@ returns-then-seen-eq1 c =
     let f = w in
     let g = f.requires in
     let u = known_at _ _ _ _ _ _ g.going _ _ g.inst f.slot_of-x.ensures.0 w.from-seen.ensures in
-    record { says = ready-is _ _ _ _ _ _ _ f.slot_of-x.ensures.0 (due-is _ (sym w.is_due.ensures ∙ w.if-not-is_due.false)) (sym (u.ready c.if-seen-eq1.true)); kept = g.going }
+    record { says = ready-is _ _ _ _ _ _ _ f.slot_of-x.ensures.0 w.if-st-x-ne1.false (sym (u.ready c.if-seen-eq1.true)); kept = g.going }
 
 pub is_held-requires : goal.is_held-requires
 is_held-requires c =
@@ -47,4 +46,4 @@ returns c =
     let a = c in
     let w = a in
     let f = w in
-    record { says = ready-is _ _ _ _ _ _ _ f.slot_of-x.ensures.0 (due-is _ (sym w.is_due.ensures ∙ w.if-not-is_due.false)) a.ask.ensures.says; kept = a.ask.ensures.kept }
+    record { says = ready-is _ _ _ _ _ _ _ f.slot_of-x.ensures.0 w.if-st-x-ne1.false a.ask.ensures.says; kept = a.ask.ensures.kept }

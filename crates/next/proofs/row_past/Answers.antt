@@ -1,7 +1,5 @@
-use mathlib.Core.Path.{sym, ◌∙◌}
 use mathlib.Core.Path.{◌≡◌, refl}
 use native.Mathlib.Omega.{arith}
-use Rattle.next.proofs.Stages.{out-is}
 use Rattle.next.proofs.Passed.{out-more}
 use Rattle.next.proofs.row_past.Goals as goal
 
@@ -10,7 +8,7 @@ loop-i-init c = (c.requires.3, refl)
 
 pub loop-i-preserved : goal.loop-i-preserved
 loop-i-preserved c =
-    (out-more _ _ _ _ _ c.loop-i.invariant.0 c.loop-i-test.true (omega (arith, c.loop-i.invariant.1)) (out-is _ (sym c.is_out.ensures ∙ c.if-not-is_out.false)), c.loop-i.invariant.1)
+    (out-more _ _ _ _ _ c.loop-i.invariant.0 c.loop-i-test.true (omega (arith, c.loop-i.invariant.1)) c.if-st-base-ne2.false, c.loop-i.invariant.1)
 
 pub returns : goal.returns
 returns c =

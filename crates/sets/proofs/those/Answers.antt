@@ -12,6 +12,6 @@ pub loop-q-preserved : goal.loop-q-preserved
 loop-q-preserved g c =
     let q = c.loop-q.q in
     elim c.if-test.branch [
-      | then-test w ↦ (omega (arith, pow_next q), λ f h. w.set-is ∙ w.with-set.ensures ∙ place_in f q _ (sym (h q c.loop-q-test.true c.test.result c.test.ensures) ∙ w.if-test.true) (c.loop-q.invariant.1 f h))
-      | else-test w ↦ (omega (arith, pow_next q), λ f h. w.set-is ∙ place_out f q _ (sym (h q c.loop-q-test.true c.test.result c.test.ensures) ∙ w.if-test.false) (c.loop-q.invariant.1 f h))
+      | then-test w ↦ (omega (arith, pow_next q), λ f h. w.set-is ∙ w.with-set.ensures ∙ place_in f q _ (sym (h q (omega (arith, c.loop-q-test.true)) c.test.result c.test.ensures) ∙ w.if-test.true) (c.loop-q.invariant.1 f h))
+      | else-test w ↦ (omega (arith, pow_next q), λ f h. w.set-is ∙ place_out f q _ (sym (h q (omega (arith, c.loop-q-test.true)) c.test.result c.test.ensures) ∙ w.if-test.false) (c.loop-q.invariant.1 f h))
     ]

@@ -9,6 +9,6 @@ pub returns : goal.returns
 returns c =
     let a = c in
     let l = a.args.out.now in
-    let k = bytes_of 1 a.number.result in
+    let k = bytes_of 1 a.args.kind in
     let w = splice-step l 0 k 1 (bytes_of 1 a.args.o) c.put.ensures c.put-2.ensures refl (omega (arith, a.requires.0)) in
-    rw (← c.number.ensures) (splice-step l 0 (k ++ bytes_of 1 a.args.o) 2 (bytes_of 2 a.args.j) w c.put-3.ensures refl (omega (arith, a.requires.0)))
+    splice-step l 0 (k ++ bytes_of 1 a.args.o) 2 (bytes_of 2 a.args.j) w c.put-3.ensures refl (omega (arith, a.requires.0))

@@ -14,12 +14,12 @@ pub returns-then-not-part_sound : goal.returns-then-not-part_sound
 returns-then-not-part_sound c = record-unsound _ _ _ _ _ _ _ c.record_part-part.ensures (sym c.part_sound.ensures ∙ c.if-not-part_sound.true)
 
 pub write_head-requires : goal.write_head-requires
-write_head-requires c = let a = enters-small _ _ _ _ _ _ _ _ c.requires in (omega (arith, c.requires.room), a.0, a.1)
+write_head-requires c = let a = enters-small _ _ _ _ _ _ _ _ c.requires in (omega (arith, c.requires.room), omega (arith, c.number.ensures, c.from.ensures), a.0, a.1)
 
 pub put_bytes-requires : goal.put_bytes-requires
-put_bytes-requires c = record-room _ _ _ _ _ _ _ c.requires c.record_part-part.ensures c.write_head.ensures
+put_bytes-requires c = record-room _ _ _ _ _ _ _ c.requires c.record_part-part.ensures (rw (c.from.ensures, c.number.ensures) at c.write_head.ensures)
 
 pub returns : goal.returns
 returns c =
-    record-put _ _ _ _ _ _ _ c.requires c.record_part-part.ensures (sym c.part_sound.ensures ∙ c.if-not-part_sound.false) c.write_head.ensures
+    record-put _ _ _ _ _ _ _ c.requires c.record_part-part.ensures (sym c.part_sound.ensures ∙ c.if-not-part_sound.false) (rw (c.from.ensures, c.number.ensures) at c.write_head.ensures)
     c.put_bytes.ensures

@@ -6,12 +6,12 @@ use Rattle.seen.proofs.walk.row_seen.Goals as goal
 
 pub returns-then-another : goal.returns-then-another
 returns-then-another c =
-    here _ _ _ _ _ _ _ _ _ _ _ c.loop-below.invariant c.loop-below-test.true (omega arith)
+    here _ _ _ _ _ _ _ _ _ _ _ c.loop-below.invariant (omega (arith, c.loop-below-test.true)) (omega arith)
     (sym (asked _ _ _ _ _ _ _ (sym c.if-meets.true ∙ c.meets.ensures) (sym c.if-another.true ∙ c.another.ensures)))
 
 pub loop-below-preserved : goal.loop-below-preserved
 loop-below-preserved c =
-    next _ _ _ _ _ _ _ _ _ _ _ c.loop-below.invariant c.loop-below-test.true (omega arith)
+    next _ _ _ _ _ _ _ _ _ _ _ c.loop-below.invariant (omega (arith, c.loop-below-test.true)) (omega arith)
     (elim c.else-meets.branch [
       | else-meets-via-then-meets+else-another w ↦
           sym (asked _ _ _ _ _ _ _ (sym w.if-meets.true ∙ c.meets.ensures) (sym w.if-another.false ∙ w.another.ensures))
