@@ -19,8 +19,9 @@ fn arrive(all: &mut [u8], w: Scene, c: usize, m: &Parcel) -> Turn {
         return Ok(w);
     }
     let at = begin(b"  message # arrives at #: ", [m.number, c]);
-    finish(put_message(at, w.n, w.s, m.to, &m.bytes));
-    event(all, w, c, Event::Message, &m.bytes)
+    let bytes = m.bytes.as_slice();
+    finish(put_message(at, w.n, w.s, m.to, bytes));
+    event(all, w, c, Event::Message, bytes)
 }
 
 // The message at a place of the way is taken off, and reaches copy c, whoever it was sent to.

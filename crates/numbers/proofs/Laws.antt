@@ -7,7 +7,6 @@ use native.Mathlib.Numerals.{add-one}
 use native.Mathlib.Nat.{pow-succ', add-zero}
 use lib.ListN.{take-append-drop, length, get_or, take, drop, length-append, length-take, length-drop, drop_of_length-le, get_or-append}
 use lib.Seq.{paste, get_or_at, get_or-take, get_or-drop, drop-cons, ext_get_or, append_snoc, take_at, drop_at, drop-drop, length-take-le, take-add}
-use borrow.Rule.Slice.PartMut.{put_mid}
 use Rattle.numbers.specs.Num.{num_at, bytes_of, splice}
 
 pub length-bytes_of : (w x : ℕ) → length (bytes_of w x) ≡ w
@@ -54,11 +53,6 @@ bytes_of-num_at (suc w) s at b h =
 pub length-splice : (l : List ℕ) (at : ℕ) (v : List ℕ) → at + length v ≤ length l → length (splice l at v) ≡ length l
 unfolding splice
 length-splice l at v h = simp (length-append, length-take, length-drop) (omega arith)
-
--- a copy into a part of a list is a write over it
-pub put_mid-splice : (l v w : List ℕ) (at k : ℕ) → w ≡ v → k ≡ length v → put_mid at k l w ≡ splice l at v
-unfolding splice
-put_mid-splice l v w at k e h = rw (e, h, drop-drop (length v) at l, append_assoc (take at l) v (drop (at + length v) l))
 
 pub paste-splice : (l : List ℕ) (at : ℕ) (s : List ℕ) (n : ℕ) → n ≤ length s → paste l at s n ≡ splice l at (take n s)
 unfolding splice

@@ -103,5 +103,7 @@ pub fn put_bytes(s: &mut [u8], at: usize, bytes: &[u8])
     requires { at + length bytes.now ≤ length s.old }
     ensures { s.new ≡ splice s.old at bytes.now }
 {
-    s[at..at + bytes.len()].copy_from_slice(bytes);
+    for i in 0..bytes.len() {
+        s[at + i] = bytes[i];
+    }
 }

@@ -67,7 +67,7 @@ fn read_bytes(b: &[u8], w: Setup) -> Text {
 
 // C read BYTES
 pub fn read(got: &Read<Line>, w: Setup) -> Text {
-    read_bytes(&got.bytes, w)
+    read_bytes(got.bytes.as_slice(), w)
 }
 
 // The op of a number, if there is one.

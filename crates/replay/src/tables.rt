@@ -38,7 +38,7 @@ fn judge_in(t: &mut [u8], w: Setup, got: &Read<Line>) -> Text {
     let v = got.v;
     t.fill(0);
     let _ = table::blank_table(&mut *t, w.n, w.s, w.c);
-    set(&mut *t, w, v[2], v[3], v[4], &got.bytes);
+    set(&mut *t, w, v[2], v[3], v[4], got.bytes.as_slice());
     put_judging(table::judge_table(&*t, w.n, w.s, w.c))
 }
 

@@ -102,7 +102,7 @@ fn answer_of(
     let v = got.v;
     match call {
         Call::Request => event::request(v, w, t, d, room),
-        Call::Message => event::message(&got.bytes, w, t, d, room),
+        Call::Message => event::message(got.bytes.as_slice(), w, t, d, room),
         Call::Recover => event::recover(v[1], v[2], w, t, d, room),
         Call::Nudge => event::nudge(v[1], v[2], w, t, d, room),
         Call::Settled => said(asked::settled(&*t, w, v[1], v[2]), w),
@@ -134,7 +134,7 @@ fn play_in(
 
 // C poke AT BYTES
 fn poke(got: &Read<Line>, w: Told, t: &mut [u8]) -> Told {
-    write(t, got.v[1], &got.bytes);
+    write(t, got.v[1], got.bytes.as_slice());
     poked(w, got.v[0])
 }
 
@@ -190,7 +190,7 @@ fn play_read(got: &Read<Line>, w: Told, all: &mut [u8], disks: &mut [u8]) -> Tol
         Line::Way(what) => changed(w, what, v),
         Line::At(what) => play_copy(what, got, w, all, disks),
         Line::Stream => play_stream(v[0], w, all),
-        Line::Take => take_line(&got.bytes, w, part_mut(all, TABLES, w.buffer)),
+        Line::Take => take_line(got.bytes.as_slice(), w, part_mut(all, TABLES, w.buffer)),
     }
 }
 

@@ -35,7 +35,7 @@ pub enum Way {
 }
 
 // An answer, and how the calls after it are made.
-#[derive(Drop)]
+#[derive(Clone, Copy)]
 pub struct Outcome {
     pub text: Text,
     pub told: Told,

@@ -65,7 +65,7 @@ pub fn save_part(all: &mut [u8], w: Scene, c: usize, entry: &Entry, reach: usize
 }
 
 pub fn save(all: &mut [u8], w: Scene, c: usize, entry: &Entry) -> Scene {
-    save_part(all, w, c, entry, entry.len())
+    save_part(all, w, c, entry, entry.as_slice().len())
 }
 
 // The table that a replay of a copy's disk makes, and what the replay answers.

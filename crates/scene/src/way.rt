@@ -3,8 +3,8 @@
 ghost use Rattle.std.specs.Prelude.{◌≤◌};
 
 use crate::Scene;
-use arrayvec::ArrayVec;
-use text::bytes::{byte_at, front, part, part_mut, write};
+use text::bytes::{byte_at, part, part_mut, write};
+use text::held::Held;
 
 // How many messages can be on the way.
 const MOST: usize = 512;
@@ -18,11 +18,11 @@ const FRONT: usize = 5;
 pub const WAY: usize = MOST * PLACE;
 
 // A message in its bytes, the number by which the run knows it, and the copy that it goes to.
-#[derive(Drop)]
+#[derive(Clone, Copy)]
 pub struct Parcel {
     pub number: usize,
     pub to: usize,
-    pub bytes: ArrayVec<u8, PLACE>,
+    pub bytes: Held<PLACE>,
 }
 
 fn place(i: usize) -> usize
@@ -63,12 +63,13 @@ pub fn to_at(all: &[u8], i: usize) -> usize {
 
 // The message at a place, held outside the way.
 pub fn parcel_at(all: &[u8], i: usize) -> Parcel {
-    let mut bytes = ArrayVec::new();
-    let _ = bytes.try_extend_from_slice(front(message_at(all, i), PLACE));
+    let mut room = [0; PLACE];
+    let m = message_at(all, i);
+    write(&mut room, 0, m);
     Parcel {
         number: number_at(all, i),
         to: to_at(all, i),
-        bytes,
+        bytes: Held::of(room, m.len()),
     }
 }
 

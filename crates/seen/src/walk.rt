@@ -55,11 +55,14 @@ fn row_seen(t: &[u8], n: usize, s: usize, c: usize, o: usize, j: usize, w: Sough
     requires { Row n s c p t.now }
     ensures { result ≡ highest s (met (asks w) (records_in s t.now) o j noop p) }
 {
-    for below in (0..s).rev() {
-        let i = below + 1;
-        if meets(t, n, s, p, i, w) && another(o, j, p, i) {
-            return i as u16;
+    let mut left = s;
+    while 0 < left {
+        let met = meets(t, n, s, p, left, w);
+        let other = another(o, j, p, left);
+        if met && other {
+            return left as u16;
         }
+        left -= 1;
     }
     0
 }

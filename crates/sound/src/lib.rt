@@ -43,10 +43,11 @@ pub fn ballots_ok(n: usize, joined: u32, voted: u32) -> bool
 pub fn marked_ok(status: u8, mark: u8) -> bool
     ensures { result ≡ marked_ok status mark }
 {
-    if mark == 0 {
-        return status <= 4;
+    match mark {
+        0 => status <= 4,
+        1 => status == 4,
+        _ => false,
     }
-    mark == 1 && status == 4
 }
 
 #[tactic(auto, unfolding(crate::specs::Asked::phased_ok))]

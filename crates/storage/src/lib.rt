@@ -3,7 +3,6 @@
 
 ghost use Rattle.std.specs.Prelude.{◌+◌, ◌≤◌, IfSome, length};
 
-use arrayvec::ArrayVec;
 use entries::Unreplayed;
 use journal::entry::{HEAD, entry_length, kind_in};
 use journal::replaying::replay;
@@ -13,6 +12,7 @@ use order::codes::{number_of, owner_of};
 use record::places::LENGTH;
 use table::LONGEST;
 use text::bytes::{behind, front, part, write};
+use text::held::Held;
 
 // The longest entry.
 const ENTRY: usize = HEAD + LENGTH;
@@ -26,24 +26,22 @@ const MOST: usize = INSTANCES * HEAD;
 pub const DISK: usize = LONGEST + ROOM;
 
 // An entry before it is on the disk. It has no bytes where the library refuses to write it.
-pub type Entry = ArrayVec<u8, ENTRY>;
+pub type Entry = Held<ENTRY>;
 
 // The entry of an event that answered o.j.
 pub fn record_of(t: &[u8], n: usize, s: usize, c: usize, o: usize, j: usize) -> Entry {
-    let mut entry = Entry::from([0; ENTRY]);
-    let k = record_entry(t, n, s, c, entry.as_mut_slice(), o, j).unwrap_or(0);
-    entry.truncate(k);
-    entry
+    let mut room = [0; ENTRY];
+    let k = record_entry(t, n, s, c, &mut room, o, j).unwrap_or(0);
+    Entry::of(room, k)
 }
 
 // The entry of a code that was handed out.
 pub fn mark_of(t: &[u8], n: usize, s: usize, c: usize, code: u16) -> Entry {
-    let mut entry = Entry::from([0; ENTRY]);
+    let mut room = [0; ENTRY];
     let o = owner_of(code);
     let j = number_of(code);
-    let k = mark_entry(t, n, s, c, entry.as_mut_slice(), o, j).unwrap_or(0);
-    entry.truncate(k);
-    entry
+    let k = mark_entry(t, n, s, c, &mut room, o, j).unwrap_or(0);
+    Entry::of(room, k)
 }
 
 // A journal that ends here might not have room for all that a call adds.
@@ -58,12 +56,12 @@ pub fn journal_in(disk: &[u8], end: usize) -> &[u8] {
 
 // The first bytes of an entry, as many as reach the disk, behind the journal; where that ends then.
 pub fn add_part(disk: &mut [u8], end: usize, entry: &Entry, reach: usize) -> usize {
-    let k = entry.len().min(reach);
+    let bytes = front(entry.as_slice(), reach);
     if ROOM < end {
         return end;
     }
-    write(behind(disk, LONGEST), end, front(entry, k));
-    end + k
+    write(behind(disk, LONGEST), end, bytes);
+    end + bytes.len()
 }
 
 pub fn add(disk: &mut [u8], end: usize, entry: &Entry) -> usize {

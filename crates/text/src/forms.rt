@@ -2,7 +2,7 @@
 // for the end of a word and all that follows it. Each form stands in a table beside what it is called.
 ghost use Rattle.std.specs.Prelude.{◌≤◌, IfSome};
 
-use arrayvec::ArrayVec;
+use crate::held::Held;
 use std::str;
 
 // How many numbers, and how many bytes, a line may have.
@@ -12,11 +12,11 @@ pub const BYTES: usize = 300;
 
 // Which of the forms a line is; what it has for the marks, 0 for a number that the form does not ask for; and what follows
 // the space that a '*' begins with.
-#[derive(Drop)]
+#[derive(Clone, Copy)]
 pub struct Read<'a, K> {
     pub form: K,
     pub v: [usize; NUMBERS],
-    pub bytes: ArrayVec<u8, BYTES>,
+    pub bytes: Held<BYTES>,
     pub rest: &'a [u8],
     count: usize,
     left: &'a [u8],
@@ -52,7 +52,7 @@ impl<'a, K: Copy> Read<'a, K> {
         Read {
             form,
             v: [0; NUMBERS],
-            bytes: ArrayVec::new(),
+            bytes: Held::new(),
             rest: &[],
             count: 0,
             left: line,
@@ -73,7 +73,7 @@ impl<'a, K: Copy> Read<'a, K> {
     // The rest of the line is pairs of hex digits.
     fn pairs(&mut self) -> Option<()> {
         for pair in self.left.chunks(2) {
-            self.bytes.try_push(byte_of(pair)?).ok()?;
+            self.bytes.push(byte_of(pair)?)?;
         }
         self.left = &[];
         Some(())

@@ -3,5 +3,6 @@
 
 pub mod bytes;
 pub mod forms;
+pub mod held;
 pub mod lines;
 pub mod put;

@@ -43,14 +43,16 @@ impl<'a> Lines<'a> {
 
     // The next line, if there is one. The input's last line may lack its end.
     pub fn next_line(&mut self) -> Option<&[u8]> {
-        if self.end().is_none() && !self.last {
+        let mut found = self.end();
+        if found.is_none() && !self.last {
             self.read_on();
+            found = self.end();
         }
         let from = self.next;
         if from == self.held {
             return None;
         }
-        let end = self.end().unwrap_or(self.held);
+        let end = found.unwrap_or(self.held);
         self.next = self.held.min(end + 1);
         Some(&self.room[from..end])
     }

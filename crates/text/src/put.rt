@@ -1,19 +1,19 @@
 // A line that is put together, by value: each function gives the line with more behind it. What has no place is dropped.
 use crate::bytes::front;
-use arrayvec::ArrayVec;
+use crate::held::Held;
 use nouns::refusal::number_of;
 use paper::Refusal;
 
 const ROOM: usize = 4096;
 
-pub type Text = ArrayVec<u8, ROOM>;
+pub type Text = Held<ROOM>;
 
 pub fn empty() -> Text {
     Text::new()
 }
 
 pub fn put_byte(mut out: Text, b: u8) -> Text {
-    let _ = out.try_push(b);
+    let _ = out.push(b);
     out
 }
 
@@ -96,5 +96,5 @@ pub fn bad_line() -> Text {
 // Writes the line out, with its end.
 pub fn finish(out: Text) {
     let line = put_byte(out, b'\n');
-    io::write_all(1, &line);
+    io::write_all(1, line.as_slice());
 }
