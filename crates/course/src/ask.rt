@@ -65,7 +65,7 @@ fn save_marks(all: &mut [u8], w: Scene, c: usize, list: &[u16], count: usize) ->
 // What a cut leaves of a mark: so many bytes.
 fn cut_mark(all: &mut [u8], w: Scene, c: usize, code: u16, bytes: usize) -> Scene {
     let entry = mark_entry(&*all, w, c, code);
-    say_part(c, bytes, entry.len());
+    say_part(c, bytes, entry.as_slice().len());
     save_part(all, w, c, &entry, bytes)
 }
 

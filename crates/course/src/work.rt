@@ -52,7 +52,7 @@ fn cut_entry(all: &mut [u8], w: Scene, c: usize, o: usize, j: usize) -> Turn {
     let entry = record_entry(&*all, w, c, o, j);
     let reach = bytes_saved(w, c);
     say(b"  copy # is cut off before it saves #.#", [c, o, j]);
-    say_part(c, reach, entry.len());
+    say_part(c, reach, entry.as_slice().len());
     Ok(stopped(save_part(all, w, c, &entry, reach), c))
 }
 

@@ -67,11 +67,8 @@ fn play_read(got: &Read<Line>, w: Setup, t: &mut [u8]) -> Setup {
     }
 }
 
-// Plays one line; the setup that holds after it.
-fn play_line(line: &[u8], w: Setup, t: &mut [u8]) -> Setup {
-    if is_passed_over(line) {
-        return w;
-    }
+// Plays a line that is not passed over: what is read of it is cleared first.
+fn play_form(line: &[u8], w: Setup, t: &mut [u8]) -> Setup {
     match which_form(line, &FORMS) {
         Some(got) => play_read(&got, w, t),
         None => {
@@ -79,6 +76,14 @@ fn play_line(line: &[u8], w: Setup, t: &mut [u8]) -> Setup {
             w
         }
     }
+}
+
+// Plays one line; the setup that holds after it.
+fn play_line(line: &[u8], w: Setup, t: &mut [u8]) -> Setup {
+    if is_passed_over(line) {
+        return w;
+    }
+    play_form(line, w, t)
 }
 
 // A proved loop has to end, and nothing says that the input does: the lines are counted, up to a number that no run reaches.

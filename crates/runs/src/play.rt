@@ -194,10 +194,8 @@ fn play_read(got: &Read<Line>, w: Told, all: &mut [u8], disks: &mut [u8]) -> Tol
     }
 }
 
-fn play_line(line: &[u8], w: Told, all: &mut [u8], disks: &mut [u8]) -> Told {
-    if is_passed_over(line) {
-        return w;
-    }
+// Plays a line that is not passed over: what is read of it is cleared first.
+fn play_form(line: &[u8], w: Told, all: &mut [u8], disks: &mut [u8]) -> Told {
     match which_form(line, &FORMS) {
         Some(got) => play_read(&got, w, all, disks),
         None => {
@@ -205,6 +203,13 @@ fn play_line(line: &[u8], w: Told, all: &mut [u8], disks: &mut [u8]) -> Told {
             w
         }
     }
+}
+
+fn play_line(line: &[u8], w: Told, all: &mut [u8], disks: &mut [u8]) -> Told {
+    if is_passed_over(line) {
+        return w;
+    }
+    play_form(line, w, all, disks)
 }
 
 // A proved loop has to end, and nothing says that the input does: the lines are counted, up to a number that no run reaches.
