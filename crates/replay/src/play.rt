@@ -51,6 +51,15 @@ fn answer_of(call: Call, got: &Read<Line>, w: Setup, t: &mut [u8]) -> Text {
     }
 }
 
+fn play_call(call: Call, got: &Read<Line>, w: Setup, t: &mut [u8]) {
+    finish(answer_of(call, got, w, t));
+}
+
+fn refused(w: Setup) -> Setup {
+    finish(bad_line());
+    w
+}
+
 // The setup that holds after the line.
 fn play_read(got: &Read<Line>, w: Setup, t: &mut [u8]) -> Setup {
     let v = got.v;
@@ -61,7 +70,7 @@ fn play_read(got: &Read<Line>, w: Setup, t: &mut [u8]) -> Setup {
             c: 0,
         },
         Line::Call(call) => {
-            finish(answer_of(call, got, Setup { c: v[0], ..w }, t));
+            play_call(call, got, Setup { c: v[0], ..w }, t);
             w
         }
     }
@@ -71,10 +80,7 @@ fn play_read(got: &Read<Line>, w: Setup, t: &mut [u8]) -> Setup {
 fn play_form(line: &[u8], w: Setup, t: &mut [u8]) -> Setup {
     match which_form(line, &FORMS) {
         Some(got) => play_read(&got, w, t),
-        None => {
-            finish(bad_line());
-            w
-        }
+        None => refused(w),
     }
 }
 

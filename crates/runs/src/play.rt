@@ -84,6 +84,11 @@ fn blank_all(all: &mut [u8], w: Told) {
     }
 }
 
+fn refused(w: Told) -> Told {
+    finish(bad_line());
+    w
+}
+
 fn play_run(n: usize, s: usize, all: &mut [u8]) -> Told {
     let w = begun(n, s);
     all.fill(0);
@@ -141,8 +146,7 @@ fn poke(got: &Read<Line>, w: Told, t: &mut [u8]) -> Told {
 fn play_call(call: Call, got: &Read<Line>, w: Told, t: &mut [u8], d: &mut [u8]) -> Told {
     let mut room = [0xEEu8; BYTES];
     if BYTES < w.room {
-        finish(bad_line());
-        return w;
+        return refused(w);
     }
     play_in(call, got, w, t, d, front_mut(&mut room, w.room))
 }
@@ -162,8 +166,7 @@ fn play_copy(what: AtCopy, got: &Read<Line>, old: Told, all: &mut [u8], disks: &
     let w = before_call(what, copy, old, &*all, &mut *disks);
     let t = part_mut(all, start_of(copy), w.length);
     if t.len() != w.length {
-        finish(bad_line());
-        return w;
+        return refused(w);
     }
     let named = at_copy(w, copy);
     match what {
@@ -175,8 +178,7 @@ fn play_copy(what: AtCopy, got: &Read<Line>, old: Told, all: &mut [u8], disks: &
 // stream ROOM
 fn play_stream(room: usize, w: Told, all: &mut [u8]) -> Told {
     if BUFFER < room {
-        finish(bad_line());
-        return w;
+        return refused(w);
     }
     let buf = part_mut(all, TABLES, room);
     stream_line(w, &*buf)
@@ -198,10 +200,7 @@ fn play_read(got: &Read<Line>, w: Told, all: &mut [u8], disks: &mut [u8]) -> Tol
 fn play_form(line: &[u8], w: Told, all: &mut [u8], disks: &mut [u8]) -> Told {
     match which_form(line, &FORMS) {
         Some(got) => play_read(&got, w, all, disks),
-        None => {
-            finish(bad_line());
-            w
-        }
+        None => refused(w),
     }
 }
 

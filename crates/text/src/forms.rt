@@ -3,7 +3,6 @@
 ghost use Rattle.std.specs.Prelude.{◌≤◌, IfSome};
 
 use crate::held::Held;
-use std::str;
 
 // How many numbers, and how many bytes, a line may have.
 pub const NUMBERS: usize = 24;
@@ -22,12 +21,24 @@ pub struct Read<'a, K> {
     left: &'a [u8],
 }
 
-// The digits that a line begins with, as a number.
+// The digits that a line begins with, as a number; none where it does not fit. A digit's low four bits are its value.
 fn leading_number(line: &[u8]) -> Option<(usize, &[u8])> {
-    let end = line.iter().position(|b| !b.is_ascii_digit());
-    let (digits, left) = line.split_at(end.unwrap_or(line.len()));
-    let value = str::from_utf8(digits).ok()?.parse().ok()?;
-    Some((value, left))
+    let mut value = 0usize;
+    for (k, &b) in line.iter().enumerate() {
+        if !b.is_ascii_digit() {
+            return if k == 0 {
+                None
+            } else {
+                Some((value, line.get(k..)?))
+            };
+        }
+        value = value.checked_mul(10)?.checked_add(usize::from(b & 15))?;
+    }
+    if line.is_empty() {
+        None
+    } else {
+        Some((value, &[]))
+    }
 }
 
 fn hex_digit(b: u8) -> Option<u8>
